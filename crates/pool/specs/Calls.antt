@@ -1,0 +1,37 @@
+-- What fresh, occupancy and the first questions answer.
+use Prim.Native.Nat.{ℕ, zero, suc, _*_, _/_}
+use mathlib.Core.List.{List, [], _∷_}
+use mathlib.Core.Bool.{Bool, true, false, cond, _&&_}
+use lib.ListN.{length}
+use lib.Dec.{leb, ltb}
+use Rattle.pool.specs.declared.Refusal.{Refusal}
+use Rattle.pool.specs.declared.Refusal.the-variants as refusal
+use Rattle.pool.specs.declared.Admitted.{Admitted}
+use Rattle.pool.specs.declared.Admitted.the-variants as admitted
+use Rattle.pool.specs.declared.Held.{Held}
+use Rattle.pool.specs.declared.Held.the-variants as held
+use Rattle.pool.specs.Layout.{cellLimit, registerCount, cellsOfLength, register}
+use Rattle.pool.specs.Validity.{sized, validLink}
+use Rattle.pool.specs.Retain.{freshWords}
+use Rattle.pool.specs.Outcome.{Outcome, answered, refused}
+
+-- Fresh: "N from the length alone", refusal 1 where there is none; refused, nothing changes.
+abbrev pub freshOf : List ℕ → Outcome × List ℕ
+freshOf w = let n = cellsOfLength registerCount (length w) in cond (ltb 0 n) (answered (n ∷ []), freshWords registerCount n) (refused 1, w)
+
+-- Occupancy (01: gauge): "kept and N give the percent 100 × kept / N, rounded down"; "is N within limits, and for gauge kept at most N? No: 1".
+abbrev pub occupancyOf : ℕ → ℕ → Outcome
+occupancyOf kept n = cond (leb 1 n && leb n cellLimit && leb kept n) (answered (100 * kept / n ∷ [])) (refused 1)
+
+-- The first two questions: the length and word 0 (1), then that every register number is below 16 (2).
+abbrev pub admitOf : List ℕ → ℕ → ℕ → ℕ → Admitted
+admitOf w r a b =
+    cond (sized registerCount w)
+    (cond (ltb r registerCount && ltb a registerCount && ltb b registerCount)
+    (admitted.Cells (cellsOfLength registerCount (length w)))
+    (admitted.Refused refusal.Register))
+    (admitted.Refused refusal.Size)
+
+-- "Are the registers read sound?": the link that register a holds, or that it is not valid.
+abbrev pub heldOf : ℕ → List ℕ → ℕ → Held
+heldOf n w a = cond (validLink registerCount n w (register w a)) (held.Link (register w a)) held.Malformed

@@ -1,0 +1,72 @@
+-- Where everything stands in the words of a pool (01, "The pool's words"). R is the number of registers; in the pool that is built it is 16.
+use Prim.Native.Nat.{ℕ, _+_, _*_, _-_, _/_, _%_}
+use mathlib.Core.List.{List}
+use mathlib.Core.Bool.{cond, _&&_}
+use lib.ListN.{length, getD, set}
+use lib.Dec.{eqb, leb}
+use Rattle.graph.specs.Graph.{Graph}
+use Rattle.pool.specs.Words.{tabulate}
+
+-- "N from 1 to 4,000"
+abbrev pub cellLimit : ℕ
+cellLimit = 4000
+
+-- "Words 2 to 17 are registers 0 to 15"
+abbrev pub registerCount : ℕ
+registerCount = 16
+
+-- "18 + 4 × N long"
+abbrev pub poolLength : ℕ → ℕ → ℕ
+poolLength R n = 2 + R + 4 * n
+
+-- N "from the length alone": the number of cells of a pool of that many words, 0 where no pool has that length.
+abbrev pub cellsOfLength : ℕ → ℕ → ℕ
+cellsOfLength R len =
+    cond (leb (poolLength R 1) len && leb len (poolLength R cellLimit) && eqb ((len - (2 + R)) % 4) 0) ((len - (2 + R)) / 4) 0
+
+-- "Word 0 is N."
+unfoldable pub count : List ℕ → ℕ
+count w = getD w 0 0
+
+-- "Word 1 is the head of the free chain, 0 for none."
+unfoldable pub head : List ℕ → ℕ
+head w = getD w 1 0
+
+unfoldable pub setHead : List ℕ → ℕ → List ℕ
+setHead w v = set w 1 v
+
+-- Registers stand from word 2 on.
+unfoldable pub register : List ℕ → ℕ → ℕ
+register w k = getD w (2 + k) 0
+
+unfoldable pub setRegister : List ℕ → ℕ → ℕ → List ℕ
+setRegister w k v = set w (2 + k) v
+
+-- "Cell i (1 to N) has four words from word 18 + 4 × (i − 1): state, left, right, value." Field 0 is the state, 1 left, 2 right, 3 the value.
+abbrev pub cellAt : ℕ → ℕ → ℕ → ℕ
+cellAt R i f = 2 + R + 4 * (i - 1) + f
+
+unfoldable pub cell : ℕ → List ℕ → ℕ → ℕ → ℕ
+cell R w i f = getD w (cellAt R i f) 0
+
+unfoldable pub setCell : ℕ → List ℕ → ℕ → ℕ → ℕ → List ℕ
+setCell R w i f v = set w (cellAt R i f) v
+
+abbrev pub state : ℕ → List ℕ → ℕ → ℕ
+state R w i = cell R w i 0
+
+abbrev pub left : ℕ → List ℕ → ℕ → ℕ
+left R w i = cell R w i 1
+
+abbrev pub right : ℕ → List ℕ → ℕ → ℕ
+right R w i = cell R w i 2
+
+abbrev pub value : ℕ → List ℕ → ℕ → ℕ
+value R w i = cell R w i 3
+
+-- The graph that the words hold, and the links that its registers hold, in order.
+abbrev pub graphOf : ℕ → List ℕ → Graph
+graphOf R w = record { left = λ i. left R w i; right = λ i. right R w i }
+
+abbrev pub rootsOf : ℕ → List ℕ → List ℕ
+rootsOf R w = tabulate R (λ k. register w k)

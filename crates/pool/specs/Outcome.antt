@@ -1,0 +1,38 @@
+-- What a call of the pool says, in the numbers of document 01.
+use Prim.Native.Nat.{ℕ}
+use mathlib.Core.List.{List, [], _∷_}
+use Rattle.pool.specs.declared.Refusal.{Refusal}
+use Rattle.pool.specs.declared.Refusal.the-variants as refusal
+use Rattle.pool.specs.declared.Fresh.{Fresh}
+use Rattle.pool.specs.declared.Fresh.the-variants as fresh
+use Rattle.pool.specs.declared.Occupancy.{Occupancy}
+use Rattle.pool.specs.declared.Occupancy.the-variants as occupancy
+
+-- The numbers that an accepted call gives, or the number of the refusal.
+pub data Outcome : Type 0 where
+  answered : List ℕ → Outcome
+  refused : ℕ → Outcome
+
+-- The number of each refusal (01, "Questions, in order").
+abbrev pub refusalNumber : Refusal → ℕ
+refusalNumber refusal.Size = 1
+refusalNumber refusal.Register = 2
+refusalNumber refusal.Malformed = 3
+refusalNumber refusal.Nil = 4
+refusalNumber refusal.Full = 5
+refusalNumber refusal.Truncated = 6
+refusalNumber refusal.OutOfRange = 7
+refusalNumber refusal.LinkRange = 8
+refusalNumber refusal.TooManyCells = 9
+refusalNumber refusal.NoRoom = 10
+refusalNumber refusal.TooLarge = 11
+
+-- What `fresh` says: the number of cells.
+abbrev pub freshOutcome : Fresh → Outcome
+freshOutcome (fresh.Made n) = answered (n ∷ [])
+freshOutcome (fresh.Refused k) = refused (refusalNumber k)
+
+-- What `occupancy` (01: gauge) says: the percent.
+abbrev pub occupancyOutcome : Occupancy → Outcome
+occupancyOutcome (occupancy.Percent p) = answered (p ∷ [])
+occupancyOutcome (occupancy.Refused k) = refused (refusalNumber k)

@@ -1,0 +1,60 @@
+-- The pool that keeps some cells and frees all others (01: "the ascending chain"). Fresh keeps none, a collection keeps what is reached, and
+-- a loaded image keeps its own cells.
+use Prim.Native.Nat.{ℕ, zero, suc, _+_, _*_, _-_, _/_, _%_}
+use mathlib.Core.List.{List, [], _∷_}
+use mathlib.Core.Bool.{Bool, true, false, cond, _||_}
+use lib.ListN.{length, getD, replicate}
+use lib.Dec.{eqb, leb, ltb}
+use Rattle.pool.specs.Words.{tabulate}
+use Rattle.pool.specs.Layout.{poolLength, cell, left, head}
+
+-- The lowest of the k cells from i on that is not kept, 0 where all of them are kept.
+unfoldable pub lowestFree : (ℕ → Bool) → ℕ → ℕ → ℕ
+lowestFree keep zero i = 0
+lowestFree keep (suc k) i = elim (keep i) [ true ↦ lowestFree keep k (suc i) | false ↦ i ]
+
+-- "the next higher free cell (0 at the end)" after cell i; after 0, "the lowest free cell".
+abbrev pub freeAbove : (ℕ → Bool) → ℕ → ℕ → ℕ
+freeAbove keep n i = lowestFree keep (n - i) (suc i)
+
+-- A kept cell is used, its links and its value as they were.
+abbrev pub keptField : ℕ → List ℕ → ℕ → ℕ → ℕ
+keptField R w i zero = 0
+keptField R w i (suc f) = cell R w i (suc f)
+
+-- "A free cell's left is the next higher free cell (0 at the end), its right and value are 0".
+abbrev pub freeField : (ℕ → Bool) → ℕ → ℕ → ℕ → ℕ
+freeField keep n i zero = 4
+freeField keep n i (suc zero) = freeAbove keep n i
+freeField keep n i (suc (suc f)) = 0
+
+abbrev pub retainedField : ℕ → ℕ → (ℕ → Bool) → List ℕ → ℕ → ℕ → ℕ
+retainedField R n keep w i f = cond (keep i) (keptField R w i f) (freeField keep n i f)
+
+-- The word at place k: the head, then what stays (word 0, the registers, and whatever stands behind the cells), then the fields of the cells.
+abbrev pub retainedWord : ℕ → ℕ → (ℕ → Bool) → List ℕ → ℕ → ℕ
+retainedWord R n keep w k =
+    cond (eqb k 1) (freeAbove keep n 0)
+    (cond (ltb k (2 + R) || leb (poolLength R n) k) (getD w k 0)
+    (retainedField R n keep w (suc ((k - (2 + R)) / 4)) ((k - (2 + R)) % 4)))
+
+-- The words of a pool of n cells after every cell that `keep` names is kept and every other one is on the ascending chain.
+unfoldable pub retain : ℕ → ℕ → (ℕ → Bool) → List ℕ → List ℕ
+retain R n keep w = tabulate (length w) (retainedWord R n keep w)
+
+-- How many of the cells 1 to n are kept.
+unfoldable pub keptCount : (ℕ → Bool) → ℕ → ℕ
+keptCount keep zero = 0
+keptCount keep (suc n) = cond (keep (suc n)) 1 0 + keptCount keep n
+
+-- "All registers become nil, cells 1 to N free."
+abbrev pub freshWords : ℕ → ℕ → List ℕ
+freshWords R n = retain R n (λ i. false) (n ∷ replicate (1 + R + 4 * n) 0)
+
+-- The free list: the cells met from a link on by following left links, at most k of them.
+unfoldable pub follow : ℕ → ℕ → List ℕ → ℕ → List ℕ
+follow R zero w i = []
+follow R (suc k) w i = elim (eqb i 0) [ true ↦ [] | false ↦ i ∷ follow R k w (left R w i) ]
+
+abbrev pub freeList : ℕ → ℕ → List ℕ → List ℕ
+freeList R n w = follow R n w (head w)

@@ -1,0 +1,32 @@
+-- Valid links and well-formed pools (01, "The pool's words": "sound" and "whole").
+use Prim.Native.Nat.{ℕ, suc}
+use mathlib.Core.List.{List}
+use mathlib.Core.Bool.{Bool, _&&_, _||_}
+use lib.ListN.{length}
+use lib.Dec.{eqb, leb, ltb}
+use Rattle.pool.specs.Words.{every}
+use Rattle.pool.specs.Layout.{cellsOfLength, count, register, state, left, right}
+
+-- "State 0 is used, 4 is free"
+abbrev pub isUsed : ℕ → Bool
+isUsed s = eqb s 0
+
+abbrev pub isFree : ℕ → Bool
+isFree s = eqb s 4
+
+-- "A link is sound if it is 0 or the number of a used cell."
+abbrev pub validLink : ℕ → ℕ → List ℕ → ℕ → Bool
+validLink R n w x = eqb x 0 || (leb x n && isUsed (state R w x))
+
+-- Of one cell: "every state is 0 or 4 and .. all links of used cells are sound".
+abbrev pub validCell : ℕ → ℕ → List ℕ → ℕ → Bool
+validCell R n w i =
+    isFree (state R w i) || (isUsed (state R w i) && validLink R n w (left R w i) && validLink R n w (right R w i))
+
+-- "A pool is whole if every state is 0 or 4 and all registers and all links of used cells are sound."
+abbrev pub wellFormed : ℕ → ℕ → List ℕ → Bool
+wellFormed R n w = every R (λ k. validLink R n w (register w k)) && every n (λ k. validCell R n w (suc k))
+
+-- "Is the length 18 + 4 × N, N within limits, and word 0 that N?"
+abbrev pub sized : ℕ → List ℕ → Bool
+sized R w = ltb 0 (cellsOfLength R (length w)) && eqb (count w) (cellsOfLength R (length w))
