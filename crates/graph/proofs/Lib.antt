@@ -1,1 +1,5 @@
 pub mod Dfs
+pub mod Lists
+pub mod Marks
+pub mod Visits
+pub mod Count

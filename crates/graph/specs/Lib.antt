@@ -1,2 +1,4 @@
 pub mod Graph
 pub mod Order
+pub mod Marking
+pub mod Theorems
