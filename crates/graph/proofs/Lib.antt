@@ -3,3 +3,5 @@ pub mod Lists
 pub mod Marks
 pub mod Visits
 pub mod Count
+pub mod Transfer
+pub mod Depth

@@ -1,0 +1,68 @@
+-- The visits of a link mark the same cells from the same marks, in a graph with the same links at the cells that are marked.
+use Prim.Native.Nat.{ℕ, _<_}
+use native.Mathlib.Omega.{arith}
+use mathlib.Core.Path.{_≡_, refl, sym, subst, ap}
+use mathlib.Core.Logic.{_⊎_, ⊎-elim, ⊎-map, _↔_}
+use mathlib.Core.List.{List, [], _∷_, _++_, List·Memᴰ, List·Memᴰ·head, List·Memᴰ·tail, Memᴰ·append-left, Memᴰ·append-right}
+use Rattle.graph.specs.Graph.{Graph}
+use Rattle.graph.proofs.Dfs.{Dfs, DfsAll, mark, marks}
+use Rattle.graph.proofs.Lists.{Each}
+use Rattle.graph.proofs.Marks.{before, mark-self, mark-keeps, mark-cases, marks-keeps}
+
+-- A link's visit marks one list of cells only.
+module _ {g : Graph} where
+  pub functional : {m : ℕ → ℕ} {p : ℕ} {t u : List ℕ} → Dfs g m p t → Dfs g m p u → t ≡ u
+  functional (Dfs.stop h) (Dfs.stop k) = refl
+  functional (Dfs.stop h) (Dfs.step e a b) = absurd (omega arith)
+  functional (Dfs.step e a b) (Dfs.stop k) = absurd (omega arith)
+  functional (Dfs.step {m = m} {p = p} {t = t} {u = u} e a b) (Dfs.step {t = t′} {u = u′} e′ a′ b′) =
+      let left : t ≡ t′ = functional a a′ in
+      let right : u ≡ u′ = functional b (subst (λ (s : List ℕ). Dfs g (marks (mark m p) s) (g .right p) u′) (sym left) b′) in
+      cc
+
+  pub all-functional : {m : ℕ → ℕ} {ps t u : List ℕ} → DfsAll g m ps t → DfsAll g m ps u → t ≡ u
+  all-functional DfsAll.none DfsAll.none = refl
+  all-functional (DfsAll.next {m = m} {ps = ps} {t = t} {u = u} a b) (DfsAll.next {t = t′} {u = u′} a′ b′) =
+      let first : t ≡ t′ = functional a a′ in
+      let rest : u ≡ u′ = all-functional b (subst (λ (s : List ℕ). DfsAll g (marks m s) ps u′) (sym first) b′) in
+      cc
+
+-- The same numbers are marked.
+abbrev pub Same : (ℕ → ℕ) → (ℕ → ℕ) → Type 0
+Same m f = (x : ℕ) → (0 < m x) ↔ (0 < f x)
+
+pub same-mark : {m f : ℕ → ℕ} (p : ℕ) → Same m f → Same (mark m p) (mark f p)
+same-mark {m} {f} p s x = (half m f (s x .0), half f m (s x .1))
+  where
+    half : (a b : ℕ → ℕ) → (0 < a x → 0 < b x) → 0 < mark a p x → 0 < mark b p x
+    half a b h k = ⊎-elim (λ e. subst (λ (y : ℕ). 0 < mark b p y) (sym e) (mark-self b p)) (λ c. mark-keeps b p x (h c)) (mark-cases a p x k)
+
+pub same-marks : {m f : ℕ → ℕ} (t : List ℕ) → Same m f → Same (marks m t) (marks f t)
+unfolding marks
+same-marks [] s = s
+same-marks (p ∷ t) s = same-marks t (same-mark p s)
+
+-- Two graphs have the same links at a cell.
+pub record Agree (g h : Graph) (x : ℕ) : Type 0 where
+  pub left : g .left x ≡ h .left x
+  pub right : g .right x ≡ h .right x
+
+module _ {g h : Graph} where
+  pub transfer : {m f : ℕ → ℕ} {p : ℕ} {t : List ℕ} → Dfs g m p t → Each (Agree g h) t → Same m f → Dfs h f p t
+  transfer (Dfs.stop {p = p} k) agree s = Dfs.stop (s p .0 k)
+  transfer {f = f} (Dfs.step {m = m} {p = p} {t = t} {u = u} e a b) agree s =
+      let here : Agree g h p = agree p (List·Memᴰ·head refl) in
+      let left : Dfs h (mark f p) (g .left p) t =
+      transfer a (λ x k. agree x (List·Memᴰ·tail (Memᴰ·append-left u k))) (same-mark p s)
+      in
+      let right : Dfs h (marks (mark f p) t) (g .right p) u =
+      transfer b (λ x k. agree x (List·Memᴰ·tail (Memᴰ·append-right t k))) (same-marks t (same-mark p s))
+      in
+      Dfs.step (before (s p .1) e) (subst (λ (q : ℕ). Dfs h (mark f p) q t) (here .left) left)
+      (subst (λ (q : ℕ). Dfs h (marks (mark f p) t) q u) (here .right) right)
+
+  pub all-transfer : {m f : ℕ → ℕ} {ps t : List ℕ} → DfsAll g m ps t → Each (Agree g h) t → Same m f → DfsAll h f ps t
+  all-transfer DfsAll.none agree s = DfsAll.none
+  all-transfer (DfsAll.next {t = t} {u = u} a b) agree s =
+      DfsAll.next (transfer a (λ x k. agree x (Memᴰ·append-left u k)) s)
+      (all-transfer b (λ x k. agree x (Memᴰ·append-right t k)) (same-marks t s))
