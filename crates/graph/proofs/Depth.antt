@@ -11,6 +11,7 @@ use Rattle.graph.specs.Graph.{Graph, Reach, Within}
 use Rattle.graph.specs.Order.{has, visit, visits, order}
 use Rattle.graph.specs.Marking.{outside, marked}
 use Rattle.graph.proofs.Dfs.{Dfs, DfsAll, mark, marks}
+use Rattle.graph.proofs.Reached.{reach-within}
 use Rattle.graph.proofs.Lists.{Each}
 use Rattle.graph.proofs.Marks.{Cells, cells-outside, cells-marks, zero-or-above, marks-append, marks-cases, marks-member, outside-cell}
 use Rattle.graph.proofs.Count.{marked-mark, marked-le, marked-outside, counts}
@@ -94,14 +95,9 @@ module _ (n : ℕ) (g : Graph) where
       }
 
   module _ (roots : List ℕ) (w : Within n g roots) where
-    pub reach-within : {x : ℕ} → Reach g roots x → x ≤ n
-    reach-within (Reach.root {x = x} h k) = w .root x h
-    reach-within (Reach.left {x = x} r k) = w .left x r
-    reach-within (Reach.right {x = x} r k) = w .right x r
-
     stopped : (depth : ℕ) (seen : List ℕ) (p : ℕ) → (0 < p → Reach g roots p) → 0 < after n seen p → Visited depth seen p
     stopped depth seen p r h =
-        let within : p ≤ n = ⊎-elim (λ e. omega arith) (λ k. reach-within (r k)) (zero-or-above p) in
+        let within : p ≤ n = ⊎-elim (λ e. omega arith) (λ k. reach-within w (r k)) (zero-or-above p) in
         record { new = []; dfs = Dfs.stop h; adds = stops depth seen p within h ∙ sym (append-nil seen) }
 
     -- The depth is enough where it is no less than the number of unmarked cells.

@@ -5,6 +5,7 @@ use mathlib.Core.Path.{_≡_, refl, sym, subst, ap}
 use mathlib.Core.Logic.{_⊎_, ⊎-elim, ⊎-map, _↔_}
 use mathlib.Core.List.{List, [], _∷_, _++_, List·Memᴰ, List·Memᴰ·head, List·Memᴰ·tail, Memᴰ·append-left, Memᴰ·append-right}
 use Rattle.graph.specs.Graph.{Graph}
+use Rattle.graph.specs.Compare.{Agree}
 use Rattle.graph.proofs.Dfs.{Dfs, DfsAll, mark, marks}
 use Rattle.graph.proofs.Lists.{Each}
 use Rattle.graph.proofs.Marks.{before, mark-self, mark-keeps, mark-cases, marks-keeps}
@@ -41,11 +42,6 @@ pub same-marks : {m f : ℕ → ℕ} (t : List ℕ) → Same m f → Same (marks
 unfolding marks
 same-marks [] s = s
 same-marks (p ∷ t) s = same-marks t (same-mark p s)
-
--- Two graphs have the same links at a cell.
-pub record Agree (g h : Graph) (x : ℕ) : Type 0 where
-  pub left : g .left x ≡ h .left x
-  pub right : g .right x ≡ h .right x
 
 module _ {g h : Graph} where
   pub transfer : {m f : ℕ → ℕ} {p : ℕ} {t : List ℕ} → Dfs g m p t → Each (Agree g h) t → Same m f → Dfs h f p t

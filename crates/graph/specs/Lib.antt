@@ -1,4 +1,5 @@
 pub mod Graph
 pub mod Order
 pub mod Marking
+pub mod Compare
 pub mod Theorems

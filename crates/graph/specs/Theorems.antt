@@ -1,12 +1,13 @@
--- What is proved of the depth-first order.
+-- What is proved of the depth-first order and of every marker.
 use Prim.Native.Nat.{ℕ, _<_, _≤_}
 use mathlib.Core.Path.{_≡_}
 use mathlib.Core.Logic.{_↔_}
-use mathlib.Core.List.{List, [], _∷_, List·Memᴰ}
+use mathlib.Core.List.{List, [], _∷_, List·Memᴰ, Forall₂}
 use lib.ListN.{length}
 use Rattle.graph.specs.Graph.{Graph, Reach, Within}
 use Rattle.graph.specs.Order.{order}
 use Rattle.graph.specs.Marking.{Closure, marked, outside}
+use Rattle.graph.specs.Compare.{Agree, Paired, OneToOne}
 
 -- No number stands twice in a list.
 pub data Distinct : List ℕ → Type 0 where
@@ -23,5 +24,45 @@ abbrev pub Order-distinct : Type 0
 Order-distinct = (n : ℕ) (g : Graph) (roots : List ℕ) → Within n g roots → Distinct (order n g roots)
 
 -- The order is no longer than the graph has cells.
-abbrev pub Order-short : Type 0
-Order-short = (n : ℕ) (g : Graph) (roots : List ℕ) → Within n g roots → length (order n g roots) ≤ n
+abbrev pub Order-length : Type 0
+Order-length = (n : ℕ) (g : Graph) (roots : List ℕ) → Within n g roots → length (order n g roots) ≤ n
+
+-- A bound on the depth that is larger than the number of cells changes nothing.
+abbrev pub Order-depth : Type 0
+Order-depth =
+    (n : ℕ) (g : Graph) (roots : List ℕ) → Within n g roots → (depth : ℕ) → n ≤ depth → order depth g roots ≡ order n g roots
+
+-- A marker that has done its work has marked a cell exactly where the roots reach it.
+abbrev pub Marked-reached : Type 0
+Marked-reached =
+    (n : ℕ) (g : Graph) (roots : List ℕ) → Within n g roots → (f : ℕ → ℕ) → Closure g (outside n) roots f
+    → (x : ℕ) → 0 < x → x ≤ n → (0 < f x) ↔ Reach g roots x
+
+-- It has marked as many cells as the order has.
+abbrev pub Marked-count : Type 0
+Marked-count =
+    (n : ℕ) (g : Graph) (roots : List ℕ) → Within n g roots → (f : ℕ → ℕ) → Closure g (outside n) roots f
+    → marked n f ≡ length (order n g roots)
+
+-- A change of the links of cells that are not reached changes nothing of what is reached.
+abbrev pub Reach-agree : Type 0
+Reach-agree =
+    (g h : Graph) (roots : List ℕ) → ((x : ℕ) → Reach g roots x → Agree g h x) → (x : ℕ) → Reach g roots x ↔ Reach h roots x
+
+-- Nor does it change the order.
+abbrev pub Order-agree : Type 0
+Order-agree =
+    (n : ℕ) (g h : Graph) (roots : List ℕ) → Within n g roots → ((x : ℕ) → Reach g roots x → Agree g h x)
+    → order n g roots ≡ order n h roots
+
+-- Where the pairing of two graphs from their roots is one-to-one, their orders are paired place by place.
+abbrev pub Order-paired : Type 0
+Order-paired =
+    (n : ℕ) (g : Graph) (rs : List ℕ) (k : ℕ) (h : Graph) (ss : List ℕ) → Within n g rs → Within k h ss → length rs ≡ length ss
+    → OneToOne g rs h ss → Forall₂ (Paired g rs h ss) (order n g rs) (order k h ss)
+
+-- So the two graphs have equally many cells that are reached.
+abbrev pub Length-paired : Type 0
+Length-paired =
+    (n : ℕ) (g : Graph) (rs : List ℕ) (k : ℕ) (h : Graph) (ss : List ℕ) → Within n g rs → Within k h ss → length rs ≡ length ss
+    → OneToOne g rs h ss → length (order n g rs) ≡ length (order k h ss)
