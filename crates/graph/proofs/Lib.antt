@@ -7,3 +7,4 @@ pub mod Count
 pub mod Transfer
 pub mod Depth
 pub mod Theorems
+pub mod Pairing

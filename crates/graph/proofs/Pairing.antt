@@ -1,0 +1,74 @@
+-- Two graphs whose pairing is one-to-one are visited in step.
+use Prim.Native.Nat.{ℕ, _<_, _≤_}
+use native.Mathlib.Omega.{arith}
+use mathlib.Core.Path.{_≡_, refl, sym, subst, ap}
+use mathlib.Core.Logic.{⊎-elim, _↔_}
+use mathlib.Core.List.{List, [], _∷_, _++_, List·Memᴰ, Forall₂, Forall₂·nil, Forall₂·cons}
+use lib.ListN.{length, getD}
+use Rattle.graph.specs.Graph.{Graph, Reach, Within}
+use Rattle.graph.specs.Order.{order}
+use Rattle.graph.specs.Marking.{outside}
+use Rattle.graph.specs.Compare.{Paired, OneToOne}
+use Rattle.graph.specs.Theorems.{Order-paired, Length-paired}
+use Rattle.graph.proofs.Dfs.{Dfs, DfsAll, mark, marks}
+use Rattle.graph.proofs.Lists.{forall₂-places, forall₂-length, forall₂-append}
+use Rattle.graph.proofs.Marks.{before, zero-or-above, mark-self, mark-keeps, mark-cases, marks-keeps, outside-cell, outside-nil}
+use Rattle.graph.proofs.Reached.{reach-within}
+use Rattle.graph.proofs.Visits.{above-nil}
+use Rattle.graph.proofs.Transfer.{all-functional}
+use Rattle.graph.proofs.Depth.{order-dfs}
+
+module _ (g : Graph) (rs : List ℕ) (h : Graph) (ss : List ℕ) where
+  -- Of two links that are paired one is marked where the other is.
+  abbrev Alike : (ℕ → ℕ) → (ℕ → ℕ) → Type 0
+  Alike m f = (x y : ℕ) → Paired g rs h ss x y → (0 < m x) ↔ (0 < f y)
+
+  -- The visit of a link of the first graph, and one of the second that marks cells paired with those, place by place.
+  record InStep (f : ℕ → ℕ) (q : ℕ) (t : List ℕ) : Type 0 where
+    list : List ℕ
+    dfs : Dfs h f q list
+    pairs : Forall₂ (Paired g rs h ss) t list
+
+  record AllInStep (f : ℕ → ℕ) (qs t : List ℕ) : Type 0 where
+    list : List ℕ
+    dfs : DfsAll h f qs list
+    pairs : Forall₂ (Paired g rs h ss) t list
+
+  module _ (o : OneToOne g rs h ss) where
+    alike-mark : {m f : ℕ → ℕ} {p q : ℕ} → Paired g rs h ss p q → Alike m f → Alike (mark m p) (mark f q)
+    alike-mark {m} {f} {p} {q} r s x y c = (
+      λ k. ⊎-elim (λ e. subst (λ (z : ℕ). 0 < mark f q z) (o .forward p q y r (subst (λ (z : ℕ). Paired g rs h ss z y) e c)) (mark-self f q))
+          (λ a. mark-keeps f q y (s x y c .0 a)) (mark-cases m p x k),
+      λ k. ⊎-elim (λ e. subst (λ (z : ℕ). 0 < mark m p z) (o .backward p x q r (subst (λ (z : ℕ). Paired g rs h ss x z) e c)) (mark-self m p))
+          (λ a. mark-keeps m p x (s x y c .1 a)) (mark-cases f q y k),
+    )
+
+    alike-marks : {t u : List ℕ} → Forall₂ (Paired g rs h ss) t u → {m f : ℕ → ℕ} → Alike m f → Alike (marks m t) (marks f u)
+    unfolding marks
+    alike-marks Forall₂·nil s = s
+    alike-marks (Forall₂·cons r rest) s = alike-marks rest (alike-mark r s)
+
+    in-step : {m : ℕ → ℕ} {p : ℕ} {t : List ℕ} → Dfs g m p t → {f : ℕ → ℕ} {q : ℕ} → Paired g rs h ss p q → 0 < m 0 → Alike m f → InStep f q t
+    in-step (Dfs.stop {p = p} k) {q = q} r z s = record { list = []; dfs = Dfs.stop (s p q r .0 k); pairs = Forall₂·nil }
+    in-step (Dfs.step {m = m} {p = p} {t = t} {u = u} e a b) {f} {q} r z s =
+        let hp : 0 < p = above-nil m p z e in
+        let hq : 0 < q = ⊎-elim (λ k. absurd (omega (arith, o .nil p q r .1 k))) (λ k. k) (zero-or-above q) in
+        let zp : 0 < mark m p 0 = mark-keeps m p 0 z in
+        let sp : Alike (mark m p) (mark f q) = alike-mark r s in
+        let l : InStep (mark f q) (h .left q) t = in-step a (Paired.left r hp hq) zp sp in
+        let n : InStep (marks (mark f q) (l .list)) (h .right q) u =
+        in-step b (Paired.right r hp hq) (marks-keeps (mark m p) t 0 zp) (alike-marks (l .pairs) sp)
+        in
+        record {
+          list = q ∷ (l .list ++ n .list);
+          dfs = Dfs.step (before (s p q r .1) e) (l .dfs) (n .dfs);
+          pairs = Forall₂·cons r (forall₂-append (l .pairs) (n .pairs));
+        }
+
+    all-in-step : {ps qs : List ℕ} → Forall₂ (Paired g rs h ss) ps qs → {m f : ℕ → ℕ} {t : List ℕ} → DfsAll g m ps t → 0 < m 0 → Alike m f
+        → AllInStep f qs t
+    all-in-step Forall₂·nil DfsAll.none z s = record { list = []; dfs = DfsAll.none; pairs = Forall₂·nil }
+    all-in-step (Forall₂·cons r rest) {f = f} (DfsAll.next {m = m} {t = t} {u = u} a b) z s =
+        let i = in-step a r z s in
+        let n = all-in-step rest b (marks-keeps m t 0 z) (alike-marks (i .pairs) s) in
+        record { list = i .list ++ n .list; dfs = DfsAll.next (i .dfs) (n .dfs); pairs = forall₂-append (i .pairs) (n .pairs) }
