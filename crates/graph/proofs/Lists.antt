@@ -28,6 +28,12 @@ distinct-append (Distinct.more {x = x} {xs = xs} n a) b apart =
     Distinct.more (λ h. ⊎-elim n (apart x (List·Memᴰ·head refl)) (List·Memᴰ·append-cases xs h))
     (distinct-append a b (λ y h. apart y (List·Memᴰ·tail h)))
 
+-- What stands at a place of a list is a member.
+pub getD-member : (t : List ℕ) (i : ℕ) → i < length t → List·Memᴰ (getD t i 0) t
+getD-member [] i h = absurd (omega arith)
+getD-member (x ∷ t) zero h = List·Memᴰ·head refl
+getD-member (x ∷ t) (suc i) h = List·Memᴰ·tail (getD-member t i (omega arith))
+
 module _ {R : ℕ → ℕ → Type 0} where
   -- Two lists of one length are related place by place where their members are.
   pub forall₂-places : (t u : List ℕ) → length t ≡ length u → ((i : ℕ) → i < length t → R (getD t i 0) (getD u i 0)) → Forall₂ R t u

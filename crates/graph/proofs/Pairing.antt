@@ -11,7 +11,7 @@ use Rattle.graph.specs.Marking.{outside}
 use Rattle.graph.specs.Compare.{Paired, OneToOne}
 use Rattle.graph.specs.Theorems.{Order-paired, Length-paired}
 use Rattle.graph.proofs.Dfs.{Dfs, DfsAll, mark, marks}
-use Rattle.graph.proofs.Lists.{forall₂-places, forall₂-length, forall₂-append}
+use Rattle.graph.proofs.Lists.{getD-member, forall₂-places, forall₂-length, forall₂-append}
 use Rattle.graph.proofs.Marks.{before, zero-or-above, mark-self, mark-keeps, mark-cases, marks-keeps, outside-cell, outside-nil}
 use Rattle.graph.proofs.Reached.{reach-within}
 use Rattle.graph.proofs.Visits.{above-nil}
@@ -72,3 +72,39 @@ module _ (g : Graph) (rs : List ℕ) (h : Graph) (ss : List ℕ) where
         let i = in-step a r z s in
         let n = all-in-step rest b (marks-keeps m t 0 z) (alike-marks (i .pairs) s) in
         record { list = i .list ++ n .list; dfs = DfsAll.next (i .dfs) (n .dfs); pairs = forall₂-append (i .pairs) (n .pairs) }
+
+-- Of two links that are paired, each that is no nil is reached in its graph.
+pub paired-first : {g : Graph} {rs : List ℕ} {h : Graph} {ss : List ℕ} {x y : ℕ} → Paired g rs h ss x y → 0 < x → Reach g rs x
+paired-first {rs = rs} (Paired.root i k) = Reach.root (getD-member rs i k)
+paired-first (Paired.left r hx hy) = Reach.left (paired-first r hx)
+paired-first (Paired.right r hx hy) = Reach.right (paired-first r hx)
+
+-- The pairing goes both ways.
+pub paired-flip : {g : Graph} {rs : List ℕ} {h : Graph} {ss : List ℕ} → length rs ≡ length ss → {x y : ℕ} → Paired g rs h ss x y
+    → Paired h ss g rs y x
+paired-flip e (Paired.root i k) = Paired.root i (omega arith)
+paired-flip e (Paired.left r hx hy) = Paired.left (paired-flip e r) hy hx
+paired-flip e (Paired.right r hx hy) = Paired.right (paired-flip e r) hy hx
+
+-- In a graph of n cells a link that is nil or reached is marked at the start where it is nil.
+start : {n : ℕ} {g : Graph} {roots : List ℕ} → Within n g roots → (x : ℕ) → (0 < x → Reach g roots x) → 0 < outside n x → x ≡ 0
+start {n} w x r h = ⊎-elim (λ e. e) (λ k. absurd (omega (arith, outside-cell n x k (reach-within w (r k))))) (zero-or-above x)
+
+pub order-paired : Order-paired
+order-paired n g rs k h ss w v e o =
+    subst (Forall₂ (Paired g rs h ss) (order n g rs)) (all-functional (walk .dfs) (order-dfs k h ss v)) (walk .pairs)
+  where
+    nil-marked : (j x : ℕ) → x ≡ 0 → 0 < outside j x
+    nil-marked j x q = subst (λ (z : ℕ). 0 < outside j z) (sym q) (outside-nil j)
+
+    alike : Alike g rs h ss (outside n) (outside k)
+    alike x y r = (
+      λ a. nil-marked k y (o .nil x y r .0 (start w x (paired-first r) a)),
+      λ a. nil-marked n x (o .nil x y r .1 (start v y (paired-first (paired-flip e r)) a)),
+    )
+
+    walk : AllInStep g rs h ss (outside k) ss (order n g rs)
+    walk = all-in-step g rs h ss o (forall₂-places rs ss e Paired.root) (order-dfs n g rs w) (outside-nil n) alike
+
+pub length-paired : Length-paired
+length-paired n g rs k h ss w v e o = forall₂-length (order-paired n g rs k h ss w v e o)
