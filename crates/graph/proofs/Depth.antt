@@ -14,7 +14,7 @@ use Rattle.graph.proofs.Dfs.{Dfs, DfsAll, mark, marks}
 use Rattle.graph.proofs.Reached.{reach-within}
 use Rattle.graph.proofs.Lists.{Each}
 use Rattle.graph.proofs.Marks.{Cells, cells-outside, cells-marks, zero-or-above, marks-append, marks-cases, marks-member, outside-cell}
-use Rattle.graph.proofs.Count.{marked-mark, marked-le, marked-outside, counts}
+use Rattle.graph.proofs.Count.{marked-mark, marked-le, counts}
 use Rattle.graph.proofs.Transfer.{all-functional}
 
 has-member : (x : ℕ) {xs : List ℕ} → List·Memᴰ x xs → has x xs ≡ true

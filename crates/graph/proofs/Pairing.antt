@@ -1,9 +1,9 @@
 -- Two graphs whose pairing is one-to-one are visited in step.
-use Prim.Native.Nat.{ℕ, _<_, _≤_}
+use Prim.Native.Nat.{ℕ, _<_}
 use native.Mathlib.Omega.{arith}
-use mathlib.Core.Path.{_≡_, refl, sym, subst, ap}
+use mathlib.Core.Path.{_≡_, sym, subst}
 use mathlib.Core.Logic.{⊎-elim, _↔_}
-use mathlib.Core.List.{List, [], _∷_, _++_, List·Memᴰ, Forall₂, Forall₂·nil, Forall₂·cons}
+use mathlib.Core.List.{List, [], _∷_, _++_, Forall₂, Forall₂·nil, Forall₂·cons}
 use lib.ListN.{length, getD}
 use Rattle.graph.specs.Graph.{Graph, Reach, Within}
 use Rattle.graph.specs.Order.{order}
@@ -11,7 +11,7 @@ use Rattle.graph.specs.Marking.{outside}
 use Rattle.graph.specs.Compare.{Paired, OneToOne}
 use Rattle.graph.specs.Theorems.{Order-paired, Length-paired}
 use Rattle.graph.proofs.Dfs.{Dfs, DfsAll, mark, marks}
-use Rattle.graph.proofs.Lists.{getD-member, forall₂-places, forall₂-length, forall₂-append}
+use Rattle.graph.proofs.Lists.{getD-member, forall₂-places, forall₂-getD, forall₂-length, forall₂-append}
 use Rattle.graph.proofs.Marks.{before, zero-or-above, mark-self, mark-keeps, mark-cases, marks-keeps, outside-cell, outside-nil}
 use Rattle.graph.proofs.Reached.{reach-within}
 use Rattle.graph.proofs.Visits.{above-nil}
@@ -73,38 +73,52 @@ module _ (g : Graph) (rs : List ℕ) (h : Graph) (ss : List ℕ) where
         let n = all-in-step rest b (marks-keeps m t 0 z) (alike-marks (i .pairs) s) in
         record { list = i .list ++ n .list; dfs = DfsAll.next (i .dfs) (n .dfs); pairs = forall₂-append (i .pairs) (n .pairs) }
 
--- Of two links that are paired, each that is no nil is reached in its graph.
-pub paired-first : {g : Graph} {rs : List ℕ} {h : Graph} {ss : List ℕ} {x y : ℕ} → Paired g rs h ss x y → 0 < x → Reach g rs x
-paired-first {rs = rs} (Paired.root i k) = Reach.root (getD-member rs i k)
-paired-first (Paired.left r hx hy) = Reach.left (paired-first r hx)
-paired-first (Paired.right r hx hy) = Reach.right (paired-first r hx)
+-- What holds of the pairs of roots, and with a pair of cells of their links, holds of every pair.
+pub paired-least : {g : Graph} {rs : List ℕ} {h : Graph} {ss : List ℕ} (P : ℕ → ℕ → Type 0)
+    → ((i : ℕ) → i < length rs → P (getD rs i 0) (getD ss i 0))
+    → ((x y : ℕ) → P x y → 0 < x → 0 < y → P (g .left x) (h .left y) × P (g .right x) (h .right y)) → {x y : ℕ}
+    → Paired g rs h ss x y → P x y
+paired-least P r l (Paired.root i k) = r i k
+paired-least P r l (Paired.left {x = x} {y = y} a hx hy) = l x y (paired-least P r l a) hx hy .0
+paired-least P r l (Paired.right {x = x} {y = y} a hx hy) = l x y (paired-least P r l a) hx hy .1
+
+-- Of two links that are paired, the first is nil or reached.
+pub paired-reach : {g : Graph} {rs : List ℕ} {h : Graph} {ss : List ℕ} {x y : ℕ} → Paired g rs h ss x y → 0 < x → Reach g rs x
+paired-reach {g} {rs} =
+    paired-least (λ x y. 0 < x → Reach g rs x) (λ i k. Reach.root (getD-member rs i k))
+    (λ x y r hx hy. (Reach.left (r hx), Reach.right (r hx)))
 
 -- The pairing goes both ways.
-pub paired-flip : {g : Graph} {rs : List ℕ} {h : Graph} {ss : List ℕ} → length rs ≡ length ss → {x y : ℕ} → Paired g rs h ss x y
-    → Paired h ss g rs y x
-paired-flip e (Paired.root i k) = Paired.root i (omega arith)
-paired-flip e (Paired.left r hx hy) = Paired.left (paired-flip e r) hy hx
-paired-flip e (Paired.right r hx hy) = Paired.right (paired-flip e r) hy hx
+pub paired-flip : {g : Graph} {rs : List ℕ} {h : Graph} {ss : List ℕ} → length rs ≡ length ss → {x y : ℕ}
+    → Paired g rs h ss x y → Paired h ss g rs y x
+paired-flip {g} {rs} {h} {ss} e =
+    paired-least (λ x y. Paired h ss g rs y x) (λ i k. Paired.root i (omega arith))
+    (λ x y r hx hy. (Paired.left r hy hx, Paired.right r hy hx))
 
 -- In a graph of n cells a link that is nil or reached is marked at the start where it is nil.
 start : {n : ℕ} {g : Graph} {roots : List ℕ} → Within n g roots → (x : ℕ) → (0 < x → Reach g roots x) → 0 < outside n x → x ≡ 0
 start {n} w x r h = ⊎-elim (λ e. e) (λ k. absurd (omega (arith, outside-cell n x k (reach-within w (r k))))) (zero-or-above x)
 
+start-nil : (n x : ℕ) → x ≡ 0 → 0 < outside n x
+start-nil n x e = subst (λ (z : ℕ). 0 < outside n z) (sym e) (outside-nil n)
+
+module _ (n : ℕ) (g : Graph) (rs : List ℕ) (k : ℕ) (h : Graph) (ss : List ℕ) (w : Within n g rs) (v : Within k h ss)
+    (e : length rs ≡ length ss) (o : OneToOne g rs h ss) where
+  start-alike : Alike g rs h ss (outside n) (outside k)
+  start-alike x y r = (
+    λ a. start-nil k y (o .nil x y r .0 (start w x (paired-reach r) a)),
+    λ a. start-nil n x (o .nil x y r .1 (start v y (paired-reach (paired-flip e r)) a)),
+  )
+
+  pub orders-paired : Forall₂ (Paired g rs h ss) (order n g rs) (order k h ss)
+  orders-paired =
+      let walk : AllInStep g rs h ss (outside k) ss (order n g rs) =
+      all-in-step g rs h ss o (forall₂-places rs ss e Paired.root) (order-dfs n g rs w) (outside-nil n) start-alike
+      in
+      subst (Forall₂ (Paired g rs h ss) (order n g rs)) (all-functional (walk .dfs) (order-dfs k h ss v)) (walk .pairs)
+
 pub order-paired : Order-paired
-order-paired n g rs k h ss w v e o =
-    subst (Forall₂ (Paired g rs h ss) (order n g rs)) (all-functional (walk .dfs) (order-dfs k h ss v)) (walk .pairs)
-  where
-    nil-marked : (j x : ℕ) → x ≡ 0 → 0 < outside j x
-    nil-marked j x q = subst (λ (z : ℕ). 0 < outside j z) (sym q) (outside-nil j)
-
-    alike : Alike g rs h ss (outside n) (outside k)
-    alike x y r = (
-      λ a. nil-marked k y (o .nil x y r .0 (start w x (paired-first r) a)),
-      λ a. nil-marked n x (o .nil x y r .1 (start v y (paired-first (paired-flip e r)) a)),
-    )
-
-    walk : AllInStep g rs h ss (outside k) ss (order n g rs)
-    walk = all-in-step g rs h ss o (forall₂-places rs ss e Paired.root) (order-dfs n g rs w) (outside-nil n) alike
+order-paired n g rs k h ss w v e o = forall₂-getD (orders-paired n g rs k h ss w v e o)
 
 pub length-paired : Length-paired
-length-paired n g rs k h ss w v e o = forall₂-length (order-paired n g rs k h ss w v e o)
+length-paired n g rs k h ss w v e o = forall₂-length (orders-paired n g rs k h ss w v e o)

@@ -1,18 +1,17 @@
 -- The proofs of the theorems that the specs state.
-use Prim.Native.Nat.{ℕ, _<_, _≤_}
+use Prim.Native.Nat.{ℕ, _<_}
 use native.Mathlib.Omega.{arith}
-use mathlib.Core.Path.{_≡_, refl, sym, subst, ap, _∙_}
-use mathlib.Core.Logic.{⊎-elim, _↔_}
-use mathlib.Core.List.{List, List·Memᴰ}
+use mathlib.Core.Path.{_≡_, _∙_}
+use mathlib.Core.Logic.{⊎-elim}
+use mathlib.Core.List.{List}
 use lib.ListN.{length}
 use Rattle.graph.specs.Graph.{Graph, Reach, Within}
 use Rattle.graph.specs.Order.{order}
 use Rattle.graph.specs.Marking.{Closure, outside, marked}
-use Rattle.graph.specs.Compare.{Agree}
 use Rattle.graph.specs.Theorems.{Order-reached, Order-distinct, Order-length, Order-depth, Marked-reached, Marked-count, Order-agree}
-use Rattle.graph.proofs.Dfs.{DfsAll, marks}
+use Rattle.graph.proofs.Dfs.{marks}
 use Rattle.graph.proofs.Reached.{reach-above, reach-within, within-agree}
-use Rattle.graph.proofs.Marks.{outside-cell, outside-nil, cells-outside, marks-cases, marks-member, before, zero-or-above}
+use Rattle.graph.proofs.Marks.{outside-cell, outside-nil, cells-outside, marks-cases}
 use Rattle.graph.proofs.Visits.{closure, all-reached, all-distinct}
 use Rattle.graph.proofs.Count.{all-counts, marked-outside, marked-le, marked-same}
 use Rattle.graph.proofs.Transfer.{all-transfer, all-functional}
@@ -71,4 +70,4 @@ pub order-agree : Order-agree
 order-agree n g h roots w agree =
     all-functional
     (all-transfer (order-dfs n g roots w) (λ x m. agree x (order-reached n g roots w x .0 m)) (λ x. (λ a. a, λ a. a)))
-    (order-dfs n h roots (within-agree g h roots agree w))
+    (order-dfs n h roots (within-agree agree w))

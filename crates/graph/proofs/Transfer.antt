@@ -1,14 +1,14 @@
 -- The visits of a link mark the same cells from the same marks, in a graph with the same links at the cells that are marked.
 use Prim.Native.Nat.{ℕ, _<_}
 use native.Mathlib.Omega.{arith}
-use mathlib.Core.Path.{_≡_, refl, sym, subst, ap}
-use mathlib.Core.Logic.{_⊎_, ⊎-elim, ⊎-map, _↔_}
-use mathlib.Core.List.{List, [], _∷_, _++_, List·Memᴰ, List·Memᴰ·head, List·Memᴰ·tail, Memᴰ·append-left, Memᴰ·append-right}
+use mathlib.Core.Path.{_≡_, refl, sym, subst}
+use mathlib.Core.Logic.{⊎-elim, _↔_}
+use mathlib.Core.List.{List, [], _∷_, List·Memᴰ·head, List·Memᴰ·tail, Memᴰ·append-left, Memᴰ·append-right}
 use Rattle.graph.specs.Graph.{Graph}
 use Rattle.graph.specs.Compare.{Agree}
 use Rattle.graph.proofs.Dfs.{Dfs, DfsAll, mark, marks}
 use Rattle.graph.proofs.Lists.{Each}
-use Rattle.graph.proofs.Marks.{before, mark-self, mark-keeps, mark-cases, marks-keeps}
+use Rattle.graph.proofs.Marks.{before, mark-self, mark-keeps, mark-cases}
 
 -- A link's visit marks one list of cells only.
 module _ {g : Graph} where

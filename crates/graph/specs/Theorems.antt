@@ -2,8 +2,8 @@
 use Prim.Native.Nat.{ℕ, _<_, _≤_}
 use mathlib.Core.Path.{_≡_}
 use mathlib.Core.Logic.{_↔_}
-use mathlib.Core.List.{List, [], _∷_, List·Memᴰ, Forall₂}
-use lib.ListN.{length}
+use mathlib.Core.List.{List, [], _∷_, List·Memᴰ}
+use lib.ListN.{length, getD}
 use Rattle.graph.specs.Graph.{Graph, Reach, Within}
 use Rattle.graph.specs.Order.{order}
 use Rattle.graph.specs.Marking.{Closure, marked, outside}
@@ -55,14 +55,15 @@ Order-agree =
     (n : ℕ) (g h : Graph) (roots : List ℕ) → Within n g roots → ((x : ℕ) → Reach g roots x → Agree g h x)
     → order n g roots ≡ order n h roots
 
--- Where the pairing of two graphs from their roots is one-to-one, their orders are paired place by place.
-abbrev pub Order-paired : Type 0
-Order-paired =
-    (n : ℕ) (g : Graph) (rs : List ℕ) (k : ℕ) (h : Graph) (ss : List ℕ) → Within n g rs → Within k h ss → length rs ≡ length ss
-    → OneToOne g rs h ss → Forall₂ (Paired g rs h ss) (order n g rs) (order k h ss)
-
--- So the two graphs have equally many cells that are reached.
+-- Two graphs with root lists of one length, whose pairing is one-to-one, have orders of one length.
 abbrev pub Length-paired : Type 0
 Length-paired =
     (n : ℕ) (g : Graph) (rs : List ℕ) (k : ℕ) (h : Graph) (ss : List ℕ) → Within n g rs → Within k h ss → length rs ≡ length ss
     → OneToOne g rs h ss → length (order n g rs) ≡ length (order k h ss)
+
+-- What stands at the same place of the two orders is paired.
+abbrev pub Order-paired : Type 0
+Order-paired =
+    (n : ℕ) (g : Graph) (rs : List ℕ) (k : ℕ) (h : Graph) (ss : List ℕ) → Within n g rs → Within k h ss → length rs ≡ length ss
+    → OneToOne g rs h ss → (i : ℕ) → i < length (order n g rs)
+    → Paired g rs h ss (getD (order n g rs) i 0) (getD (order k h ss) i 0)
