@@ -2,7 +2,7 @@
 use Prim.Native.Nat.{ℕ, zero, suc, _+_, _<_, _≤_}
 use native.Mathlib.Omega.{arith}
 use native.Mathlib.Decide.{ℕ-discrete}
-use mathlib.Core.Path.{_≡_, refl, sym, ap, subst, _∙_}
+use mathlib.Core.Path.{_≡_, refl, sym, ap, _∙_}
 use mathlib.Core.Logic.{⊎-elim, _↔_}
 use mathlib.Core.List.{List}
 use lib.ListN.{length, length-append}
@@ -45,10 +45,11 @@ marked-mark (suc n) m p h k e = go (marked-mark n m p h) (ℕ-discrete p (suc n)
     others : (x : ℕ) → (x ≡ p → ⊥) → (0 < m x) ↔ (0 < mark m p x)
     others x ne = (mark-keeps m p x, λ d. ⊎-elim (λ q. absurd (ne q)) (λ c. c) (mark-cases m p x d))
 
-    go : (p ≤ n → m p ≡ 0 → marked n (mark m p) ≡ suc (marked n m)) → Dec (p ≡ suc n) → marked (suc n) (mark m p) ≡ suc (marked (suc n) m)
+    go : (p ≤ n → m p ≡ 0 → marked n (mark m p) ≡ suc (marked n m)) → Dec (p ≡ suc n)
+        → marked (suc n) (mark m p) ≡ suc (marked (suc n) m)
     go ih (yes q) =
-        marked-cell n (mark m p) (subst (λ (x : ℕ). 0 < mark m p x) q (mark-self m p))
-        ∙ ap suc (sym (marked-same n m (mark m p) (λ x a b. others x (omega arith))) ∙ sym (unmarked-cell n m (subst (λ (x : ℕ). m x ≡ 0) q e)))
+        marked-cell n (mark m p) (mark-self m p (suc n) (sym q))
+        ∙ ap suc (sym (marked-same n m (mark m p) (λ x a b. others x (omega arith))) ∙ sym (unmarked-cell n m (ap m (sym q) ∙ e)))
     go ih (no q) =
         let last : (0 < m (suc n)) ↔ (0 < mark m p (suc n)) = others (suc n) (λ c. q (sym c)) in
         let rest : marked n (mark m p) ≡ suc (marked n m) = ih (omega arith) e in
@@ -72,7 +73,12 @@ module _ {g : Graph} {n : ℕ} where
   counts (Dfs.stop h) c = omega arith
   counts (Dfs.step {m = m} {p = p} {t = t} {u = u} e a b) c =
       rw (marks-append (mark m p) t u, length-append t u)
-      (omega (arith, counts b (cells-marks t (cells-mark p c)), counts a (cells-mark p c), marked-mark n m p (c .above p e) (c .below p e) e))
+      (omega (
+        arith,
+        counts b (cells-marks t (cells-mark p c)),
+        counts a (cells-mark p c),
+        marked-mark n m p (c .above p e) (c .below p e) e,
+      ))
 
   pub all-counts : {m : ℕ → ℕ} {ps t : List ℕ} → DfsAll g m ps t → Cells n m → marked n (marks m t) ≡ length t + marked n m
   unfolding marks

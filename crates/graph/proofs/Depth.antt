@@ -41,8 +41,11 @@ after-cell n seen p = after-append n seen (p ∷ [])
 after-cells : (n : ℕ) (seen : List ℕ) → Cells n (after n seen)
 after-cells n seen = cells-marks seen (cells-outside n)
 
-after-one : (n : ℕ) (seen : List ℕ) (p : ℕ) → after n seen p ≡ 0 → marked n (mark (after n seen) p) ≡ suc (marked n (after n seen))
-after-one n seen p e = marked-mark n (after n seen) p (after-cells n seen .above p e) (after-cells n seen .below p e) e
+after-one : (n : ℕ) (seen : List ℕ) (p : ℕ) → after n seen p ≡ 0
+    → marked n (after n (seen ++ (p ∷ []))) ≡ suc (marked n (after n seen))
+after-one n seen p e =
+    ap (marked n) (after-cell n seen p)
+    ∙ marked-mark n (after n seen) p (after-cells n seen .above p e) (after-cells n seen .below p e) e
 
 module _ (n : ℕ) (g : Graph) where
   -- A link that is marked adds nothing, whatever the depth.
@@ -101,19 +104,21 @@ module _ (n : ℕ) (g : Graph) where
         record { new = []; dfs = Dfs.stop h; adds = stops depth seen p within h ∙ sym (append-nil seen) }
 
     -- The depth is enough where it is no less than the number of unmarked cells.
-    visited : (depth : ℕ) (seen : List ℕ) (p : ℕ) → (0 < p → Reach g roots p) → n ≤ depth + marked n (after n seen) → Visited depth seen p
+    visited : (depth : ℕ) (seen : List ℕ) (p : ℕ) → (0 < p → Reach g roots p) → n ≤ depth + marked n (after n seen)
+        → Visited depth seen p
     visited zero seen p r d =
-        ⊎-elim (λ e. absurd (omega (arith, marked-le n (mark (after n seen) p), after-one n seen p e))) (stopped 0 seen p r)
+        ⊎-elim (λ e. absurd (omega (arith, marked-le n (after n (seen ++ (p ∷ []))), after-one n seen p e))) (stopped 0 seen p r)
         (zero-or-above (after n seen p))
     visited (suc depth) seen p r d =
         ⊎-elim
         (λ e.
         let rp : Reach g roots p = r (after-cells n seen .above p e) in
-        let more : marked n (after n (seen ++ (p ∷ []))) ≡ suc (marked n (after n seen)) = ap (marked n) (after-cell n seen p) ∙ after-one n seen p e in
-        let a : Visited depth (seen ++ (p ∷ [])) (g .left p) = visited depth (seen ++ (p ∷ [])) (g .left p) (Reach.left rp) (omega arith) in
+        let seen′ : List ℕ = seen ++ (p ∷ []) in
+        let more : marked n (after n seen′) ≡ suc (marked n (after n seen)) = after-one n seen p e in
+        let a : Visited depth seen′ (g .left p) = visited depth seen′ (g .left p) (Reach.left rp) (omega arith) in
         both depth seen p e a
-        (visited depth ((seen ++ (p ∷ [])) ++ a .new) (g .right p) (Reach.right rp)
-        (rw (after-append n (seen ++ (p ∷ [])) (a .new)) (omega (arith, counts (a .dfs) (after-cells n (seen ++ (p ∷ []))))))))
+        (visited depth (seen′ ++ a .new) (g .right p) (Reach.right rp)
+        (rw (after-append n seen′ (a .new)) (omega (arith, counts (a .dfs) (after-cells n seen′))))))
         (stopped (suc depth) seen p r) (zero-or-above (after n seen p))
 
     all-visited : (depth : ℕ) (seen ps : List ℕ) → Each (λ p. 0 < p → Reach g roots p) ps → n ≤ depth → AllVisited depth seen ps

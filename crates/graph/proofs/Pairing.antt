@@ -12,9 +12,8 @@ use Rattle.graph.specs.Compare.{Paired, OneToOne}
 use Rattle.graph.specs.Theorems.{Order-paired, Length-paired}
 use Rattle.graph.proofs.Dfs.{Dfs, DfsAll, mark, marks}
 use Rattle.graph.proofs.Lists.{getD-member, forall₂-places, forall₂-getD, forall₂-length, forall₂-append}
-use Rattle.graph.proofs.Marks.{before, zero-or-above, mark-self, mark-keeps, mark-cases, marks-keeps, outside-cell, outside-nil}
+use Rattle.graph.proofs.Marks.{before, zero-or-above, mark-along, mark-keeps, marks-keeps, above-nil, outside-cell, outside-nil}
 use Rattle.graph.proofs.Reached.{reach-within}
-use Rattle.graph.proofs.Visits.{above-nil}
 use Rattle.graph.proofs.Transfer.{all-functional}
 use Rattle.graph.proofs.Depth.{order-dfs}
 
@@ -37,10 +36,8 @@ module _ (g : Graph) (rs : List ℕ) (h : Graph) (ss : List ℕ) where
   module _ (o : OneToOne g rs h ss) where
     alike-mark : {m f : ℕ → ℕ} {p q : ℕ} → Paired g rs h ss p q → Alike m f → Alike (mark m p) (mark f q)
     alike-mark {m} {f} {p} {q} r s x y c = (
-      λ k. ⊎-elim (λ e. subst (λ (z : ℕ). 0 < mark f q z) (o .forward p q y r (subst (λ (z : ℕ). Paired g rs h ss z y) e c)) (mark-self f q))
-          (λ a. mark-keeps f q y (s x y c .0 a)) (mark-cases m p x k),
-      λ k. ⊎-elim (λ e. subst (λ (z : ℕ). 0 < mark m p z) (o .backward p x q r (subst (λ (z : ℕ). Paired g rs h ss x z) e c)) (mark-self m p))
-          (λ a. mark-keeps m p x (s x y c .1 a)) (mark-cases f q y k),
+      mark-along m f p q x y (λ e. o .forward p y q (subst (λ (z : ℕ). Paired g rs h ss z y) e c) r) (s x y c .0),
+      mark-along f m q p y x (λ e. o .backward x p q (subst (λ (z : ℕ). Paired g rs h ss x z) e c) r) (s x y c .1),
     )
 
     alike-marks : {t u : List ℕ} → Forall₂ (Paired g rs h ss) t u → {m f : ℕ → ℕ} → Alike m f → Alike (marks m t) (marks f u)
@@ -48,7 +45,8 @@ module _ (g : Graph) (rs : List ℕ) (h : Graph) (ss : List ℕ) where
     alike-marks Forall₂·nil s = s
     alike-marks (Forall₂·cons r rest) s = alike-marks rest (alike-mark r s)
 
-    in-step : {m : ℕ → ℕ} {p : ℕ} {t : List ℕ} → Dfs g m p t → {f : ℕ → ℕ} {q : ℕ} → Paired g rs h ss p q → 0 < m 0 → Alike m f → InStep f q t
+    in-step : {m : ℕ → ℕ} {p : ℕ} {t : List ℕ} → Dfs g m p t → {f : ℕ → ℕ} {q : ℕ} → Paired g rs h ss p q → 0 < m 0 → Alike m f
+        → InStep f q t
     in-step (Dfs.stop {p = p} k) {q = q} r z s = record { list = []; dfs = Dfs.stop (s p q r .0 k); pairs = Forall₂·nil }
     in-step (Dfs.step {m = m} {p = p} {t = t} {u = u} e a b) {f} {q} r z s =
         let hp : 0 < p = above-nil m p z e in
@@ -56,17 +54,16 @@ module _ (g : Graph) (rs : List ℕ) (h : Graph) (ss : List ℕ) where
         let zp : 0 < mark m p 0 = mark-keeps m p 0 z in
         let sp : Alike (mark m p) (mark f q) = alike-mark r s in
         let l : InStep (mark f q) (h .left q) t = in-step a (Paired.left r hp hq) zp sp in
-        let n : InStep (marks (mark f q) (l .list)) (h .right q) u =
-        in-step b (Paired.right r hp hq) (marks-keeps (mark m p) t 0 zp) (alike-marks (l .pairs) sp)
-        in
+        let zt : 0 < marks (mark m p) t 0 = marks-keeps (mark m p) t 0 zp in
+        let n : InStep (marks (mark f q) (l .list)) (h .right q) u = in-step b (Paired.right r hp hq) zt (alike-marks (l .pairs) sp) in
         record {
           list = q ∷ (l .list ++ n .list);
           dfs = Dfs.step (before (s p q r .1) e) (l .dfs) (n .dfs);
           pairs = Forall₂·cons r (forall₂-append (l .pairs) (n .pairs));
         }
 
-    all-in-step : {ps qs : List ℕ} → Forall₂ (Paired g rs h ss) ps qs → {m f : ℕ → ℕ} {t : List ℕ} → DfsAll g m ps t → 0 < m 0 → Alike m f
-        → AllInStep f qs t
+    all-in-step : {ps qs : List ℕ} → Forall₂ (Paired g rs h ss) ps qs → {m f : ℕ → ℕ} {t : List ℕ} → DfsAll g m ps t → 0 < m 0
+        → Alike m f → AllInStep f qs t
     all-in-step Forall₂·nil DfsAll.none z s = record { list = []; dfs = DfsAll.none; pairs = Forall₂·nil }
     all-in-step (Forall₂·cons r rest) {f = f} (DfsAll.next {m = m} {t = t} {u = u} a b) z s =
         let i = in-step a r z s in

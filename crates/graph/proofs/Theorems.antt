@@ -1,12 +1,13 @@
 -- The proofs of the theorems that the specs state.
 use Prim.Native.Nat.{ℕ, _<_}
 use native.Mathlib.Omega.{arith}
-use mathlib.Core.Path.{_≡_, _∙_}
+use mathlib.Core.Path.{_≡_, refl, _∙_}
 use mathlib.Core.Logic.{⊎-elim}
 use mathlib.Core.List.{List}
 use lib.ListN.{length}
 use Rattle.graph.specs.Graph.{Graph, Reach, Within}
-use Rattle.graph.specs.Order.{order}
+use Rattle.graph.specs.Order.{has, visit, visits, order}
+use Rattle.graph.specs.Example.{Order-example}
 use Rattle.graph.specs.Marking.{Closure, outside, marked}
 use Rattle.graph.specs.Theorems.{Order-reached, Order-distinct, Order-length, Order-depth, Marked-reached, Marked-count, Order-agree}
 use Rattle.graph.proofs.Dfs.{marks}
@@ -71,3 +72,7 @@ order-agree n g h roots w agree =
     all-functional
     (all-transfer (order-dfs n g roots w) (λ x m. agree x (order-reached n g roots w x .0 m)) (λ x. (λ a. a, λ a. a)))
     (order-dfs n h roots (within-agree agree w))
+
+pub order-example : Order-example
+unfolding order visits visit has
+order-example = refl

@@ -2,16 +2,16 @@
 use Prim.Native.Nat.{ℕ, _<_}
 use native.Mathlib.Omega.{arith}
 use mathlib.Core.Path.{_≡_, refl, sym, subst}
-use mathlib.Core.Logic.{⊎-elim, _↔_}
+use mathlib.Core.Logic.{_↔_}
 use mathlib.Core.List.{List, [], _∷_, List·Memᴰ·head, List·Memᴰ·tail, Memᴰ·append-left, Memᴰ·append-right}
 use Rattle.graph.specs.Graph.{Graph}
 use Rattle.graph.specs.Compare.{Agree}
 use Rattle.graph.proofs.Dfs.{Dfs, DfsAll, mark, marks}
 use Rattle.graph.proofs.Lists.{Each}
-use Rattle.graph.proofs.Marks.{before, mark-self, mark-keeps, mark-cases}
+use Rattle.graph.proofs.Marks.{before, mark-along}
 
--- A link's visit marks one list of cells only.
 module _ {g : Graph} where
+  -- The visit of a link marks one list of cells only.
   pub functional : {m : ℕ → ℕ} {p : ℕ} {t u : List ℕ} → Dfs g m p t → Dfs g m p u → t ≡ u
   functional (Dfs.stop h) (Dfs.stop k) = refl
   functional (Dfs.stop h) (Dfs.step e a b) = absurd (omega arith)
@@ -33,10 +33,7 @@ abbrev pub Same : (ℕ → ℕ) → (ℕ → ℕ) → Type 0
 Same m f = (x : ℕ) → (0 < m x) ↔ (0 < f x)
 
 pub same-mark : {m f : ℕ → ℕ} (p : ℕ) → Same m f → Same (mark m p) (mark f p)
-same-mark {m} {f} p s x = (half m f (s x .0), half f m (s x .1))
-  where
-    half : (a b : ℕ → ℕ) → (0 < a x → 0 < b x) → 0 < mark a p x → 0 < mark b p x
-    half a b h k = ⊎-elim (λ e. subst (λ (y : ℕ). 0 < mark b p y) (sym e) (mark-self b p)) (λ c. mark-keeps b p x (h c)) (mark-cases a p x k)
+same-mark {m} {f} p s x = (mark-along m f p p x x (λ e. e) (s x .0), mark-along f m p p x x (λ e. e) (s x .1))
 
 pub same-marks : {m f : ℕ → ℕ} (t : List ℕ) → Same m f → Same (marks m t) (marks f t)
 unfolding marks
@@ -44,18 +41,16 @@ same-marks [] s = s
 same-marks (p ∷ t) s = same-marks t (same-mark p s)
 
 module _ {g h : Graph} where
+  -- A visit marks the same cells in the second graph, from marks of the same numbers.
   pub transfer : {m f : ℕ → ℕ} {p : ℕ} {t : List ℕ} → Dfs g m p t → Each (Agree g h) t → Same m f → Dfs h f p t
   transfer (Dfs.stop {p = p} k) agree s = Dfs.stop (s p .0 k)
   transfer {f = f} (Dfs.step {m = m} {p = p} {t = t} {u = u} e a b) agree s =
       let here : Agree g h p = agree p (List·Memᴰ·head refl) in
-      let left : Dfs h (mark f p) (g .left p) t =
-      transfer a (λ x k. agree x (List·Memᴰ·tail (Memᴰ·append-left u k))) (same-mark p s)
-      in
-      let right : Dfs h (marks (mark f p) t) (g .right p) u =
-      transfer b (λ x k. agree x (List·Memᴰ·tail (Memᴰ·append-right t k))) (same-marks t (same-mark p s))
-      in
-      Dfs.step (before (s p .1) e) (subst (λ (q : ℕ). Dfs h (mark f p) q t) (here .left) left)
-      (subst (λ (q : ℕ). Dfs h (marks (mark f p) t) q u) (here .right) right)
+      let sp : Same (mark m p) (mark f p) = same-mark p s in
+      Dfs.step (before (s p .1) e)
+      (subst (λ (q : ℕ). Dfs h (mark f p) q t) (here .left) (transfer a (λ x k. agree x (List·Memᴰ·tail (Memᴰ·append-left u k))) sp))
+      (subst (λ (q : ℕ). Dfs h (marks (mark f p) t) q u) (here .right)
+      (transfer b (λ x k. agree x (List·Memᴰ·tail (Memᴰ·append-right t k))) (same-marks t sp)))
 
   pub all-transfer : {m f : ℕ → ℕ} {ps t : List ℕ} → DfsAll g m ps t → Each (Agree g h) t → Same m f → DfsAll h f ps t
   all-transfer DfsAll.none agree s = DfsAll.none

@@ -1,15 +1,15 @@
 -- What visits mark: cells that were unmarked, each once, only what the links reach, and with a cell its links.
 use Prim.Native.Nat.{ℕ, _<_}
 use native.Mathlib.Omega.{arith}
-use mathlib.Core.Path.{_≡_, refl, sym, subst}
+use mathlib.Core.Path.{_≡_, refl}
 use mathlib.Core.Logic.{⊎-elim}
-use mathlib.Core.List.{List, [], _∷_, _++_, List·Memᴰ, List·Memᴰ·head, List·Memᴰ·tail, List·Memᴰ·append-cases}
+use mathlib.Core.List.{List, [], _++_, List·Memᴰ, List·Memᴰ·head, List·Memᴰ·tail, List·Memᴰ·append-cases}
 use Rattle.graph.specs.Graph.{Graph, Reach}
 use Rattle.graph.specs.Marking.{Closure}
 use Rattle.graph.specs.Theorems.{Distinct}
 use Rattle.graph.proofs.Dfs.{Dfs, DfsAll, mark, marks}
 use Rattle.graph.proofs.Lists.{Each, each-nil, each-append, each-cons, distinct-append}
-use Rattle.graph.proofs.Marks.{mark-self, mark-keeps, marks-keeps, marks-member, marks-cases, marks-append, before}
+use Rattle.graph.proofs.Marks.{mark-self, mark-keeps, marks-keeps, marks-member, marks-cases, marks-append, before, above-nil}
 
 -- Both links of a cell are marked.
 abbrev Linked : Graph → (ℕ → ℕ) → ℕ → Type 0
@@ -17,11 +17,6 @@ Linked g f x = (0 < f (g .left x)) × (0 < f (g .right x))
 
 linked-keeps : (g : Graph) (m : ℕ → ℕ) (t : List ℕ) (x : ℕ) → Linked g m x → Linked g (marks m t) x
 linked-keeps g m t x h = (marks-keeps m t (g .left x) (h .0), marks-keeps m t (g .right x) (h .1))
-
--- Where nil is marked, what is unmarked is not nil.
-pub above-nil : (m : ℕ → ℕ) (p : ℕ) → 0 < m 0 → m p ≡ 0 → 0 < p
-above-nil m ℕ.zero h e = absurd (omega arith)
-above-nil m (ℕ.suc p) h e = omega arith
 
 module _ {g : Graph} where
   -- What a visit marks was unmarked.
@@ -42,8 +37,8 @@ module _ {g : Graph} where
   distinct (Dfs.stop h) = Distinct.none
   distinct (Dfs.step {m = m} {p = p} {t = t} {u = u} e a b) =
       Distinct.more
-      (λ h. ⊎-elim (λ (k : List·Memᴰ p t). omega (arith, mark-self m p, fresh a p k))
-      (λ (k : List·Memᴰ p u). omega (arith, marks-keeps (mark m p) t p (mark-self m p), fresh b p k)) (List·Memᴰ·append-cases t h))
+      (λ h. ⊎-elim (λ (k : List·Memᴰ p t). omega (arith, mark-self m p p refl, fresh a p k))
+      (λ (k : List·Memᴰ p u). omega (arith, marks-keeps (mark m p) t p (mark-self m p p refl), fresh b p k)) (List·Memᴰ·append-cases t h))
       (distinct-append (distinct a) (distinct b) (λ x h k. omega (arith, marks-member (mark m p) x h, fresh b x k)))
 
   pub all-distinct : {m : ℕ → ℕ} {ps t : List ℕ} → DfsAll g m ps t → Distinct t
@@ -55,12 +50,12 @@ module _ {g : Graph} where
   pub itself : {m : ℕ → ℕ} {p : ℕ} {t : List ℕ} → Dfs g m p t → 0 < marks m t p
   unfolding marks
   itself (Dfs.stop h) = h
-  itself (Dfs.step {m = m} {p = p} {t = t} {u = u} e a b) = marks-keeps (mark m p) (t ++ u) p (mark-self m p)
+  itself (Dfs.step {m = m} {p = p} {t = t} {u = u} e a b) = marks-keeps (mark m p) (t ++ u) p (mark-self m p p refl)
 
   pub all-itself : {m : ℕ → ℕ} {ps t : List ℕ} → DfsAll g m ps t → Each (λ x. 0 < marks m t x) ps
   all-itself (DfsAll.none {m = m}) = each-nil (λ x. 0 < marks m [] x)
   all-itself (DfsAll.next {m = m} {p = p} {ps = ps} {t = t} {u = u} a b) =
-      subst (λ (f : ℕ → ℕ). Each (λ x. 0 < f x) (p ∷ ps)) (sym (marks-append m t u))
+      rw (marks-append m t u)
       (each-cons (λ x. 0 < marks (marks m t) u x) (marks-keeps (marks m t) u p (itself a)) (all-itself b))
 
   -- The links of what a visit marks are marked after it.
@@ -68,14 +63,15 @@ module _ {g : Graph} where
   unfolding marks
   links (Dfs.stop {m = m} h) = each-nil (Linked g m)
   links (Dfs.step {m = m} {p = p} {t = t} {u = u} e a b) =
-      subst (λ (f : ℕ → ℕ). Each (Linked g f) (p ∷ (t ++ u))) (sym (marks-append (mark m p) t u))
+      rw (marks-append (mark m p) t u)
       (each-cons (Linked g (marks (marks (mark m p) t) u)) (marks-keeps (marks (mark m p) t) u (g .left p) (itself a), itself b)
-      (each-append (Linked g (marks (marks (mark m p) t) u)) t (λ x h. linked-keeps g (marks (mark m p) t) u x (links a x h)) (links b)))
+      (each-append (Linked g (marks (marks (mark m p) t) u)) t (λ x h. linked-keeps g (marks (mark m p) t) u x (links a x h))
+      (links b)))
 
   pub all-links : {m : ℕ → ℕ} {ps t : List ℕ} → DfsAll g m ps t → Each (Linked g (marks m t)) t
   all-links (DfsAll.none {m = m}) = each-nil (Linked g (marks m []))
   all-links (DfsAll.next {m = m} {t = t} {u = u} a b) =
-      subst (λ (f : ℕ → ℕ). Each (Linked g f) (t ++ u)) (sym (marks-append m t u))
+      rw (marks-append m t u)
       (each-append (Linked g (marks (marks m t) u)) t (λ x h. linked-keeps g (marks m t) u x (links a x h)) (all-links b))
 
   module _ {roots : List ℕ} where

@@ -3,3 +3,4 @@ pub mod Order
 pub mod Marking
 pub mod Compare
 pub mod Theorems
+pub mod Example
