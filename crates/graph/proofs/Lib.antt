@@ -8,3 +8,4 @@ pub mod Transfer
 pub mod Depth
 pub mod Theorems
 pub mod Pairing
+pub mod Walk

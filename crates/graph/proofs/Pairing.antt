@@ -9,7 +9,7 @@ use Rattle.graph.specs.Graph.{Graph, Reach, Within}
 use Rattle.graph.specs.Order.{order}
 use Rattle.graph.specs.Marking.{outside}
 use Rattle.graph.specs.Compare.{Paired, OneToOne}
-use Rattle.graph.specs.Theorems.{Order-paired, Length-paired}
+use Rattle.graph.specs.Theorems.{Order-paired, Length-paired, Pairing-kept}
 use Rattle.graph.proofs.Dfs.{Dfs, DfsAll, mark, marks}
 use Rattle.graph.proofs.Lists.{getD-member, forall₂-places, forall₂-getD, forall₂-length, forall₂-append}
 use Rattle.graph.proofs.Marks.{before, zero-or-above, mark-along, mark-keeps, marks-keeps, above-nil, outside-cell, outside-nil}
@@ -33,7 +33,7 @@ module _ (g : Graph) (rs : List ℕ) (h : Graph) (ss : List ℕ) where
     dfs : DfsAll h f qs list
     pairs : Forall₂ (Paired g rs h ss) t list
 
-  module _ (o : OneToOne g rs h ss) where
+  module _ (o : OneToOne (Paired g rs h ss)) where
     alike-mark : {m f : ℕ → ℕ} {p q : ℕ} → Paired g rs h ss p q → Alike m f → Alike (mark m p) (mark f q)
     alike-mark {m} {f} {p} {q} r s x y c = (
       mark-along m f p q x y (λ e. o .forward p y q (subst (λ (z : ℕ). Paired g rs h ss z y) e c) r) (s x y c .0),
@@ -100,7 +100,7 @@ start-nil : (n x : ℕ) → x ≡ 0 → 0 < outside n x
 start-nil n x e = subst (λ (z : ℕ). 0 < outside n z) (sym e) (outside-nil n)
 
 module _ (n : ℕ) (g : Graph) (rs : List ℕ) (k : ℕ) (h : Graph) (ss : List ℕ) (w : Within n g rs) (v : Within k h ss)
-    (e : length rs ≡ length ss) (o : OneToOne g rs h ss) where
+    (e : length rs ≡ length ss) (o : OneToOne (Paired g rs h ss)) where
   start-alike : Alike g rs h ss (outside n) (outside k)
   start-alike x y r = (
     λ a. start-nil k y (o .nil x y r .0 (start w x (paired-reach r) a)),
@@ -119,3 +119,14 @@ order-paired n g rs k h ss w v e o = forall₂-getD (orders-paired n g rs k h ss
 
 pub length-paired : Length-paired
 length-paired n g rs k h ss w v e o = forall₂-length (orders-paired n g rs k h ss w v e o)
+
+pub pairing-kept : Pairing-kept
+pairing-kept g rs h ss P o roots links =
+    record {
+      nil = λ x y a. o .nil x y (within a);
+      forward = λ x y z a b. o .forward x y z (within a) (within b);
+      backward = λ x y z a b. o .backward x y z (within a) (within b);
+    }
+  where
+    within : {x y : ℕ} → Paired g rs h ss x y → P x y
+    within = paired-least P roots links

@@ -59,11 +59,20 @@ Order-agree =
 abbrev pub Length-paired : Type 0
 Length-paired =
     (n : ℕ) (g : Graph) (rs : List ℕ) (k : ℕ) (h : Graph) (ss : List ℕ) → Within n g rs → Within k h ss → length rs ≡ length ss
-    → OneToOne g rs h ss → length (order n g rs) ≡ length (order k h ss)
+    → OneToOne (Paired g rs h ss) → length (order n g rs) ≡ length (order k h ss)
 
 -- What stands at the same place of the two orders is paired.
 abbrev pub Order-paired : Type 0
 Order-paired =
     (n : ℕ) (g : Graph) (rs : List ℕ) (k : ℕ) (h : Graph) (ss : List ℕ) → Within n g rs → Within k h ss → length rs ≡ length ss
-    → OneToOne g rs h ss → (i : ℕ) → i < length (order n g rs)
+    → OneToOne (Paired g rs h ss) → (i : ℕ) → i < length (order n g rs)
     → Paired g rs h ss (getD (order n g rs) i 0) (getD (order k h ss) i 0)
+
+-- The pairing is one-to-one where a relation is that holds of the roots, place by place, and with two cells of their links. So it stays
+-- one-to-one when a root or a link is changed to what such a relation allows.
+abbrev pub Pairing-kept : Type 1
+Pairing-kept =
+    (g : Graph) (rs : List ℕ) (h : Graph) (ss : List ℕ) (P : ℕ → ℕ → Type 0) → OneToOne P
+    → ((i : ℕ) → i < length rs → P (getD rs i 0) (getD ss i 0))
+    → ((x y : ℕ) → P x y → 0 < x → 0 < y → P (g .left x) (h .left y) × P (g .right x) (h .right y))
+    → OneToOne (Paired g rs h ss)
