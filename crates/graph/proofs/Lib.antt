@@ -1,1 +1,11 @@
 pub mod Dfs
+pub mod Reached
+pub mod Lists
+pub mod Marks
+pub mod Visits
+pub mod Count
+pub mod Transfer
+pub mod Depth
+pub mod Theorems
+pub mod Pairing
+pub mod Walk

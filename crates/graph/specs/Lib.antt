@@ -1,2 +1,6 @@
 pub mod Graph
 pub mod Order
+pub mod Marking
+pub mod Compare
+pub mod Theorems
+pub mod Example

@@ -1,0 +1,57 @@
+-- Facts about every member of a list, lists with no member twice, and lists related place by place.
+use Prim.Native.Nat.{ℕ, zero, suc, _<_}
+use native.Mathlib.Omega.{arith}
+use mathlib.Core.Path.{_≡_, refl, sym, ap, subst}
+use mathlib.Core.Logic.{⊎-elim}
+use mathlib.Core.List.{List, [], _∷_, _++_, List·Memᴰ, List·Memᴰ·head, List·Memᴰ·tail, List·Memᴰ·not-nil, List·Memᴰ·cases-cons, List·Memᴰ·append-cases, Forall₂, Forall₂·nil, Forall₂·cons}
+use lib.ListN.{length, getD}
+use Rattle.graph.specs.Theorems.{Distinct}
+
+-- P holds of each member of a list.
+abbrev pub Each : (ℕ → Type 0) → List ℕ → Type 0
+Each P t = (x : ℕ) → List·Memᴰ x t → P x
+
+module _ (P : ℕ → Type 0) where
+  pub each-nil : Each P []
+  each-nil x h = absurd (List·Memᴰ·not-nil h)
+
+  pub each-cons : {p : ℕ} {t : List ℕ} → P p → Each P t → Each P (p ∷ t)
+  each-cons hp f x h = ⊎-elim (λ e. subst P (sym e) hp) (f x) (List·Memᴰ·cases-cons h)
+
+  pub each-append : (t : List ℕ) {u : List ℕ} → Each P t → Each P u → Each P (t ++ u)
+  each-append t f g x h = ⊎-elim (f x) (g x) (List·Memᴰ·append-cases t h)
+
+-- Two lists with no member twice and none in common join to one.
+pub distinct-append : {t u : List ℕ} → Distinct t → Distinct u → Each (λ x. List·Memᴰ x u → ⊥) t → Distinct (t ++ u)
+distinct-append Distinct.none b apart = b
+distinct-append (Distinct.more {x = x} {xs = xs} n a) b apart =
+    Distinct.more (λ h. ⊎-elim n (apart x (List·Memᴰ·head refl)) (List·Memᴰ·append-cases xs h))
+    (distinct-append a b (λ y h. apart y (List·Memᴰ·tail h)))
+
+-- What stands at a place of a list is a member.
+pub getD-member : (t : List ℕ) (i : ℕ) → i < length t → List·Memᴰ (getD t i 0) t
+getD-member [] i h = absurd (omega arith)
+getD-member (x ∷ t) zero h = List·Memᴰ·head refl
+getD-member (x ∷ t) (suc i) h = List·Memᴰ·tail (getD-member t i (omega arith))
+
+module _ {R : ℕ → ℕ → Type 0} where
+  -- Two lists of one length are related place by place where their members are.
+  pub forall₂-places : (t u : List ℕ) → length t ≡ length u → ((i : ℕ) → i < length t → R (getD t i 0) (getD u i 0)) → Forall₂ R t u
+  forall₂-places [] [] e f = Forall₂·nil
+  forall₂-places [] (y ∷ u) e f = absurd (omega arith)
+  forall₂-places (x ∷ t) [] e f = absurd (omega arith)
+  forall₂-places (x ∷ t) (y ∷ u) e f =
+      Forall₂·cons (f 0 (omega arith)) (forall₂-places t u (omega arith) (λ i h. f (suc i) (omega arith)))
+
+  pub forall₂-getD : {t u : List ℕ} → Forall₂ R t u → (i : ℕ) → i < length t → R (getD t i 0) (getD u i 0)
+  forall₂-getD Forall₂·nil i h = absurd (omega arith)
+  forall₂-getD (Forall₂·cons r rs) zero h = r
+  forall₂-getD (Forall₂·cons r rs) (suc i) h = forall₂-getD rs i (omega arith)
+
+  pub forall₂-length : {t u : List ℕ} → Forall₂ R t u → length t ≡ length u
+  forall₂-length Forall₂·nil = refl
+  forall₂-length (Forall₂·cons r rs) = ap suc (forall₂-length rs)
+
+  pub forall₂-append : {t u s v : List ℕ} → Forall₂ R t u → Forall₂ R s v → Forall₂ R (t ++ s) (u ++ v)
+  forall₂-append Forall₂·nil b = b
+  forall₂-append (Forall₂·cons r rs) b = Forall₂·cons r (forall₂-append rs b)
