@@ -1,1 +1,7 @@
 pub mod Laws
+pub mod Questions
+pub mod Every
+pub mod WellFormed
+pub mod Retained
+pub mod RetainedPool
+pub mod FreshPool

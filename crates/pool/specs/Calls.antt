@@ -1,17 +1,16 @@
 -- What fresh, occupancy and the first questions answer.
-use Prim.Native.Nat.{ℕ, zero, suc, _*_, _/_}
+use Prim.Native.Nat.{ℕ, _*_, _/_}
 use mathlib.Core.List.{List, [], _∷_}
-use mathlib.Core.Bool.{Bool, true, false, cond, _&&_}
+use mathlib.Core.Bool.{cond, _&&_}
 use lib.ListN.{length}
 use lib.Dec.{leb, ltb}
-use Rattle.pool.specs.declared.Refusal.{Refusal}
 use Rattle.pool.specs.declared.Refusal.the-variants as refusal
 use Rattle.pool.specs.declared.Admitted.{Admitted}
 use Rattle.pool.specs.declared.Admitted.the-variants as admitted
 use Rattle.pool.specs.declared.Held.{Held}
 use Rattle.pool.specs.declared.Held.the-variants as held
-use Rattle.pool.specs.Layout.{cellLimit, registerCount, cellsOfLength, register}
-use Rattle.pool.specs.Validity.{sized, validLink}
+use Rattle.pool.specs.Layout.{cellLimit, registerCount, cellsOfLength, cellsOf, register}
+use Rattle.pool.specs.Validity.{validLink}
 use Rattle.pool.specs.Retain.{freshWords}
 use Rattle.pool.specs.Outcome.{Outcome, answered, refused}
 
@@ -26,9 +25,9 @@ occupancyOf kept n = cond (leb 1 n && leb n cellLimit && leb kept n) (answered (
 -- The first two questions: the length and word 0 (1), then that every register number is below 16 (2).
 abbrev pub admitOf : List ℕ → ℕ → ℕ → ℕ → Admitted
 admitOf w r a b =
-    cond (sized registerCount w)
+    cond (ltb 0 (cellsOf registerCount w))
     (cond (ltb r registerCount && ltb a registerCount && ltb b registerCount)
-    (admitted.Cells (cellsOfLength registerCount (length w)))
+    (admitted.Cells (cellsOf registerCount w))
     (admitted.Refused refusal.Register))
     (admitted.Refused refusal.Size)
 

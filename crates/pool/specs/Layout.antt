@@ -20,13 +20,17 @@ abbrev pub poolLength : ℕ → ℕ → ℕ
 poolLength R n = 2 + R + 4 * n
 
 -- N "from the length alone": the number of cells of a pool of that many words, 0 where no pool has that length.
-abbrev pub cellsOfLength : ℕ → ℕ → ℕ
+unfoldable pub cellsOfLength : ℕ → ℕ → ℕ
 cellsOfLength R len =
     cond (leb (poolLength R 1) len && leb len (poolLength R cellLimit) && eqb ((len - (2 + R)) % 4) 0) ((len - (2 + R)) / 4) 0
 
 -- "Word 0 is N."
 unfoldable pub count : List ℕ → ℕ
 count w = getD w 0 0
+
+-- The first question: "Is the length 18 + 4 × N, N within limits, and .. word 0 that N?" The number of cells of the pool, 0 where the words are none.
+unfoldable pub cellsOf : ℕ → List ℕ → ℕ
+cellsOf R w = let n = cellsOfLength R (length w) in cond (eqb (count w) n) n 0
 
 -- "Word 1 is the head of the free chain, 0 for none."
 unfoldable pub head : List ℕ → ℕ

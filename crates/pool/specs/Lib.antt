@@ -4,3 +4,4 @@ pub mod Validity
 pub mod Retain
 pub mod Outcome
 pub mod Calls
+pub mod FreshPool

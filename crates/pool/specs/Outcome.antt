@@ -5,8 +5,8 @@ use Rattle.pool.specs.declared.Refusal.{Refusal}
 use Rattle.pool.specs.declared.Refusal.the-variants as refusal
 use Rattle.pool.specs.declared.Fresh.{Fresh}
 use Rattle.pool.specs.declared.Fresh.the-variants as fresh
-use Rattle.pool.specs.declared.Occupancy.{Occupancy}
-use Rattle.pool.specs.declared.Occupancy.the-variants as occupancy
+use Rattle.pool.specs.declared.Occupied.{Occupied}
+use Rattle.pool.specs.declared.Occupied.the-variants as occupied
 
 -- The numbers that an accepted call gives, or the number of the refusal.
 pub data Outcome : Type 0 where
@@ -33,6 +33,6 @@ freshOutcome (fresh.Made n) = answered (n ∷ [])
 freshOutcome (fresh.Refused k) = refused (refusalNumber k)
 
 -- What `occupancy` (01: gauge) says: the percent.
-abbrev pub occupancyOutcome : Occupancy → Outcome
-occupancyOutcome (occupancy.Percent p) = answered (p ∷ [])
-occupancyOutcome (occupancy.Refused k) = refused (refusalNumber k)
+abbrev pub occupiedOutcome : Occupied → Outcome
+occupiedOutcome (occupied.Percent p) = answered (p ∷ [])
+occupiedOutcome (occupied.Refused k) = refused (refusalNumber k)

@@ -6,7 +6,7 @@ use mathlib.Core.Bool.{Bool, true, false, cond, _||_}
 use lib.ListN.{length, getD, replicate}
 use lib.Dec.{eqb, leb, ltb}
 use Rattle.pool.specs.Words.{tabulate}
-use Rattle.pool.specs.Layout.{poolLength, cell, left, head}
+use Rattle.pool.specs.Layout.{poolLength, cell, setCell, state, left, head}
 
 -- The lowest of the k cells from i on that is not kept, 0 where all of them are kept.
 unfoldable pub lowestFree : (ℕ → Bool) → ℕ → ℕ → ℕ
@@ -58,3 +58,20 @@ follow R (suc k) w i = elim (eqb i 0) [ true ↦ [] | false ↦ i ∷ follow R k
 
 abbrev pub freeList : ℕ → ℕ → List ℕ → List ℕ
 freeList R n w = follow R n w (head w)
+
+-- State 3: a cell that a marker has marked. "The sweep sets state 3 to 0, frees every other cell".
+abbrev pub marked : ℕ → List ℕ → ℕ → Bool
+marked R w i = eqb (state R w i) 3
+
+-- What the sweep of a pool of n cells answers and leaves: the number of marked cells, and the pool that keeps just these.
+abbrev pub sweepOf : ℕ → ℕ → List ℕ → ℕ × List ℕ
+sweepOf R n w = (keptCount (marked R w) n, retain R n (marked R w) w)
+
+-- A cell freed, and linked to the next free one.
+abbrev pub freeCell : ℕ → List ℕ → ℕ → ℕ → List ℕ
+freeCell R w i next = setCell R (setCell R (setCell R (setCell R w i 0 4) i 1 next) i 2 0) i 3 0
+
+-- The cells among the k from i on that are not kept, in ascending order.
+unfoldable pub freeCells : (ℕ → Bool) → ℕ → ℕ → List ℕ
+freeCells keep zero i = []
+freeCells keep (suc k) i = elim (keep i) [ true ↦ freeCells keep k (suc i) | false ↦ i ∷ freeCells keep k (suc i) ]

@@ -2,10 +2,9 @@
 use Prim.Native.Nat.{ℕ, suc}
 use mathlib.Core.List.{List}
 use mathlib.Core.Bool.{Bool, _&&_, _||_}
-use lib.ListN.{length}
-use lib.Dec.{eqb, leb, ltb}
+use lib.Dec.{eqb, leb}
 use Rattle.pool.specs.Words.{every}
-use Rattle.pool.specs.Layout.{cellsOfLength, count, register, state, left, right}
+use Rattle.pool.specs.Layout.{register, state, left, right}
 
 -- "State 0 is used, 4 is free"
 abbrev pub isUsed : ℕ → Bool
@@ -24,9 +23,11 @@ validCell R n w i =
     isFree (state R w i) || (isUsed (state R w i) && validLink R n w (left R w i) && validLink R n w (right R w i))
 
 -- "A pool is whole if every state is 0 or 4 and all registers and all links of used cells are sound."
-abbrev pub wellFormed : ℕ → ℕ → List ℕ → Bool
-wellFormed R n w = every R (λ k. validLink R n w (register w k)) && every n (λ k. validCell R n w (suc k))
+abbrev pub registersValid : ℕ → ℕ → List ℕ → Bool
+registersValid R n w = every R (λ k. validLink R n w (register w k))
 
--- "Is the length 18 + 4 × N, N within limits, and word 0 that N?"
-abbrev pub sized : ℕ → List ℕ → Bool
-sized R w = ltb 0 (cellsOfLength R (length w)) && eqb (count w) (cellsOfLength R (length w))
+abbrev pub cellsValid : ℕ → ℕ → List ℕ → Bool
+cellsValid R n w = every n (λ k. validCell R n w (suc k))
+
+abbrev pub wellFormed : ℕ → ℕ → List ℕ → Bool
+wellFormed R n w = registersValid R n w && cellsValid R n w

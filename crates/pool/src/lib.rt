@@ -1,22 +1,42 @@
 // The words of a pool of cells: where everything stands, reads and writes of cells and registers, fresh words, valid links, the test of a
 // whole pool, the sweep that rebuilds the free list, and the occupancy.
+//
+// Functions that take the number of cells, n, ask that the words hold at least n cells; the exported calls find n by themselves.
 ghost use mathlib.Core.Path.{_≡_};
-ghost use Prim.Native.Nat.{_+_, _*_, _-_, _<_, _≤_};
-ghost use Rattle.pool.specs.Outcome.{freshOutcome};
-ghost use Rattle.pool.specs.Calls.{freshOf};
+ghost use Prim.Native.Nat.{_+_, _<_, _≤_};
+ghost use lib.ListN.{length, replicate};
+ghost use Rattle.pool.specs.Layout.{cellLimit, registerCount, poolLength, cellsOfLength, cellsOf, cell, setCell, register, setRegister, head, setHead};
+ghost use Rattle.pool.specs.Validity.{validLink, validCell, registersValid, cellsValid, wellFormed};
+ghost use Rattle.pool.specs.Retain.{sweepOf, freeCell};
+ghost use Rattle.pool.specs.Outcome.{refusalNumber, freshOutcome, occupiedOutcome};
+ghost use Rattle.pool.specs.Calls.{freshOf, occupancyOf, admitOf, heldOf};
 
-// Why a call is refused. The numbers are those of the interface.
+// The pool: its limits, and where everything stands in its words.
+pub struct Pool {}
+
+// Why a call is refused.
 pub enum Refusal {
+    // The words are no pool: their length, or their number of cells.
     Size,
+    // No such register.
     Register,
+    // A link leads to no used cell.
     Malformed,
+    // The register holds no cell.
     Nil,
+    // Every cell is in use.
     Full,
+    // The bytes end within a number.
     Truncated,
+    // A number of 2^32 or more.
     OutOfRange,
+    // A link of an image past its cells.
     LinkRange,
+    // An image of more cells than the pool has.
     TooManyCells,
+    // Too little room is lent.
     NoRoom,
+    // The pool is too large for the recursive marker.
     TooLarge,
 }
 
@@ -25,12 +45,12 @@ pub enum Fresh {
     Refused(Refusal),
 }
 
-pub enum Occupancy {
+pub enum Occupied {
     Percent(u32),
     Refused(Refusal),
 }
 
-// The first two questions: the number of cells, or the refusal.
+// The first two questions of every call: the number of cells, or the refusal.
 pub enum Admitted {
     Cells(u32),
     Refused(Refusal),
@@ -40,4 +60,313 @@ pub enum Admitted {
 pub enum Held {
     Link(u32),
     Malformed,
+}
+
+impl Refusal {
+    // The number that the interface gives this refusal.
+    pub fn number(self) -> u32
+        ensures { λ r. ⌜ r ≡ refusalNumber self ⌝ }
+    {
+        match self {
+            Refusal::Size => 1,
+            Refusal::Register => 2,
+            Refusal::Malformed => 3,
+            Refusal::Nil => 4,
+            Refusal::Full => 5,
+            Refusal::Truncated => 6,
+            Refusal::OutOfRange => 7,
+            Refusal::LinkRange => 8,
+            Refusal::TooManyCells => 9,
+            Refusal::NoRoom => 10,
+            Refusal::TooLarge => 11,
+        }
+    }
+}
+
+impl Pool {
+    // The most cells of a pool.
+    pub const CELLS: u32 = 4000;
+
+    pub const REGISTERS: u32 = 16;
+
+    // Words: the number of cells, the head of the free list, the registers, then the cells.
+    pub const COUNT: usize = 0;
+
+    pub const HEAD: usize = 1;
+
+    pub const FIRST_REGISTER: usize = 2;
+
+    pub const FIRST_CELL: usize = 18;
+
+    // The words of a cell.
+    pub const CELL_WORDS: usize = 4;
+
+    pub const STATE: usize = 0;
+
+    pub const LEFT: usize = 1;
+
+    pub const RIGHT: usize = 2;
+
+    pub const VALUE: usize = 3;
+
+    // The states. Those between stand only inside a collection.
+    pub const USED: u32 = 0;
+
+    pub const MARKED: u32 = 3;
+
+    pub const FREE: u32 = 4;
+
+    // Makes the words a pool of as many cells as they hold, all of them free and all registers nil.
+    pub fn fresh(words: &mut [u32]) -> Fresh
+        ensures { λ r. ⌜ (freshOutcome r, now (words .exit)) ≡ freshOf (now (words .entry)) ⌝ }
+    {
+        let n = cells_of_length(words.len());
+        if n == 0 {
+            return Fresh::Refused(Refusal::Size);
+        }
+        clear(words);
+        words[Pool::COUNT] = n;
+        sweep(words, n);
+        Fresh::Made(n)
+    }
+}
+
+// The number of cells of a pool of that many words, or 0 where no pool has that length.
+pub fn cells_of_length(len: usize) -> u32
+    ensures { λ r. ⌜ r ≡ cellsOfLength registerCount len ⌝ }
+{
+    if len < Pool::FIRST_CELL + Pool::CELL_WORDS {
+        return 0;
+    }
+    if Pool::FIRST_CELL + Pool::CELL_WORDS * 4000 < len {
+        return 0;
+    }
+    if (len - Pool::FIRST_CELL) % 4 != 0 {
+        return 0;
+    }
+    ((len - Pool::FIRST_CELL) / 4) as u32
+}
+
+// The number of cells of the pool, or 0 where the words are none: the first question.
+pub fn cells(words: &[u32]) -> u32
+    ensures { λ r. ⌜ r ≡ cellsOf registerCount (now (words .entry)) ⌝ }
+{
+    let n = cells_of_length(words.len());
+    if n == 0 {
+        return 0;
+    }
+    if words[Pool::COUNT] == n { n } else { 0 }
+}
+
+// The first two questions: are the words a pool, and are these registers? A call that names fewer registers repeats one.
+pub fn admit(words: &[u32], r: u32, a: u32, b: u32) -> Admitted
+    ensures { λ q. ⌜ q ≡ admitOf (now (words .entry)) r a b ⌝ }
+{
+    let n = cells(words);
+    if n == 0 {
+        return Admitted::Refused(Refusal::Size);
+    }
+    if Pool::REGISTERS <= r {
+        return Admitted::Refused(Refusal::Register);
+    }
+    if Pool::REGISTERS <= a {
+        return Admitted::Refused(Refusal::Register);
+    }
+    if Pool::REGISTERS <= b {
+        return Admitted::Refused(Refusal::Register);
+    }
+    Admitted::Cells(n)
+}
+
+// The percent of the cells that are kept, rounded down.
+pub fn occupancy(kept: u32, n: u32) -> Occupied
+    ensures { λ r. ⌜ occupiedOutcome r ≡ occupancyOf kept n ⌝ }
+{
+    if n < 1 {
+        return Occupied::Refused(Refusal::Size);
+    }
+    if Pool::CELLS < n {
+        return Occupied::Refused(Refusal::Size);
+    }
+    if n < kept {
+        return Occupied::Refused(Refusal::Size);
+    }
+    Occupied::Percent(100 * kept / n)
+}
+
+pub fn read_cell(words: &[u32], i: u32, field: usize) -> u32
+    requires { ⌜ (0 < i) × (field < 4) × (poolLength registerCount i ≤ length (now words)) ⌝ }
+    ensures { λ r. ⌜ r ≡ cell registerCount (now (words .entry)) i field ⌝ }
+{
+    words[Pool::FIRST_CELL + Pool::CELL_WORDS * (i as usize - 1) + field]
+}
+
+pub fn write_cell(words: &mut [u32], i: u32, field: usize, v: u32)
+    requires { ⌜ (0 < i) × (field < 4) × (poolLength registerCount i ≤ length (now words)) ⌝ }
+    ensures { λ _. ⌜ now (words .exit) ≡ setCell registerCount (now (words .entry)) i field v ⌝ }
+{
+    words[Pool::FIRST_CELL + Pool::CELL_WORDS * (i as usize - 1) + field] = v;
+}
+
+pub fn read_register(words: &[u32], k: u32) -> u32
+    requires { ⌜ (k < registerCount) × (poolLength registerCount 0 ≤ length (now words)) ⌝ }
+    ensures { λ r. ⌜ r ≡ register (now (words .entry)) k ⌝ }
+{
+    words[Pool::FIRST_REGISTER + k as usize]
+}
+
+pub fn write_register(words: &mut [u32], k: u32, v: u32)
+    requires { ⌜ (k < registerCount) × (poolLength registerCount 0 ≤ length (now words)) ⌝ }
+    ensures { λ _. ⌜ now (words .exit) ≡ setRegister (now (words .entry)) k v ⌝ }
+{
+    words[Pool::FIRST_REGISTER + k as usize] = v;
+}
+
+pub fn read_head(words: &[u32]) -> u32
+    requires { ⌜ poolLength registerCount 0 ≤ length (now words) ⌝ }
+    ensures { λ r. ⌜ r ≡ head (now (words .entry)) ⌝ }
+{
+    words[Pool::HEAD]
+}
+
+pub fn write_head(words: &mut [u32], v: u32)
+    requires { ⌜ poolLength registerCount 0 ≤ length (now words) ⌝ }
+    ensures { λ _. ⌜ now (words .exit) ≡ setHead (now (words .entry)) v ⌝ }
+{
+    words[Pool::HEAD] = v;
+}
+
+// Is the link nil, or a used cell's number?
+pub fn valid_link(words: &[u32], n: u32, x: u32) -> bool
+    requires { ⌜ poolLength registerCount n ≤ length (now words) ⌝ }
+    ensures { λ r. ⌜ r ≡ validLink registerCount n (now (words .entry)) x ⌝ }
+{
+    if x == 0 {
+        return true;
+    }
+    if n < x {
+        return false;
+    }
+    read_cell(words, x, Pool::STATE) == Pool::USED
+}
+
+// What a register holds, if it is a valid link.
+pub fn read_link(words: &[u32], n: u32, k: u32) -> Held
+    requires { ⌜ (k < registerCount) × (poolLength registerCount n ≤ length (now words)) ⌝ }
+    ensures { λ r. ⌜ r ≡ heldOf n (now (words .entry)) k ⌝ }
+{
+    let x = read_register(words, k);
+    if valid_link(words, n, x) {
+        Held::Link(x)
+    } else {
+        Held::Malformed
+    }
+}
+
+// Is the cell free, or used with valid links?
+fn valid_cell(words: &[u32], n: u32, i: u32) -> bool
+    requires { ⌜ (0 < i) × (i ≤ n) × (poolLength registerCount n ≤ length (now words)) ⌝ }
+    ensures { λ r. ⌜ r ≡ validCell registerCount n (now (words .entry)) i ⌝ }
+{
+    let state = read_cell(words, i, Pool::STATE);
+    if state == Pool::FREE {
+        return true;
+    }
+    if state != Pool::USED {
+        return false;
+    }
+    if valid_link(words, n, read_cell(words, i, Pool::LEFT)) {
+        valid_link(words, n, read_cell(words, i, Pool::RIGHT))
+    } else {
+        false
+    }
+}
+
+fn registers_valid(words: &[u32], n: u32) -> bool
+    requires { ⌜ poolLength registerCount n ≤ length (now words) ⌝ }
+    ensures { λ r. ⌜ r ≡ registersValid registerCount n (now (words .entry)) ⌝ }
+{
+    let mut k = Pool::REGISTERS;
+    while 0 < k {
+        let x = read_register(words, k - 1);
+        if valid_link(words, n, x) {
+            k -= 1;
+        } else {
+            return false;
+        }
+    }
+    true
+}
+
+fn cells_valid(words: &[u32], n: u32) -> bool
+    requires { ⌜ poolLength registerCount n ≤ length (now words) ⌝ }
+    ensures { λ r. ⌜ r ≡ cellsValid registerCount n (now (words .entry)) ⌝ }
+{
+    let mut i = n;
+    while 0 < i {
+        if valid_cell(words, n, i) {
+            i -= 1;
+        } else {
+            return false;
+        }
+    }
+    true
+}
+
+// Is every state used or free, and every register and every link of a used cell valid?
+pub fn well_formed(words: &[u32], n: u32) -> bool
+    requires { ⌜ poolLength registerCount n ≤ length (now words) ⌝ }
+    ensures { λ r. ⌜ r ≡ wellFormed registerCount n (now (words .entry)) ⌝ }
+{
+    if registers_valid(words, n) {
+        cells_valid(words, n)
+    } else {
+        false
+    }
+}
+
+// Puts a cell onto the free list, before `next`.
+pub fn free_cell(words: &mut [u32], i: u32, next: u32)
+    requires { ⌜ (0 < i) × (poolLength registerCount i ≤ length (now words)) ⌝ }
+    ensures { λ _. ⌜ now (words .exit) ≡ freeCell registerCount (now (words .entry)) i next ⌝ }
+{
+    write_cell(words, i, Pool::STATE, Pool::FREE);
+    write_cell(words, i, Pool::LEFT, next);
+    write_cell(words, i, Pool::RIGHT, 0);
+    write_cell(words, i, Pool::VALUE, 0);
+}
+
+// Makes every marked cell used and puts all others onto the free list, in ascending order. Gives the number of marked cells.
+pub fn sweep(words: &mut [u32], n: u32) -> u32
+    requires { ⌜ poolLength registerCount n ≤ length (now words) ⌝ }
+    ensures { λ r. ⌜ (r, now (words .exit)) ≡ sweepOf registerCount n (now (words .entry)) ⌝ }
+{
+    let mut i = n;
+    let mut next = 0;
+    let mut kept = 0;
+    while 0 < i {
+        let state = read_cell(words, i, Pool::STATE);
+        if state == Pool::MARKED {
+            write_cell(words, i, Pool::STATE, Pool::USED);
+            kept += 1;
+            i -= 1;
+        } else {
+            free_cell(words, i, next);
+            next = i;
+            i -= 1;
+        }
+    }
+    write_head(words, next);
+    kept
+}
+
+// Sets every word to 0.
+fn clear(words: &mut [u32])
+    ensures { λ _. ⌜ now (words .exit) ≡ replicate (length (now (words .entry))) 0 ⌝ }
+{
+    let mut k = 0;
+    while k < words.len() {
+        words[k] = 0;
+        k += 1;
+    }
 }

@@ -1,0 +1,52 @@
+-- `pool::Pool::fresh` meets its contract: the length decides, and the words are cleared, numbered and swept.
+use borrow.Author.Needs.{needs}
+use Rattle.pool.proofs.Pool.fresh.Statement.{statement}
+use Rattle.pool.proofs.Pool.fresh.Tie as tie
+use native.Mathlib.Omega.{arith}
+use mathlib.Core.Path.{_∙_}
+use lib.ListN.{length, length-set}
+use Rattle.pool.proofs.FreshPool.{fresh-length, fresh-made}
+use denote.Ref.{now}
+
+cells-of-length-requires : tie.Need-cells-of-length-requires
+cells-of-length-requires c κs = search needs
+
+returns : tie.Need-returns
+returns c = simp (← c .before .cells-of-length .ensures, c .if1 .taken)
+
+clear-requires : tie.Need-clear-requires
+clear-requires c κs = search needs
+
+slice-write-words : tie.Need-slice-write-words
+slice-write-words c =
+    let w = now (c .before .before .before .before .before .before .before .args .words) in
+    let room = fresh-length w _ (c .before .before .before .before .before .cells-of-length .ensures) (c .before .before .before .before .if1 .left) in
+    omega (arith, room, c .before .before .clear .kept .0)
+
+sweep-requires : tie.Need-sweep-requires
+sweep-requires c κs =
+    let w = now (c .before .before .before .before .before .before .before .before .args .words) in
+    let room = fresh-length w _ (c .before .before .before .before .before .before .cells-of-length .ensures) (c .before .before .before .before .before .if1 .left) in
+    simp length-set (omega (arith, room, c .before .before .before .clear .kept .0))
+
+same-length : tie.Need-same-length
+same-length c = c .before .before .sweep .kept .0 ∙ (simp length-set (c .before .before .before .before .before .before .clear .kept .0))
+
+returns-2 : tie.Need-returns-2
+returns-2 c =
+    let w = now (c .before .before .before .before .before .before .before .before .before .before .before .args .words) in
+    fresh-made w _ (c .before .before .before .before .before .before .before .before .before .cells-of-length .ensures)
+    (c .before .before .before .before .before .before .before .before .if1 .left) _ _ _
+    (c .before .before .before .before .before .before .clear .ensures) (c .before .before .sweep .ensures)
+
+pub fresh-spec : {M : Type 1} → statement M
+fresh-spec =
+    tie.close
+    (tie.spec
+    cells-of-length-requires
+    returns
+    clear-requires
+    slice-write-words
+    sweep-requires
+    same-length
+    returns-2)

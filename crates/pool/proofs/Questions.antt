@@ -1,0 +1,74 @@
+-- The lengths of pools, and the first question.
+use Prim.Native.Nat.{ℕ, _+_, _-_, _/_, _%_, _<_, _≤_}
+use mathlib.Core.Path.{_≡_, refl}
+use mathlib.Core.List.{List}
+use mathlib.Core.Bool.{Bool, true, false, false≢true, cond, _&&_}
+use native.Mathlib.Omega.{arith}
+use lib.ListN.{length}
+use lib.Dec.{leb, eqb}
+use borrow.Author.Tests.{le-leb, eq-eqb, ne-eqb, leb-true, eqb-true}
+use Rattle.pool.specs.Layout.{cellLimit, cellsOfLength, cellsOf, poolLength, count}
+
+-- both parts of a test that holds
+pub both : (a b : Bool) → (a && b) ≡ true → (a ≡ true) × (b ≡ true)
+both true b h = (refl, h)
+both false b h = absurd (false≢true h)
+
+-- a length that is a pool's is that of its number of cells, which is within the limits
+pub record Sized (R len n : ℕ) : Type 0 where
+  pub exact : len ≡ poolLength R n
+  pub least : 1 ≤ n
+  pub most : n ≤ cellLimit
+
+pub length-sized : (R len : ℕ) → 0 < cellsOfLength R len → Sized R len (cellsOfLength R len)
+unfolding cellsOfLength
+length-sized R len = go (leb (poolLength R 1) len && leb len (poolLength R cellLimit) && eqb ((len - (2 + R)) % 4) 0) refl
+  where
+    go : (t : Bool) → (leb (poolLength R 1) len && leb len (poolLength R cellLimit) && eqb ((len - (2 + R)) % 4) 0) ≡ t
+        → 0 < cond t ((len - (2 + R)) / 4) 0 → Sized R len (cond t ((len - (2 + R)) / 4) 0)
+    go true e h =
+        let outer = both (leb (poolLength R 1) len && leb len (poolLength R cellLimit)) (eqb ((len - (2 + R)) % 4) 0) e in
+        let inner = both (leb (poolLength R 1) len) (leb len (poolLength R cellLimit)) (outer .0) in
+        let low = leb-true (poolLength R 1) len (inner .0) in
+        let high = leb-true len (poolLength R cellLimit) (inner .1) in
+        let whole = eqb-true ((len - (2 + R)) % 4) 0 (outer .1) in
+        record { exact = omega arith; least = omega arith; most = omega arith }
+    go false e h = absurd (omega arith)
+
+-- and the other way round
+pub sized-length : (R n : ℕ) → 1 ≤ n → n ≤ cellLimit → cellsOfLength R (poolLength R n) ≡ n
+unfolding cellsOfLength
+sized-length R n low high =
+    simp (
+      le-leb (poolLength R 1) (poolLength R n) (omega arith),
+      le-leb (poolLength R n) (poolLength R cellLimit) (omega arith),
+      eq-eqb ((poolLength R n - (2 + R)) % 4) 0 (omega arith),
+    ) (omega arith)
+
+-- the number of cells of words by their length and word 0
+module _ (R : ℕ) (w : List ℕ) where
+  pub no-cells : cellsOfLength R (length w) ≡ 0 → cellsOf R w ≡ 0
+  unfolding cellsOf
+  no-cells none = go (eqb (count w) (cellsOfLength R (length w)))
+    where
+      go : (t : Bool) → cond t (cellsOfLength R (length w)) 0 ≡ 0
+      go true = none
+      go false = refl
+
+  pub same-count : count w ≡ cellsOfLength R (length w) → cellsOf R w ≡ cellsOfLength R (length w)
+  unfolding cellsOf
+  same-count e = simp (eq-eqb _ _ e)
+
+  pub other-count : (count w ≡ cellsOfLength R (length w) → ⊥) → cellsOf R w ≡ 0
+  unfolding cellsOf
+  other-count h = simp (ne-eqb _ _ h)
+
+  -- words that are a pool: its length and word 0 are those of its cells
+  pub cells-sized : 0 < cellsOf R w → Sized R (length w) (cellsOf R w) × (count w ≡ cellsOf R w)
+  unfolding cellsOf
+  cells-sized = go (eqb (count w) (cellsOfLength R (length w))) refl
+    where
+      go : (t : Bool) → eqb (count w) (cellsOfLength R (length w)) ≡ t → 0 < cond t (cellsOfLength R (length w)) 0
+          → Sized R (length w) (cond t (cellsOfLength R (length w)) 0) × (count w ≡ cond t (cellsOfLength R (length w)) 0)
+      go true e h = (length-sized R (length w) h, eqb-true _ _ e)
+      go false e h = absurd (omega arith)

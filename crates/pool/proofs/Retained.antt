@@ -1,0 +1,267 @@
+-- The words of a retained pool, field by field, and the sweep that makes them, turn by turn.
+use Prim.Native.Nat.{ℕ, zero, suc, _+_, _-_, _/_, _%_, _<_, _≤_}
+use native.Mathlib.Omega.{arith}
+use native.Mathlib.Decide.{decLe, decLt, ℕ-discrete}
+use mathlib.Core.Path.{_≡_, refl, sym, ap, ap₂, _∙_}
+use mathlib.Core.List.{List}
+use mathlib.Core.Bool.{Bool, true, false, cond}
+use lib.ListN.{length, getD}
+use lib.Seq.{getD-set-same, getD-set-other}
+use borrow.Author.Tests.{lt-ltb, le-ltb, le-leb, lt-leb, eq-eqb, ne-eqb}
+use Rattle.pool.specs.Layout.{poolLength, cellAt, cell, setCell, head, setHead, count, register}
+use Rattle.pool.specs.Retain.{lowestFree, freeAbove, keptField, freeField, retainedField, retainedWord, retain, keptCount, freeCell, marked, sweepOf}
+use Rattle.pool.proofs.Laws.{cell-same, cell-other, length-setCell, length-setHead}
+use Rattle.pool.proofs.Every.{length-tabulate, getD-tabulate, tabulate-list}
+
+-- the lowest free cell above i, where the next cell is kept, and where it is not
+module _ (keep : ℕ → Bool) (n i : ℕ) (here : i < n) where
+  free-kept : keep (suc i) ≡ true → freeAbove keep n i ≡ freeAbove keep n (suc i)
+  unfolding lowestFree
+  free-kept e = let more : n - i ≡ suc (n - suc i) = omega arith in rw more (rw (e, lowestFree))
+
+  free-here : keep (suc i) ≡ false → freeAbove keep n i ≡ suc i
+  unfolding lowestFree
+  free-here e = let more : n - i ≡ suc (n - suc i) = omega arith in rw more (rw (e, lowestFree))
+
+-- a freed cell, field by field, and what freeing it leaves alone
+module _ (R : ℕ) (w : List ℕ) (i next : ℕ) (positive : 0 < i) where
+  pub length-freeCell : length (freeCell R w i next) ≡ length w
+  length-freeCell = simp length-setCell
+
+  freeCell-other : (j f : ℕ) → 0 < j → f < 4 → (j ≡ i → ⊥) → cell R (freeCell R w i next) j f ≡ cell R w j f
+  freeCell-other j f hj hf apart =
+      cell-other R _ i 3 0 j f positive (omega arith) hj hf (λ e. apart (omega arith))
+      ∙ (cell-other R _ i 2 0 j f positive (omega arith) hj hf (λ e. apart (omega arith))
+      ∙ (cell-other R _ i 1 next j f positive (omega arith) hj hf (λ e. apart (omega arith))
+      ∙ cell-other R w i 0 4 j f positive (omega arith) hj hf (λ e. apart (omega arith))))
+
+  freeCell-same : (keep : ℕ → Bool) (n f : ℕ) → f < 4 → poolLength R i ≤ length w → next ≡ freeAbove keep n i
+      → cell R (freeCell R w i next) i f ≡ freeField keep n i f
+  freeCell-same keep n zero hf room e =
+      cell-other R _ i 3 0 i 0 positive (omega arith) positive hf (λ q. omega arith)
+      ∙ (cell-other R _ i 2 0 i 0 positive (omega arith) positive hf (λ q. omega arith)
+      ∙ (cell-other R _ i 1 next i 0 positive (omega arith) positive hf (λ q. omega arith)
+      ∙ cell-same R w i 0 4 positive hf room))
+  freeCell-same keep n (suc zero) hf room e =
+      cell-other R _ i 3 0 i 1 positive (omega arith) positive hf (λ q. omega arith)
+      ∙ (cell-other R _ i 2 0 i 1 positive (omega arith) positive hf (λ q. omega arith)
+      ∙ (cell-same R _ i 1 next positive hf (simp length-setCell room)
+      ∙ e))
+  freeCell-same keep n (suc (suc zero)) hf room e =
+      cell-other R _ i 3 0 i 2 positive (omega arith) positive hf (λ q. omega arith)
+      ∙ cell-same R _ i 2 0 positive hf (simp length-setCell room)
+  freeCell-same keep n (suc (suc (suc zero))) hf room e = cell-same R _ i 3 0 positive hf (simp length-setCell room)
+  freeCell-same keep n (suc (suc (suc (suc f)))) hf room e = absurd (omega arith)
+
+-- a word that is no cell's
+abbrev Elsewhere : ℕ → ℕ → ℕ → Type 0
+Elsewhere R n k = (j f : ℕ) → 0 < j → j ≤ n → f < 4 → k ≡ cellAt R j f → ⊥
+
+setCell-elsewhere : (R n : ℕ) (w : List ℕ) (i f v k : ℕ) → 0 < i → i ≤ n → f < 4 → Elsewhere R n k
+    → getD (setCell R w i f v) k 0 ≡ getD w k 0
+unfolding setCell
+setCell-elsewhere R n w i f v k low high hf away = getD-set-other w (cellAt R i f) k v 0 (away i f low high hf)
+
+-- the words after the turns of the sweep for the cells n to i + 1
+pub record Swept (R n : ℕ) (keep : ℕ → Bool) (w₀ w : List ℕ) (i : ℕ) : Type 0 where
+  pub len : length w ≡ length w₀
+  pub elsewhere : (k : ℕ) → Elsewhere R n k → getD w k 0 ≡ getD w₀ k 0
+  pub below : (j f : ℕ) → 0 < j → j ≤ i → f < 4 → cell R w j f ≡ cell R w₀ j f
+  pub above : (j f : ℕ) → i < j → j ≤ n → f < 4 → cell R w j f ≡ retainedField R n keep w₀ j f
+
+module _ (R n : ℕ) (keep : ℕ → Bool) (w₀ : List ℕ) where
+  pub swept-none : Swept R n keep w₀ w₀ n
+  swept-none =
+      record { len = refl; elsewhere = λ k away. refl; below = λ j f hj low hf. refl; above = λ j f low high hf. absurd (omega arith) }
+
+  module _ (w : List ℕ) (i : ℕ) (here : i < n) (room : poolLength R n ≤ length w₀) (s : Swept R n keep w₀ w (suc i)) where
+    pub swept-kept : keep (suc i) ≡ true → Swept R n keep w₀ (setCell R w (suc i) 0 0) i
+    swept-kept e =
+        record {
+          len = length-setCell R w (suc i) 0 0 ∙ s .len;
+          elsewhere = λ k away. setCell-elsewhere R n w (suc i) 0 0 k (omega arith) here (omega arith) away ∙ s .elsewhere k away;
+          below = λ j f hj low hf.
+              cell-other R w (suc i) 0 0 j f (omega arith) (omega arith) hj hf (λ q. omega arith) ∙ s .below j f hj (omega arith) hf;
+          above = λ j f low high hf. go j f low high hf (ℕ-discrete j (suc i));
+        }
+      where
+        this : (f : ℕ) → f < 4 → cell R (setCell R w (suc i) 0 0) (suc i) f ≡ keptField R w₀ (suc i) f
+        this zero hf = cell-same R w (suc i) 0 0 (omega arith) hf (omega (arith, s .len))
+        this (suc f) hf =
+            cell-other R w (suc i) 0 0 (suc i) (suc f) (omega arith) (omega arith) (omega arith) hf (λ q. omega arith)
+            ∙ s .below (suc i) (suc f) (omega arith) (omega arith) hf
+
+        go : (j f : ℕ) → i < j → j ≤ n → f < 4 → Dec (j ≡ suc i) → cell R (setCell R w (suc i) 0 0) j f ≡ retainedField R n keep w₀ j f
+        go j f low high hf (yes same) = rw (same, e) (this f hf)
+        go j f low high hf (no other) =
+            cell-other R w (suc i) 0 0 j f (omega arith) (omega arith) (omega arith) hf (λ q. other (omega arith))
+            ∙ s .above j f (omega arith) high hf
+
+    pub swept-free : (next : ℕ) → keep (suc i) ≡ false → next ≡ freeAbove keep n (suc i) → Swept R n keep w₀ (freeCell R w (suc i) next) i
+    swept-free next e chain =
+        record {
+          len = length-freeCell R w (suc i) next (omega arith) ∙ s .len;
+          elsewhere = λ k away.
+              setCell-elsewhere R n _ (suc i) 3 0 k (omega arith) here (omega arith) away
+              ∙ (setCell-elsewhere R n _ (suc i) 2 0 k (omega arith) here (omega arith) away
+              ∙ (setCell-elsewhere R n _ (suc i) 1 next k (omega arith) here (omega arith) away
+              ∙ (setCell-elsewhere R n w (suc i) 0 4 k (omega arith) here (omega arith) away
+              ∙ s .elsewhere k away)));
+          below = λ j f hj low hf.
+              freeCell-other R w (suc i) next (omega arith) j f hj hf (λ q. omega arith) ∙ s .below j f hj (omega arith) hf;
+          above = λ j f low high hf. go j f low high hf (ℕ-discrete j (suc i));
+        }
+      where
+        go : (j f : ℕ) → i < j → j ≤ n → f < 4 → Dec (j ≡ suc i) → cell R (freeCell R w (suc i) next) j f ≡ retainedField R n keep w₀ j f
+        go j f low high hf (yes same) =
+            rw (same, e) (freeCell-same R w (suc i) next (omega arith) keep n f hf (omega (arith, s .len)) chain)
+        go j f low high hf (no other) =
+            freeCell-other R w (suc i) next (omega arith) j f (omega arith) hf other ∙ s .above j f (omega arith) high hf
+
+  -- a word of the header or behind the cells is no cell's
+  elsewhere-low : (k : ℕ) → k < 2 + R → Elsewhere R n k
+  elsewhere-low k low j f hj high hf e = omega arith
+
+  elsewhere-high : (k : ℕ) → poolLength R n ≤ k → Elsewhere R n k
+  elsewhere-high k high j f hj top hf e = omega arith
+
+  -- the rule of the retained words at a word of the header, behind the cells, and of a cell
+  word-low : (k : ℕ) → (k ≡ 1 → ⊥) → k < 2 + R → retainedWord R n keep w₀ k ≡ getD w₀ k 0
+  word-low k other low = simp (ne-eqb k 1 other, lt-ltb k (2 + R) low)
+
+  word-high : (k : ℕ) → poolLength R n ≤ k → retainedWord R n keep w₀ k ≡ getD w₀ k 0
+  word-high k high =
+      simp (ne-eqb k 1 (λ e. omega arith), le-ltb k (2 + R) (omega arith), le-leb (poolLength R n) k high)
+
+  word-cell : (i f : ℕ) → 0 < i → i ≤ n → f < 4 → retainedWord R n keep w₀ (cellAt R i f) ≡ retainedField R n keep w₀ i f
+  word-cell i f hi high hf =
+      let number : suc ((cellAt R i f - (2 + R)) / 4) ≡ i = omega arith in
+      let field : (cellAt R i f - (2 + R)) % 4 ≡ f = omega arith in
+      simp (
+        ne-eqb (cellAt R i f) 1 (λ e. omega arith),
+        le-ltb (cellAt R i f) (2 + R) (omega arith),
+        lt-leb (poolLength R n) (cellAt R i f) (omega arith),
+        number,
+        field,
+      )
+
+  -- after the last turn, with the head in place, the words are those of the retained pool
+  pub swept-all : (w : List ℕ) → poolLength R n ≤ length w₀ → Swept R n keep w₀ w 0 → setHead w (freeAbove keep n 0) ≡ retain R n keep w₀
+  unfolding retain setHead cell
+  swept-all w room s =
+      tabulate-list (length w₀) (retainedWord R n keep w₀) (setHead w (freeAbove keep n 0)) (length-setHead R w _ ∙ s .len) λ k below.
+      at k below (ℕ-discrete k 1) (decLt k (2 + R)) (decLe (poolLength R n) k)
+    where
+      same : (k : ℕ) → (k ≡ 1 → ⊥) → getD (setHead w (freeAbove keep n 0)) k 0 ≡ getD w k 0
+      same k other = getD-set-other w 1 k _ 0 other
+
+      at : (k : ℕ) → k < length w₀ → Dec (k ≡ 1) → Dec (k < 2 + R) → Dec (poolLength R n ≤ k)
+          → getD (setHead w (freeAbove keep n 0)) k 0 ≡ retainedWord R n keep w₀ k
+      at k below (yes first) low high = rw first (getD-set-same w 1 (freeAbove keep n 0) 0 (omega (arith, s .len)))
+      at k below (no other) (yes low) high = same k other ∙ (s .elsewhere k (elsewhere-low k low) ∙ sym (word-low k other low))
+      at k below (no other) (no low) (yes high) = same k other ∙ (s .elsewhere k (elsewhere-high k high) ∙ sym (word-high k high))
+      at k below (no other) (no low) (no high) =
+          let i = suc ((k - (2 + R)) / 4) in
+          let f = (k - (2 + R)) % 4 in
+          let place : k ≡ cellAt R i f = omega arith in
+          let top : i ≤ n = omega arith in
+          let hf : f < 4 = omega arith in
+          same k other ∙ (rw (ap (λ (j : ℕ). getD w j 0 ≡ retainedWord R n keep w₀ j) place) (s .above i f (omega arith) top hf ∙ sym (word-cell i f (omega arith) top hf)))
+
+  -- the retained pool, read
+  pub length-retain : length (retain R n keep w₀) ≡ length w₀
+  unfolding retain
+  length-retain = length-tabulate (length w₀) (retainedWord R n keep w₀)
+
+  module _ (room : poolLength R n ≤ length w₀) where
+    pub retain-head : 0 < n → head (retain R n keep w₀) ≡ freeAbove keep n 0
+    unfolding retain head
+    retain-head some = getD-tabulate (length w₀) (retainedWord R n keep w₀) 1 0 (omega arith)
+
+    pub retain-count : count (retain R n keep w₀) ≡ count w₀
+    unfolding retain count
+    retain-count = getD-tabulate (length w₀) (retainedWord R n keep w₀) 0 0 (omega arith) ∙ word-low 0 (λ e. omega arith) (omega arith)
+
+    pub retain-register : (k : ℕ) → k < R → register (retain R n keep w₀) k ≡ register w₀ k
+    unfolding retain register
+    retain-register k low =
+        getD-tabulate (length w₀) (retainedWord R n keep w₀) (2 + k) 0 (omega arith) ∙ word-low (2 + k) (λ e. omega arith) (omega arith)
+
+    pub retain-cell : (i f : ℕ) → 0 < i → i ≤ n → f < 4 → cell R (retain R n keep w₀) i f ≡ retainedField R n keep w₀ i f
+    unfolding retain cell
+    retain-cell i f low high hf =
+        getD-tabulate (length w₀) (retainedWord R n keep w₀) (cellAt R i f) 0 (omega arith) ∙ word-cell i f low high hf
+
+-- how many cells are kept, the topmost first
+pub kept-more : (keep : ℕ → Bool) (i : ℕ) → 0 < i → keep i ≡ true → keptCount keep i ≡ suc (keptCount keep (i - 1))
+unfolding keptCount
+kept-more keep zero some e = absurd (omega arith)
+kept-more keep (suc i) some e = let less : suc i - 1 ≡ i = omega arith in simp (less, e) (omega arith)
+
+pub kept-same : (keep : ℕ → Bool) (i : ℕ) → 0 < i → keep i ≡ false → keptCount keep i ≡ keptCount keep (i - 1)
+unfolding keptCount
+kept-same keep zero some e = absurd (omega arith)
+kept-same keep (suc i) some e = let less : suc i - 1 ≡ i = omega arith in simp (less, e) (omega arith)
+
+pub kept-most : (keep : ℕ → Bool) (n : ℕ) → keptCount keep n ≤ n
+unfolding keptCount
+kept-most keep zero = omega arith
+kept-most keep (suc n) = go (keep (suc n)) (kept-most keep n)
+  where
+    go : (t : Bool) → keptCount keep n ≤ n → cond t 1 0 + keptCount keep n ≤ suc n
+    go true h = omega arith
+    go false h = omega arith
+
+-- what the loop of the sweep keeps: the cells above i are done, next is the lowest free one of them, and kept counts the others
+pub record Turn (R n : ℕ) (w₀ w : List ℕ) (i next kept : ℕ) : Type 0 where
+  pub few : kept + i ≤ n
+  pub swept : Swept R n (marked R w₀) w₀ w i
+  pub chain : next ≡ freeAbove (marked R w₀) n i
+  pub counted : keptCount (marked R w₀) n ≡ kept + keptCount (marked R w₀) i
+
+module _ (R n : ℕ) (w₀ : List ℕ) (room : poolLength R n ≤ length w₀) where
+  pub turn-first : Turn R n w₀ w₀ n 0 0
+  unfolding lowestFree
+  turn-first =
+      let none : n - n ≡ 0 = omega arith in
+      record { few = omega arith; swept = swept-none R n (marked R w₀) w₀; chain = rw none; counted = omega arith }
+
+  module _ (w : List ℕ) (i next kept : ℕ) (some : 0 < i) (t : Turn R n w₀ w i next kept) where
+    top : i - 1 < n
+    top = omega (arith, t .few)
+
+    this : suc (i - 1) ≡ i
+    this = omega arith
+
+    -- the state that is read is still the one at the start
+    state-read : (s : ℕ) → s ≡ cell R w i 0 → cell R w₀ (suc (i - 1)) 0 ≡ s
+    state-read s read = rw this (sym (read ∙ t .swept .below i 0 some (omega arith) (omega arith)))
+
+    pub turn-kept : (s : ℕ) (w' : List ℕ) → s ≡ cell R w i 0 → s ≡ 3 → w' ≡ setCell R w i 0 0 → Turn R n w₀ w' (i - 1) next (kept + 1)
+    turn-kept s w' read three write =
+        let keep : marked R w₀ (suc (i - 1)) ≡ true = eq-eqb (cell R w₀ (suc (i - 1)) 0) 3 (state-read s read ∙ three) in
+        record {
+          few = omega (arith, t .few);
+          swept = rw (write ∙ ap (λ (k : ℕ). setCell R w k 0 0) (sym this))
+              (swept-kept R n (marked R w₀) w₀ w (i - 1) top room (rw this (t .swept)) keep);
+          chain = t .chain ∙ sym (free-kept (marked R w₀) n (i - 1) top keep ∙ ap (freeAbove (marked R w₀) n) this);
+          counted = omega (arith, t .counted, kept-more (marked R w₀) i some (rw this at keep));
+        }
+
+    pub turn-free : (s : ℕ) (w' : List ℕ) → s ≡ cell R w i 0 → (s ≡ 3 → ⊥) → w' ≡ freeCell R w i next → Turn R n w₀ w' (i - 1) i kept
+    turn-free s w' read other write =
+        let drop : marked R w₀ (suc (i - 1)) ≡ false = ne-eqb (cell R w₀ (suc (i - 1)) 0) 3 (λ e. other (sym (state-read s read) ∙ e)) in
+        record {
+          few = omega (arith, t .few);
+          swept = rw (write ∙ ap (λ (k : ℕ). freeCell R w k next) (sym this))
+              (swept-free R n (marked R w₀) w₀ w (i - 1) top room (rw this (t .swept)) next drop (t .chain ∙ ap (freeAbove (marked R w₀) n) (sym this)));
+          chain = sym (free-here (marked R w₀) n (i - 1) top drop ∙ this);
+          counted = omega (arith, t .counted, kept-same (marked R w₀) i some (rw this at drop));
+        }
+
+  pub turn-last : (w w' : List ℕ) (i next kept : ℕ) → i ≤ 0 → Turn R n w₀ w i next kept → w' ≡ setHead w next
+      → _≡_ {A = ℕ × List ℕ} (kept, w') (sweepOf R n w₀)
+  unfolding keptCount
+  turn-last w w' zero next kept last t write =
+      ap₂ (λ (k : ℕ) (l : List ℕ). (k, l)) (omega (arith, t .counted)) (write ∙ (ap (setHead w) (t .chain) ∙ swept-all R n (marked R w₀) w₀ w room (t .swept)))
+  turn-last w w' (suc i) next kept last t write = absurd (omega arith)

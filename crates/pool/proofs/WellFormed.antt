@@ -1,0 +1,76 @@
+-- A well-formed pool as facts about its registers and cells, read off the test and put back into it.
+use Prim.Native.Nat.{ℕ, suc, _-_, _<_, _≤_}
+use native.Mathlib.Omega.{arith}
+use mathlib.Core.Path.{_≡_, refl}
+use mathlib.Core.List.{List}
+use mathlib.Core.Bool.{Bool, true, false, _&&_, _||_}
+use lib.Dec.{eqb, leb}
+use borrow.Author.Tests.{le-leb, eq-eqb, eqb-true, eqb-false, leb-true}
+use Rattle.pool.specs.Layout.{register, state, left, right}
+use Rattle.pool.specs.Validity.{validLink, validCell, registersValid, cellsValid, wellFormed}
+use Rattle.pool.proofs.Questions.{both}
+use Rattle.pool.proofs.Every.{every-each, each-every}
+
+-- a valid link is nil or a used cell
+pub data Link (R n : ℕ) (w : List ℕ) (x : ℕ) : Type 0 where
+  nil : x ≡ 0 → Link R n w x
+  used : 0 < x → x ≤ n → state R w x ≡ 0 → Link R n w x
+
+pub data Cell (R n : ℕ) (w : List ℕ) (i : ℕ) : Type 0 where
+  free : state R w i ≡ 4 → Cell R n w i
+  used : state R w i ≡ 0 → Link R n w (left R w i) → Link R n w (right R w i) → Cell R n w i
+
+pub record WellFormed (R n : ℕ) (w : List ℕ) : Type 0 where
+  pub registers : (k : ℕ) → k < R → Link R n w (register w k)
+  pub cells : (i : ℕ) → 0 < i → i ≤ n → Cell R n w i
+
+module _ (R n : ℕ) (w : List ℕ) where
+  pub link-read : (x : ℕ) → validLink R n w x ≡ true → Link R n w x
+  link-read x h = go (eqb x 0) refl h
+    where
+      go : (t : Bool) → eqb x 0 ≡ t → (t || (leb x n && eqb (state R w x) 0)) ≡ true → Link R n w x
+      go true e h = nil (eqb-true x 0 e)
+      go false e h =
+          let parts = both (leb x n) (eqb (state R w x) 0) h in
+          let other : x ≡ 0 → ⊥ = eqb-false x 0 e in
+          used (omega (arith, other)) (leb-true x n (parts .0)) (eqb-true (state R w x) 0 (parts .1))
+
+  pub link-made : (x : ℕ) → Link R n w x → validLink R n w x ≡ true
+  link-made x (nil e) = simp (eq-eqb x 0 e)
+  link-made x (used low high s) = go (eqb x 0)
+    where
+      go : (t : Bool) → (t || (leb x n && eqb (state R w x) 0)) ≡ true
+      go true = refl
+      go false = simp (le-leb x n high, eq-eqb (state R w x) 0 s)
+
+  pub cell-read : (i : ℕ) → validCell R n w i ≡ true → Cell R n w i
+  cell-read i h = go (eqb (state R w i) 4) refl h
+    where
+      go : (t : Bool) → eqb (state R w i) 4 ≡ t
+          → (t || (eqb (state R w i) 0 && validLink R n w (left R w i) && validLink R n w (right R w i))) ≡ true → Cell R n w i
+      go true e h = free (eqb-true (state R w i) 4 e)
+      go false e h =
+          let outer = both (eqb (state R w i) 0 && validLink R n w (left R w i)) (validLink R n w (right R w i)) h in
+          let inner = both (eqb (state R w i) 0) (validLink R n w (left R w i)) (outer .0) in
+          used (eqb-true (state R w i) 0 (inner .0)) (link-read (left R w i) (inner .1)) (link-read (right R w i) (outer .1))
+
+  pub cell-made : (i : ℕ) → Cell R n w i → validCell R n w i ≡ true
+  cell-made i (free s) = simp (eq-eqb (state R w i) 4 s)
+  cell-made i (used s l r) = simp (s, link-made (left R w i) l, link-made (right R w i) r)
+
+  pub well-formed-read : wellFormed R n w ≡ true → WellFormed R n w
+  well-formed-read h =
+      let parts = both (registersValid R n w) (cellsValid R n w) h in
+      record {
+        registers = λ k low. link-read (register w k) (every-each (λ j. validLink R n w (register w j)) R (parts .0) k low);
+        cells = λ i low high.
+            let this : suc (i - 1) ≡ i = omega arith in
+            cell-read i (rw this at (every-each (λ j. validCell R n w (suc j)) n (parts .1) (i - 1) (omega arith)));
+      }
+
+  pub well-formed-made : WellFormed R n w → wellFormed R n w ≡ true
+  well-formed-made f =
+      simp (
+        each-every (λ j. validLink R n w (register w j)) R (λ k low. link-made (register w k) (f .registers k low)),
+        each-every (λ j. validCell R n w (suc j)) n (λ k low. cell-made (suc k) (f .cells (suc k) (omega arith) low)),
+      )

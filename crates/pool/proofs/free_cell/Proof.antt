@@ -1,0 +1,33 @@
+-- `pool::free_cell` meets its contract: four writes, one after the other.
+use borrow.Author.Needs.{needs}
+use Rattle.pool.proofs.free_cell.Statement.{statement}
+use Rattle.pool.proofs.free_cell.Tie as tie
+
+write-cell-requires : tie.Need-write-cell-requires
+write-cell-requires c κs = search needs
+
+write-cell-requires-2 : tie.Need-write-cell-requires-2
+write-cell-requires-2 c κs = search needs
+
+write-cell-requires-3 : tie.Need-write-cell-requires-3
+write-cell-requires-3 c κs = search needs
+
+write-cell-requires-4 : tie.Need-write-cell-requires-4
+write-cell-requires-4 c κs = search needs
+
+same-length : tie.Need-same-length
+same-length c = search needs
+
+returns : tie.Need-returns
+returns c = cc
+
+pub free-cell-spec : {M : Type 1} → statement M
+free-cell-spec =
+    tie.close
+    (tie.spec
+    write-cell-requires
+    write-cell-requires-2
+    write-cell-requires-3
+    write-cell-requires-4
+    same-length
+    returns)
