@@ -1,0 +1,4 @@
+pub mod Encoding
+pub mod Decoding
+pub mod Reading
+pub mod Writing
