@@ -50,3 +50,34 @@ unfoldable pub writeAt : List ℕ → ℕ → ℕ → Written × List ℕ
 writeAt out at v =
     let next = at + length (encode v) in
     cond (leb next (length out)) (Next next, take at out ++ encode v ++ drop next out) (NoRoom, out)
+
+-- Every element of the list is a byte; past its end `getD` gives 0.
+abbrev pub Bytes : List ℕ → Type 0
+Bytes bytes = (i : ℕ) → getD bytes i 0 < 256
+
+-- What was written is read again, wherever it stands and whatever stands around it.
+abbrev pub RoundTrip : Type 0
+RoundTrip =
+    (v : ℕ) (before after : List ℕ) → v < 2 ^ 32
+    → readAt (before ++ encode v ++ after) (length before) ≡ Value v (length before + length (encode v))
+
+-- "The writer uses the fewest groups": no bytes that read whole as v are fewer than those of its encoding.
+abbrev pub FewestGroups : Type 0
+FewestGroups = (v : ℕ) (bytes : List ℕ) → Bytes bytes → readAt bytes 0 ≡ Value v (length bytes) → length (encode v) ≤ length bytes
+
+-- No encoding starts another: if the bytes of v, with more behind them, are those of u, then v is u and there is nothing behind them.
+abbrev pub PrefixFree : Type 0
+PrefixFree = (v u : ℕ) (more : List ℕ) → v < 2 ^ 32 → u < 2 ^ 32 → encode v ++ more ≡ encode u → (v ≡ u) × (more ≡ [])
+
+-- Two numbers with one encoding are equal.
+abbrev pub OneToOne : Type 0
+OneToOne = (v u : ℕ) → v < 2 ^ 32 → u < 2 ^ 32 → encode v ≡ encode u → v ≡ u
+
+-- An encoding is one to five bytes.
+pub record Encoding (v : ℕ) : Type 0 where
+  pub some : 1 ≤ length (encode v)
+  pub most : length (encode v) ≤ 5
+  pub bytes : Bytes (encode v)
+
+abbrev pub OneToFiveBytes : Type 0
+OneToFiveBytes = (v : ℕ) → v < 2 ^ 32 → Encoding v
