@@ -2,16 +2,16 @@
 use Prim.Native.Nat.{ℕ, zero, suc, _+_, _-_, _*_, _/_, _%_, _^_, _<_, _≤_}
 use mathlib.Core.Path.{_≡_, refl, ap, sym, _∙_}
 use mathlib.Core.List.{List, [], _∷_, _++_, append-nil, append-assoc}
-use native.Mathlib.Nat.{pow-suc, add-assoc}
+use native.Mathlib.Nat.{pow-suc, one-le-pow}
 use native.Mathlib.Decide.{decLt}
 use native.Mathlib.Omega.{arith}
-use lib.ListN.{length, getD, drop, length-append, drop-of-length-le}
-use lib.Seq.{drop-append-seam}
+use lib.ListN.{length, getD, drop, length-append, length-drop, drop-of-length-le}
+use lib.Seq.{drop-append-seam, getD-drop}
 use Rattle.leb128.specs.declared.Number.{Number}
 use Rattle.leb128.specs.declared.Number.the-variants.{Value, Missing, OutOfRange}
-use Rattle.leb128.specs.Leb128.{mapValue, readGroups, readAt, groups, encode, Bytes, RoundTrip, FewestGroups, PrefixFree, OneToOne, Encoding, OneToFiveBytes}
+use Rattle.leb128.specs.Leb128.{mapValue, readGroups, readAt, groups, encode, Bytes, RoundTrip, FewestGroups, PrefixFree, OneToOne, Encoding, OneToFiveBytes, Within, ReadsWithin}
 use Rattle.leb128.proofs.Encoding.{groups-last, groups-more, one-left, one-group, at-most-more, encode-size}
-use Rattle.leb128.proofs.Decoding.{read-fifth, read-beyond, read-last, read-more, read-none}
+use Rattle.leb128.proofs.Decoding.{read-fifth, read-last, read-more, Reads, fifth, last, above, told}
 
 -- The groups of a number, at any place and before any bytes, are read as that number.
 reads : (more v : ℕ) (after : List ℕ) (at : ℕ) → v < 16 * 128 ^ more
@@ -32,36 +32,39 @@ pub round-trip : RoundTrip
 unfolding readAt encode
 round-trip v before after fits = rw (append-assoc, drop-append-seam) (reads 4 v after (length before) fits)
 
--- Whatever reads whole as a number has at least as many groups as it.
-fewest : (more v : ℕ) (bytes : List ℕ) (at : ℕ) → Bytes bytes → readGroups more bytes at ≡ Value v (at + length bytes)
-    → length (groups more v) ≤ length bytes
-fewest more v [] at byte e = let z : _≡_ {A = ℕ} 0 1 = cc (read-none more at) in absurd (omega arith)
-fewest zero v (b ∷ bytes) at byte e = omega (arith, one-left v)
-fewest (suc more) v (b ∷ bytes) at byte e =
-    elim (decLt b 128) [
-      | yes small ↦
-          let same : v ≡ b = cc (read-last b bytes at more small) in
-          omega (arith, one-group (suc more) v (omega arith))
-      | no large ↦
-          above (λ high. fewest more high bytes (at + 1) (λ i. byte (suc i))) (readGroups more bytes (at + 1)) refl
-          (sym (read-more b bytes at more (omega arith)) ∙ e)
-    ]
-  where
-    above : ((high : ℕ) → readGroups more bytes (at + 1) ≡ Value high ((at + 1) + length bytes) → length (groups more high) ≤ length bytes)
-        → (n : Number) → readGroups more bytes (at + 1) ≡ n → mapValue (λ high. (b - 128) + 128 * high) n ≡ Value v (at + suc (length bytes))
-        → length (groups (suc more) v) ≤ suc (length bytes)
-    above rest (Value high next) e₁ e₂ =
-        let value : (b - 128) + 128 * high ≡ v = cc in
-        let place : next ≡ at + suc (length bytes) = cc in
-        let quotient : high ≡ v / 128 = omega (arith, byte 0) in
-        let less = rest high (e₁ ∙ ap (Value high) (omega arith)) in
-        omega (arith, at-most-more more v, rw quotient at less)
-    above rest Missing e₁ e₂ = let z : _≡_ {A = ℕ} 0 1 = cc in absurd (omega arith)
-    above rest OutOfRange e₁ e₂ = let z : _≡_ {A = ℕ} 0 1 = cc in absurd (omega arith)
+-- Whatever reads as a number has at least as many bytes as it has groups.
+fewest : {more : ℕ} {bytes : List ℕ} {at v next : ℕ} → Reads more bytes at v next → Bytes bytes → at + length (groups more v) ≤ next
+fewest {v = v} (fifth small value place) byte = omega (arith, one-left v)
+fewest {v = v} (last {more = more} small value place) byte = omega (arith, one-group (suc more) v (omega arith))
+fewest {v = v} (above {more = more} {high = high} large value r) byte =
+    let quotient : high ≡ v / 128 = omega (arith, byte 0) in
+    omega (arith, at-most-more more v, rw quotient at (fewest r (λ i. byte (suc i))))
 
 pub fewest-groups : FewestGroups
 unfolding readAt encode
-fewest-groups v bytes byte e = fewest 4 v bytes 0 byte (e ∙ ap (Value v) (omega arith))
+fewest-groups bytes at v next byte e = fewest (told 4 (drop at bytes) at v next e) (λ i. rw getD-drop (byte (at + i)))
+
+-- Whatever reads as a number has no more bytes than there are or than may be, and is in range.
+places : {more : ℕ} {bytes : List ℕ} {at v next : ℕ} → Reads more bytes at v next
+    → (at < next) × (next ≤ at + suc more) × (next ≤ at + length bytes)
+places (fifth small value place) = omega arith
+places (last small value place) = omega arith
+places (above large value r) = omega (arith, places r)
+
+in-range : {more : ℕ} {bytes : List ℕ} {at v next : ℕ} → Reads more bytes at v next → Bytes bytes → v < 16 * 128 ^ more
+in-range (fifth small value place) byte = omega arith
+in-range (last {more = more} small value place) byte = omega (arith, pow-suc 128 more, one-le-pow more 128 (omega arith))
+in-range (above {more = more} large value r) byte = omega (arith, pow-suc 128 more, byte 0, in-range r (λ i. byte (suc i)))
+
+pub reads-within : ReadsWithin
+unfolding readAt
+reads-within bytes at v next byte e =
+    let r = told 4 (drop at bytes) at v next e in
+    record {
+      most = places r .1;
+      inside = omega (arith, places r, length-drop at bytes);
+      value = in-range r (λ i. rw getD-drop (byte (at + i)));
+    }
 
 pub prefix-free : PrefixFree
 prefix-free v u more fits fits′ e =

@@ -61,9 +61,9 @@ RoundTrip =
     (v : ℕ) (before after : List ℕ) → v < 2 ^ 32
     → readAt (before ++ encode v ++ after) (length before) ≡ Value v (length before + length (encode v))
 
--- "The writer uses the fewest groups": no bytes that read whole as v are fewer than those of its encoding.
+-- "The writer uses the fewest groups": no bytes that read as v are fewer than those of its encoding.
 abbrev pub FewestGroups : Type 0
-FewestGroups = (v : ℕ) (bytes : List ℕ) → Bytes bytes → readAt bytes 0 ≡ Value v (length bytes) → length (encode v) ≤ length bytes
+FewestGroups = (bytes : List ℕ) (at v next : ℕ) → Bytes bytes → readAt bytes at ≡ Value v next → at + length (encode v) ≤ next
 
 -- No encoding starts another: if the bytes of v, with more behind them, are those of u, then v is u and there is nothing behind them.
 abbrev pub PrefixFree : Type 0
@@ -81,3 +81,12 @@ pub record Encoding (v : ℕ) : Type 0 where
 
 abbrev pub OneToFiveBytes : Type 0
 OneToFiveBytes = (v : ℕ) → v < 2 ^ 32 → Encoding v
+
+-- "A reader takes up to five groups": what it reads as a number stands within the bytes, and is "below 2^32".
+pub record Within (bytes : List ℕ) (at v next : ℕ) : Type 0 where
+  pub most : next ≤ at + 5
+  pub inside : next ≤ length bytes
+  pub value : v < 2 ^ 32
+
+abbrev pub ReadsWithin : Type 0
+ReadsWithin = (bytes : List ℕ) (at v next : ℕ) → Bytes bytes → readAt bytes at ≡ Value v next → Within bytes at v next

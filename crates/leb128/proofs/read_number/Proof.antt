@@ -22,13 +22,13 @@ turned : (c : tie.After-shared-slice-known Inv-loop μ-loop)
     Turn (now (a .bytes)) (a .at) (l .value) (l .weight) (l .i)
 turned c =
     let l = c .before .before .before .loop in
-    turn _ (l .inv .1) (c .before .before .loop-test .taken) (c .before .if1 .left) (c .shared-slice-known .given (l .i) .fits)
+    turn _ (l .inv .1) (omega arith) (omega arith) (c .shared-slice-known .given (l .i) .fits)
 
 left : (c : tie.After-shared-slice-known2 Inv-loop μ-loop)
     → let l = c .before .before .before .loop in
     let a = c .before .before .before .before .args in
     Fifth (now (a .bytes)) (a .at) (l .value) (l .i)
-left c = fifth _ (c .before .before .before .loop .inv .1) (c .before .before .loop-test .left) (c .before .if3 .left)
+left c = fifth _ (c .before .before .before .loop .inv .1) (omega arith) (omega arith)
 
 loop-holds : tie.Need-loop-holds Inv-loop μ-loop
 loop-holds c = (4, start _ _)

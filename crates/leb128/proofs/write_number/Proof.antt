@@ -48,7 +48,7 @@ loop-less : tie.Need-loop-less Inv-loop μ-loop
 loop-less c = omega arith
 
 loop-again : tie.Need-loop-again Inv-loop μ-loop
-loop-again c = turn (c .before .loop .inv) (c .loop-test .taken)
+loop-again c = turn (c .before .loop .inv) (omega arith)
 
 cast-out-2 : tie.Need-cast-out-2 Inv-loop μ-loop
 cast-out-2 c = omega arith
@@ -63,7 +63,7 @@ same-length : tie.Need-same-length Inv-loop μ-loop
 same-length c = simp length-set (c .before .loop .inv .same)
 
 returns-3 : tie.Need-returns-3 Inv-loop μ-loop
-returns-3 c = written (c .before .loop .inv) (c .loop-test .left) (omega arith)
+returns-3 c = written (c .before .loop .inv) (omega arith) (omega arith)
 
 pub write-number-spec : {M : Type 1} → statement M
 write-number-spec =
