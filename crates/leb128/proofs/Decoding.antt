@@ -34,39 +34,36 @@ pub read-none : (more at : ℕ) → readGroups more [] at ≡ Missing
 unfolding readGroups
 read-none more at = refl
 
--- How a number is read: its bytes, from the place `at`, give v, and `next` is the place behind them.
+-- How a number is read: the bytes from the place `at` on start with those of v, and `next` is the place behind these.
 pub data Reads : ℕ → List ℕ → ℕ → ℕ → ℕ → Type 0 where
-  fifth : {b : ℕ} {bytes : List ℕ} {at v next : ℕ} → b < 16 → v ≡ b → next ≡ at + 1 → Reads 0 (b ∷ bytes) at v next
-  last : {more b : ℕ} {bytes : List ℕ} {at v next : ℕ} → b < 128 → v ≡ b → next ≡ at + 1 → Reads (suc more) (b ∷ bytes) at v next
+  fifth : {b : ℕ} {bytes : List ℕ} {at v next : ℕ} → b < 16 → (v ≡ b) × (next ≡ at + 1) → Reads 0 (b ∷ bytes) at v next
+  last : {more b : ℕ} {bytes : List ℕ} {at v next : ℕ} → b < 128 → (v ≡ b) × (next ≡ at + 1) → Reads (suc more) (b ∷ bytes) at v next
   above : {more b : ℕ} {bytes : List ℕ} {at v next high : ℕ} → 128 ≤ b → v ≡ (b - 128) + 128 * high → Reads more bytes (at + 1) high next
       → Reads (suc more) (b ∷ bytes) at v next
 
-pub told : (more : ℕ) (bytes : List ℕ) (at v next : ℕ) → readGroups more bytes at ≡ Value v next → Reads more bytes at v next
-told more [] at v next e = let z : _≡_ {A = ℕ} 0 1 = cc (read-none more at) in absurd (omega arith)
-told zero (b ∷ bytes) at v next e =
+-- Two answers that are equal and numbers have one value and one place behind it.
+parts : {v v′ next next′ : ℕ} → Value v′ next′ ≡ Value v next → (v ≡ v′) × (next ≡ next′)
+parts e = (cc, cc)
+
+-- A number with a changed value was a number before.
+unmapped : (f : ℕ → ℕ) (n : Number) (v next : ℕ) → mapValue f n ≡ Value v next → (x : ℕ) × (n ≡ Value x next) × (v ≡ f x)
+unmapped f (Value x next′) v next e = (x, cc, cc)
+unmapped f Missing v next e = let z : _≡_ {A = ℕ} 0 1 = cc in absurd (omega arith)
+unmapped f OutOfRange v next e = let z : _≡_ {A = ℕ} 0 1 = cc in absurd (omega arith)
+
+-- Where the reader answers a number, it was read so.
+pub number-reads : (more : ℕ) (bytes : List ℕ) (at v next : ℕ) → readGroups more bytes at ≡ Value v next → Reads more bytes at v next
+number-reads more [] at v next e = let z : _≡_ {A = ℕ} 0 1 = cc (read-none more at) in absurd (omega arith)
+number-reads zero (b ∷ bytes) at v next e =
     elim (decLt b 16) [
-      | yes small ↦
-          let value : v ≡ b = cc (read-fifth b bytes at small) in
-          let place : next ≡ at + 1 = cc (read-fifth b bytes at small) in
-          fifth small value place
+      | yes small ↦ fifth small (parts (sym (read-fifth b bytes at small) ∙ e))
       | no large ↦ let z : _≡_ {A = ℕ} 0 1 = cc (read-beyond b bytes at (omega arith)) in absurd (omega arith)
     ]
-told (suc more) (b ∷ bytes) at v next e =
+number-reads (suc more) (b ∷ bytes) at v next e =
     elim (decLt b 128) [
-      | yes small ↦
-          let value : v ≡ b = cc (read-last b bytes at more small) in
-          let place : next ≡ at + 1 = cc (read-last b bytes at more small) in
-          last small value place
+      | yes small ↦ last small (parts (sym (read-last b bytes at more small) ∙ e))
       | no large ↦
-          let h : 128 ≤ b = omega arith in
-          onward h (λ high. told more bytes (at + 1) high next) (readGroups more bytes (at + 1)) refl (sym (read-more b bytes at more h) ∙ e)
+          let large : 128 ≤ b = omega arith in
+          let high = unmapped _ (readGroups more bytes (at + 1)) v next (sym (read-more b bytes at more large) ∙ e) in
+          above large (high .2) (number-reads more bytes (at + 1) (high .0) next (high .1))
     ]
-  where
-    onward : 128 ≤ b → ((high : ℕ) → readGroups more bytes (at + 1) ≡ Value high next → Reads more bytes (at + 1) high next)
-        → (n : Number) → readGroups more bytes (at + 1) ≡ n → mapValue (λ high. (b - 128) + 128 * high) n ≡ Value v next
-        → Reads (suc more) (b ∷ bytes) at v next
-    onward large rest (Value high next′) e₁ e₂ =
-        let value : v ≡ (b - 128) + 128 * high = cc in
-        above large value (rest high (cc))
-    onward large rest Missing e₁ e₂ = let z : _≡_ {A = ℕ} 0 1 = cc in absurd (omega arith)
-    onward large rest OutOfRange e₁ e₂ = let z : _≡_ {A = ℕ} 0 1 = cc in absurd (omega arith)

@@ -1,7 +1,7 @@
 -- The encoding, a group at a time.
-use Prim.Native.Nat.{ℕ, zero, suc, _+_, _*_, _/_, _%_, _^_, _<_, _≤_}
+use Prim.Native.Nat.{ℕ, zero, suc, _+_, _/_, _%_, _^_, _<_, _≤_}
 use mathlib.Core.Path.{_≡_, refl, ap, sym, _∙_}
-use mathlib.Core.List.{List, [], _∷_}
+use mathlib.Core.List.{[], _∷_}
 use native.Mathlib.Nat.{pow-suc}
 use native.Mathlib.Decide.{decLt}
 use native.Mathlib.Omega.{arith}
@@ -52,6 +52,7 @@ pub encode-more : (v : ℕ) → v < 2 ^ 32 → 128 ≤ v → encode v ≡ (v % 1
 unfolding encode
 encode-more v fits large = groups-more 3 v large ∙ ap (λ r. (v % 128 + 128) ∷ r) (sym (enough 3 (v / 128) (omega arith)))
 
+-- What stands above a number's lowest group has at most one group less, also where it is nothing.
 pub at-most-more : (more v : ℕ) → length (groups (suc more) v) ≤ suc (length (groups more (v / 128)))
 at-most-more more v =
     elim (decLt v 128) [

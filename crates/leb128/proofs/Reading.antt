@@ -1,7 +1,7 @@
 -- Reading a number a group at a time: what is left to read, with what has been read, always gives the same answer.
 use Prim.Native.Nat.{ℕ, zero, suc, _+_, _-_, _*_, _^_, _<_, _≤_}
 use mathlib.Core.Path.{_≡_, refl, ap, sym, _∙_}
-use mathlib.Core.List.{List, [], _∷_}
+use mathlib.Core.List.{List}
 use native.Mathlib.Nat.{pow-succ', one-le-pow, mul-assoc, mul-add, add-assoc, mul-le-mul-left, le-mul-of-pos-right}
 use native.Mathlib.Numerals.{add-one}
 use native.Mathlib.Omega.{arith}
@@ -16,6 +16,7 @@ use Rattle.leb128.proofs.Decoding.{read-fifth, read-beyond, read-last, 
 abbrev onto : ℕ → ℕ → Number → Number
 onto value weight = mapValue (λ x. value + weight * x)
 
+-- Behind no groups it is what it is, and one more group can be counted to those before it.
 onto-nothing : (n : Number) → onto 0 1 n ≡ n
 onto-nothing (Value x next) = ap (λ y. Value y next) (omega arith)
 onto-nothing Missing = refl
@@ -34,6 +35,7 @@ pub record Reading (bytes : List ℕ) (at more value weight i : ℕ) : Type 0 wh
   pub below : value < weight
   pub result : onto value weight (readGroups more (drop i bytes) i) ≡ readAt bytes at
 
+-- At the start nothing has been read, and four groups may follow the first.
 pub start : (bytes : List ℕ) (at : ℕ) → Reading bytes at 4 0 1 at
 unfolding readAt
 start bytes at = record { whole = refl; below = omega arith; result = onto-nothing _ }
@@ -67,6 +69,7 @@ product value weight group below small =
     omega (arith, mul-le-mul-left weight most)
 
 module _ {bytes : List ℕ} {at value weight i : ℕ} where
+  -- Where the bytes end, the number is missing, however many groups may follow.
   pub missing : {more : ℕ} → Reading bytes at more value weight i → length bytes ≤ i → Missing ≡ readAt bytes at
   missing {more} r short = rw (drop-of-length-le, read-none) at (r .result)
 
@@ -86,7 +89,8 @@ module _ {bytes : List ℕ} {at value weight i : ℕ} where
           record {
             whole = shifted more weight (r .whole);
             below = below;
-            result = rw (drop-cons bytes i 0, read-more, onto-group value weight (getD bytes i 0 - 128) _, ← add-one i) at (r .result);
+            result =
+                rw (drop-cons bytes i 0, read-more, onto-group value weight (getD bytes i 0 - 128) _, ← add-one i) at (r .result);
           },
         );
       }
@@ -95,7 +99,9 @@ module _ {bytes : List ℕ} {at value weight i : ℕ} where
   fifth zero r large there =
       record {
         below = omega (arith, r .whole, r .below);
-        ends = λ small. let h : weight ≡ 2 ^ 28 = omega (arith, r .whole) in rw (drop-cons bytes i 0, read-fifth, h) at (r .result);
+        ends = λ small.
+            let h : weight ≡ 2 ^ 28 = omega (arith, r .whole) in
+            rw (drop-cons bytes i 0, read-fifth, h) at (r .result);
         beyond = λ large. rw (drop-cons bytes i 0, read-beyond) at (r .result);
       }
   fifth (suc more) r large there = absurd (omega (arith, bounded more weight (r .whole)))

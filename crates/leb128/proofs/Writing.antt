@@ -1,13 +1,12 @@
 -- Writing a number a group at a time: what is left to write always gives the same bytes in the end.
-use Prim.Native.Nat.{ℕ, suc, _+_, _/_, _%_, _^_, _<_, _≤_}
-use mathlib.Core.Path.{_≡_, refl, ap, sym, _∙_}
-use mathlib.Core.List.{List, []}
+use Prim.Native.Nat.{ℕ, _+_, _/_, _%_, _^_, _<_, _≤_}
+use mathlib.Core.Path.{_≡_, ap, sym, _∙_}
+use mathlib.Core.List.{List}
 use native.Mathlib.Numerals.{add-one}
 use native.Mathlib.Omega.{arith}
 use lib.ListN.{length, set, length-set}
 use lib.Seq.{sets, sets-eq}
 use borrow.Author.Tests.{le-leb, lt-leb}
-use Rattle.leb128.specs.declared.Written.{Written}
 use Rattle.leb128.specs.declared.Written.the-variants.{Next, NoRoom}
 use Rattle.leb128.specs.Leb128.{encode, writeAt}
 use Rattle.leb128.proofs.Encoding.{encode-last, encode-more}
@@ -40,6 +39,7 @@ module _ {out₀ : List ℕ} {at v : ℕ} {out : List ℕ} {rest i : ℕ} (w : W
       let bytes = sym (ap (sets out i) e) ∙ w .bytes ∙ sets-eq (encode v) out₀ at room in
       rw (le-leb _ _ room) (λ j. (Next (ends j), bytes j))
 
+-- Nothing is written where the number would reach past the end.
 pub no-room : (out : List ℕ) (at v : ℕ) → length out < at + length (encode v) → (NoRoom, out) ≡ writeAt out at v
 unfolding writeAt
 no-room out at v short = rw (lt-leb _ _ short)

@@ -2,7 +2,7 @@
 use Prim.Native.Nat.{ℕ, zero, suc, _+_, _-_, _*_, _/_, _%_, _^_, _<_, _≤_}
 use mathlib.Core.Path.{_≡_}
 use mathlib.Core.List.{List, [], _∷_, _++_}
-use mathlib.Core.Bool.{Bool, true, false, cond}
+use mathlib.Core.Bool.{true, false, cond}
 use lib.ListN.{length, getD, take, drop}
 use lib.Dec.{ltb, leb}
 use Rattle.leb128.specs.declared.Number.{Number}
@@ -32,7 +32,8 @@ readGroups (suc more) (b ∷ bytes) at =
 unfoldable pub readAt : List ℕ → ℕ → Number
 readAt bytes at = readGroups 4 (drop at bytes) at
 
--- The groups of a number, where up to `more` may follow the first. "The writer uses the fewest groups."
+-- The groups of a number, where up to `more` may follow the first; 128, the top bit, on each that another follows.
+-- "The writer uses the fewest groups": what is below 128 is the last.
 unfoldable pub groups : ℕ → ℕ → List ℕ
 groups zero v = v ∷ []
 groups (suc more) v =
@@ -41,7 +42,7 @@ groups (suc more) v =
       | false ↦ (v % 128 + 128) ∷ groups more (v / 128)
     ]
 
--- The bytes of a number below 2^32: five groups at most.
+-- The bytes of a number below 2^32: five at most.
 unfoldable pub encode : ℕ → List ℕ
 encode v = groups 4 v
 
@@ -51,7 +52,7 @@ writeAt out at v =
     let next = at + length (encode v) in
     cond (leb next (length out)) (Next next, take at out ++ encode v ++ drop next out) (NoRoom, out)
 
--- Every element of the list is a byte; past its end `getD` gives 0.
+-- Every element of the list is a byte (past the end of a list `getD` gives the 0 that is named).
 abbrev pub Bytes : List ℕ → Type 0
 Bytes bytes = (i : ℕ) → getD bytes i 0 < 256
 

@@ -3,7 +3,6 @@
 use Prim.Native.Nat.{ℕ, _-_, _^_}
 use native.Mathlib.Omega.{arith}
 use borrow.Author.Needs.{needs}
-use lib.ListN.{getD}
 use denote.Ref.{now}
 use Rattle.leb128.proofs.Reading.{Reading, Turn, Fifth, start, missing, turn, fifth}
 use Rattle.leb128.proofs.read_number.Statement.{statement}

@@ -1,11 +1,9 @@
 -- `leb128::write_number` meets its contract. The loop's invariant: what is left to write gives the bytes of the whole number (`Writing`).
 -- The measure is what is left of the number.
-use Prim.Native.Nat.{_+_, _≤_}
 use mathlib.Core.Path.{refl}
 use native.Mathlib.Omega.{arith}
 use borrow.Author.Needs.{needs}
-use lib.ListN.{length, length-set}
-use Rattle.leb128.specs.Leb128.{encode}
+use lib.ListN.{length-set}
 use Rattle.leb128.proofs.Encoding.{encode-size}
 use Rattle.leb128.proofs.Writing.{Writing, turn, written, no-room}
 use Rattle.leb128.proofs.write_number.Statement.{statement}
