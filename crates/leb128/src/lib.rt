@@ -70,7 +70,7 @@ pub fn number_size(v: u32) -> usize
         2
     } else if v < 2097152 {
         3
-    } else if v < 268435456 {
+    } else if v < FIFTH {
         4
     } else {
         5
