@@ -1,0 +1,5 @@
+pub mod Encoding
+pub mod Decoding
+pub mod Reading
+pub mod Writing
+pub mod Theorems

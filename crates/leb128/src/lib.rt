@@ -1,0 +1,100 @@
+// Numbers in groups of seven bits, lowest first: unsigned LEB128 of 32 bits.
+ghost use mathlib.Core.Path.{_≡_};
+ghost use lib.ListN.{length};
+ghost use Rattle.leb128.specs.Leb128.{encode, readAt, writeAt};
+
+// What a reader finds at a place of the bytes.
+pub enum Number {
+    // A number, and the place behind its last byte.
+    Value { value: u32, next: usize },
+    // The bytes end before the number does.
+    Missing,
+    // The fifth group is above 0F.
+    OutOfRange,
+}
+
+// What a writer did.
+pub enum Written {
+    // It wrote the number; the place behind its last byte.
+    Next(usize),
+    // The number does not fit, and nothing was written.
+    NoRoom,
+}
+
+// The weight of the fifth group, 2^28.
+const FIFTH: u32 = 268435456;
+
+// The number at a place of the bytes.
+pub fn read_number(bytes: &[u8], at: usize) -> Number
+    ensures { λ r. ⌜ r ≡ readAt (now (bytes .entry)) at ⌝ }
+{
+    let mut value: u32 = 0;
+    let mut weight: u32 = 1;
+    let mut i = at;
+    while weight < FIFTH {
+        if bytes.len() <= i {
+            return Number::Missing;
+        }
+        let group = bytes[i] as u32;
+        if group < 128 {
+            return Number::Value {
+                value: value + weight * group,
+                next: i + 1,
+            };
+        }
+        value += weight * (group - 128);
+        weight *= 128;
+        i += 1;
+    }
+    if bytes.len() <= i {
+        return Number::Missing;
+    }
+    let group = bytes[i] as u32;
+    if group < 16 {
+        Number::Value {
+            value: value + FIFTH * group,
+            next: i + 1,
+        }
+    } else {
+        Number::OutOfRange
+    }
+}
+
+// How many groups a number takes.
+pub fn number_size(v: u32) -> usize
+    ensures { λ r. ⌜ r ≡ length (encode v) ⌝ }
+{
+    if v < 128 {
+        1
+    } else if v < 16384 {
+        2
+    } else if v < 2097152 {
+        3
+    } else if v < FIFTH {
+        4
+    } else {
+        5
+    }
+}
+
+// Writes a number at a place of `out`, if there is room for it.
+pub fn write_number(out: &mut [u8], at: usize, v: u32) -> Written
+    ensures { λ r. ⌜ (r, now (out .exit)) ≡ writeAt (now (out .entry)) at v ⌝ }
+{
+    let size = number_size(v);
+    if out.len() < at {
+        return Written::NoRoom;
+    }
+    if out.len() - at < size {
+        return Written::NoRoom;
+    }
+    let mut rest = v;
+    let mut i = at;
+    while 128 <= rest {
+        out[i] = (rest % 128 + 128) as u8;
+        rest /= 128;
+        i += 1;
+    }
+    out[i] = rest as u8;
+    Written::Next(i + 1)
+}
