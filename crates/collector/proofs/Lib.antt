@@ -1,0 +1,4 @@
+pub mod Node
+pub mod MarkAll
+pub mod Marks
+pub mod Agreement
