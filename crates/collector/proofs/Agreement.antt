@@ -3,11 +3,13 @@ use Prim.Native.Nat.{ℕ, zero, suc, _<_, _≤_}
 use native.Mathlib.Omega.{arith}
 use native.Mathlib.Decide.{ℕ-discrete, decLe}
 use mathlib.Core.Path.{_≡_, refl, sym, _∙_}
+use mathlib.Core.Bool.{true, false}
 use mathlib.Core.List.{List, [], _∷_, List·Memᴰ, List·Memᴰ·head, List·Memᴰ·tail}
+use borrow.Author.Tests.{eq-eqb, ne-eqb}
 use Rattle.graph.specs.Graph.{Graph}
 use Rattle.graph.proofs.Dfs.{mark, marks, Dfs}
 use Rattle.pool.specs.Layout.{poolLength, cell, setCell, state, left, right}
-use Rattle.collector.specs.Reversal.{markAll}
+use Rattle.collector.specs.Reversal.{unmarked, markAll}
 use Rattle.collector.specs.ReversalTheorem.{Agreement, Untouched}
 use Rattle.collector.proofs.Node.{setNode, length-setNode, cell-setNode, state-setNode, setNode-links}
 use Rattle.collector.proofs.Marks.{mark-same, mark-other, fresh}
@@ -24,6 +26,16 @@ module _ (R n : ℕ) (g : Graph) where
       bounded : Dec (x ≤ n) → x ≤ n
       bounded (yes h) = h
       bounded (no h) = absurd (omega (arith, a .past x (omega arith)))
+
+  -- the test of a link in the words tells whether it is marked
+  pub unmarked-true : {m : ℕ → ℕ} {w : List ℕ} → Agreement R n g m w → (x : ℕ) → m x ≡ 0 → unmarked R w x ≡ true
+  unmarked-true {w = w} a x e =
+      let hx = unmarked-cell a x e .0 in simp (ne-eqb x 0 (omega arith), eq-eqb (state R w x) 0 (a .unmarked x e .state))
+
+  pub unmarked-false : {m : ℕ → ℕ} {w : List ℕ} → Agreement R n g m w → (x : ℕ) → x ≤ n → 0 < m x → unmarked R w x ≡ false
+  unmarked-false a zero hn h = refl
+  unmarked-false {w = w} a (suc x) hn h =
+      let hs = a .marked (suc x) (omega arith) hn h in simp (ne-eqb (suc x) 0 (omega arith), ne-eqb (state R w (suc x)) 0 (omega arith))
 
   -- the state and the links of a cell are written, and the cell is marked from then on
   pub agreement-setNode : {m : ℕ → ℕ} {w : List ℕ} → Agreement R n g m w → (m′ : ℕ → ℕ) (p s l r : ℕ) → 0 < p → p ≤ n → 0 < s → 0 < m′ p
@@ -73,3 +85,8 @@ module _ (R n : ℕ) (g : Graph) where
   -- so, too, after a visit: the next one can start
   pub agreement-dfs : {m : ℕ → ℕ} {w : List ℕ} {p : ℕ} {t : List ℕ} → Agreement R n g m w → Dfs g m p t → Agreement R n g (marks m t) (markAll R w t)
   agreement-dfs {t = t} a d = agreement-markAll t a λ x mem. unmarked-cell a x (fresh d x mem)
+
+  -- what a visit newly marks are cells, other than one that is marked
+  pub away : {m : ℕ → ℕ} {w : List ℕ} {l : ℕ} {t : List ℕ} → Agreement R n g m w → Dfs g m l t → (p : ℕ) → 0 < m p
+      → (x : ℕ) → List·Memᴰ x t → (0 < x) × (x ≡ p → ⊥)
+  away {m} a d p hm x mem = let e = fresh d x mem in (unmarked-cell a x e .0, λ e′. let z : m p ≡ 0 = rw (← e′) e in omega arith)

@@ -2,3 +2,5 @@ pub mod Node
 pub mod MarkAll
 pub mod Marks
 pub mod Agreement
+pub mod Run
+pub mod Roots

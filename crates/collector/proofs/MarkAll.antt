@@ -9,6 +9,7 @@ use Rattle.pool.specs.Layout.{poolLength, cell, setCell, state, register, head,
 use Rattle.pool.proofs.Laws.{length-setCell, register-setCell, head-setCell, count-setCell, cell-same, cell-other, setCell-comm}
 use native.Mathlib.Decide.{ℕ-discrete}
 use Rattle.collector.specs.Reversal.{markAll}
+use Rattle.collector.proofs.Node.{setNode}
 
 module _ (R : ℕ) where
   -- every part of the words that a write of a state leaves as it is
@@ -83,3 +84,13 @@ module _ (R : ℕ) where
   pub state-markAll-same : (i : ℕ) → 0 < i → (t : List ℕ) → ((x : ℕ) → List·Memᴰ x t → 0 < x) → List·Memᴰ i t → (w : List ℕ)
       → poolLength R i ≤ length w → state R (markAll R w t) i ≡ 3
   state-markAll-same i hi t cells mem w room = marked i hi t cells w room (inr mem)
+
+  -- a cell that is not in the list can be written before or after
+  pub markAll-setNode : (p s l r : ℕ) → 0 < p → (t : List ℕ) → ((x : ℕ) → List·Memᴰ x t → (0 < x) × (x ≡ p → ⊥)) → (w : List ℕ)
+      → markAll R (setNode R w p s l r) t ≡ setNode R (markAll R w t) p s l r
+  markAll-setNode p s l r hp t away w =
+      past 2 r (omega arith) (setCell R (setCell R w p 0 s) p 1 l)
+      ∙ ap (λ w. setCell R w p 2 r) (past 1 l (omega arith) (setCell R w p 0 s) ∙ ap (λ w. setCell R w p 1 l) (past 0 s (omega arith) w))
+    where
+      past : (f v : ℕ) → f < 4 → (w : List ℕ) → markAll R (setCell R w p f v) t ≡ setCell R (markAll R w t) p f v
+      past f v hf = markAll-setCell p f v hp hf t λ x mem. (away x mem .0, λ e. away x mem .1 (omega arith))

@@ -26,6 +26,13 @@ unfolding marks
 marks-unmarked [] m x e = e
 marks-unmarked (y ∷ ys) m x e = mark-unmarked m y x (marks-unmarked ys (mark m y) x e)
 
+pub marks-marked : (t : List ℕ) (m : ℕ → ℕ) (x : ℕ) → 0 < m x → 0 < marks m t x
+marks-marked t m x h = stays (ℕ-discrete (marks m t x) 0)
+  where
+    stays : Dec (marks m t x ≡ 0) → 0 < marks m t x
+    stays (yes e) = absurd (omega (arith, marks-unmarked t m x e))
+    stays (no e) = omega arith
+
 -- what a visit newly marks was unmarked
 pub fresh : {g : Graph} {m : ℕ → ℕ} {p : ℕ} {t : List ℕ} → Dfs g m p t → (x : ℕ) → List·Memᴰ x t → m x ≡ 0
 fresh (Dfs.stop h) x mem = absurd (List·Memᴰ·not-nil mem)

@@ -29,6 +29,10 @@ module _ (R : ℕ) (w : List ℕ) (p : ℕ) (positive : 0 < p) where
   setNode-links s =
       simp (← lower-first 1 0 (omega arith) (omega arith), ← lower-first 2 0 (omega arith) (omega arith), setCell-cell)
 
+  -- writing all that is there changes nothing
+  pub setNode-same : {s l r : ℕ} → state R w p ≡ s → left R w p ≡ l → right R w p ≡ r → setNode R w p s l r ≡ w
+  setNode-same es el er = rw (← es, ← el, ← er) (setNode-links (state R w p) ∙ setCell-cell R w p 0)
+
   -- the links do not change a state
   pub state-setLinks : (l r x : ℕ) → 0 < x → state R (setCell R (setCell R w p 1 l) p 2 r) x ≡ state R w x
   state-setLinks l r x hx =
@@ -59,3 +63,25 @@ module _ (R : ℕ) (w : List ℕ) (p : ℕ) (positive : 0 < p) where
 
     pub right-setNode : right R (setNode R w p s l r) p ≡ r
     right-setNode = cell-same R (setCell R (setCell R w p 0 s) p 1 l) p 2 r positive (omega arith) (simp length-setCell room)
+
+-- The cell p is one of the n cells of the words, and its state and links are s, l and r.
+pub record Node (R n : ℕ) (w : List ℕ) (p s l r : ℕ) : Type 0 where
+  pub positive : 0 < p
+  pub bounded : p ≤ n
+  pub room : poolLength R n ≤ length w
+  pub state : state R w p ≡ s
+  pub left : left R w p ≡ l
+  pub right : right R w p ≡ r
+
+-- So it is once they are written.
+pub node-set : (R n : ℕ) (w : List ℕ) (p s l r : ℕ) → 0 < p → p ≤ n → poolLength R n ≤ length w → Node R n (setNode R w p s l r) p s l r
+node-set R n w p s l r hp hn room =
+    let fits : poolLength R p ≤ length w = omega arith in
+    record {
+      positive = hp;
+      bounded = hn;
+      room = rw length-setNode room;
+      state = state-setNode R w p hp fits s l r;
+      left = left-setNode R w p hp fits s l r;
+      right = right-setNode R w p hp fits s l r;
+    }
