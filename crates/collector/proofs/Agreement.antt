@@ -12,17 +12,13 @@ use Rattle.pool.specs.Layout.{poolLength, cell, setCell, state, left, right}
 use Rattle.collector.specs.Reversal.{unmarked, markAll}
 use Rattle.collector.specs.ReversalTheorem.{Agreement, Untouched}
 use Rattle.collector.proofs.Node.{setNode, length-setNode, cell-setNode, state-setNode, setNode-links}
-use Rattle.collector.proofs.Marks.{mark-same, mark-other, fresh}
+use Rattle.collector.proofs.Marks.{not-nil, mark-same, mark-other, fresh}
 
 module _ (R n : ℕ) (g : Graph) where
   -- what is unmarked is a cell
   pub unmarked-cell : {m : ℕ → ℕ} {w : List ℕ} → Agreement R n g m w → (x : ℕ) → m x ≡ 0 → (0 < x) × (x ≤ n)
-  unmarked-cell {m} a x e = (positive x e, bounded (decLe x n))
+  unmarked-cell {m} a x e = (not-nil m (a .nil) x e, bounded (decLe x n))
     where
-      positive : (x : ℕ) → m x ≡ 0 → 0 < x
-      positive zero e = absurd (omega (arith, a .nil))
-      positive (suc x) e = omega arith
-
       bounded : Dec (x ≤ n) → x ≤ n
       bounded (yes h) = h
       bounded (no h) = absurd (omega (arith, a .past x (omega arith)))

@@ -4,3 +4,4 @@ pub mod Marks
 pub mod Agreement
 pub mod Run
 pub mod Roots
+pub mod Congruence

@@ -1,5 +1,5 @@
 -- The marks before and after a visit: a mark stays, and a visit newly marks only what was unmarked.
-use Prim.Native.Nat.{ℕ, _<_}
+use Prim.Native.Nat.{ℕ, zero, suc, _<_}
 use native.Mathlib.Omega.{arith}
 use native.Mathlib.Decide.{ℕ-discrete}
 use mathlib.Core.Path.{_≡_, refl, sym, _∙_}
@@ -8,6 +8,11 @@ use mathlib.Core.List.{List, [], _∷_, List·Memᴰ, List·Memᴰ·cases-cons, 
 use borrow.Author.Tests.{eq-eqb, ne-eqb}
 use Rattle.graph.specs.Graph.{Graph}
 use Rattle.graph.proofs.Dfs.{mark, marks, Dfs}
+
+-- where nil is marked, what is unmarked is not nil
+pub not-nil : (m : ℕ → ℕ) → 0 < m 0 → (x : ℕ) → m x ≡ 0 → 0 < x
+not-nil m h zero e = absurd (omega arith)
+not-nil m h (suc x) e = omega arith
 
 module _ (m : ℕ → ℕ) (p : ℕ) where
   pub mark-same : 0 < mark m p p
