@@ -5,3 +5,4 @@ pub mod Agreement
 pub mod Run
 pub mod Roots
 pub mod Congruence
+pub mod Measure
