@@ -6,3 +6,5 @@ pub mod Run
 pub mod Roots
 pub mod Congruence
 pub mod Measure
+pub mod Every
+pub mod WellFormed
