@@ -8,7 +8,7 @@ use mathlib.Core.List.{List, [], _∷_, List·Memᴰ, List·Memᴰ·head, List·
 use borrow.Author.Tests.{eq-eqb, ne-eqb}
 use Rattle.graph.specs.Graph.{Graph}
 use Rattle.graph.proofs.Dfs.{mark, marks, Dfs}
-use Rattle.pool.specs.Layout.{poolLength, cell, setCell, state, left, right}
+use Rattle.pool.specs.Layout.{cell, state, left, right}
 use Rattle.collector.specs.Reversal.{unmarked, markAll}
 use Rattle.collector.specs.ReversalTheorem.{Agreement, Untouched}
 use Rattle.collector.proofs.Node.{setNode, length-setNode, cell-setNode, state-setNode, setNode-links}

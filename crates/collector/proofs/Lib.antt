@@ -3,8 +3,9 @@ pub mod MarkAll
 pub mod Marks
 pub mod Agreement
 pub mod Run
-pub mod Roots
 pub mod Congruence
-pub mod Measure
 pub mod Every
 pub mod WellFormed
+pub mod Roots
+pub mod Measure
+pub mod Loop

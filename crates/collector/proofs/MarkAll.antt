@@ -1,19 +1,20 @@
 -- Reading the words in which every cell of a list has state 3.
-use Prim.Native.Nat.{ℕ, suc, _+_, _*_, _<_, _≤_}
+use Prim.Native.Nat.{ℕ, _+_, _*_, _<_, _≤_}
 use native.Mathlib.Omega.{arith}
-use mathlib.Core.Path.{_≡_, refl, ap, sym, _∙_}
+use native.Mathlib.Decide.{ℕ-discrete}
+use mathlib.Core.Path.{_≡_, refl, ap, _∙_}
 use mathlib.Core.Logic.{_⊎_, inl, inr, ⊎-elim}
 use mathlib.Core.List.{List, [], _∷_, _++_, List·Memᴰ, List·Memᴰ·head, List·Memᴰ·tail, List·Memᴰ·cases-cons, Memᴰ·cast, List·Memᴰ·not-nil}
 use lib.ListN.{length}
 use Rattle.pool.specs.Layout.{poolLength, cell, setCell, state, register, head, count}
 use Rattle.pool.proofs.Laws.{length-setCell, register-setCell, head-setCell, count-setCell, cell-same, cell-other, setCell-comm}
-use native.Mathlib.Decide.{ℕ-discrete}
 use Rattle.collector.specs.Reversal.{markAll}
 use Rattle.collector.proofs.Node.{setNode}
 
 module _ (R : ℕ) where
   -- every part of the words that a write of a state leaves as it is
-  kept : {A : Type 0} (part : List ℕ → A) → ((w : List ℕ) (x : ℕ) → part (setCell R w x 0 3) ≡ part w) → (w t : List ℕ) → part (markAll R w t) ≡ part w
+  kept : {A : Type 0} (part : List ℕ → A) → ((w : List ℕ) (x : ℕ) → part (setCell R w x 0 3) ≡ part w) → (w t : List ℕ)
+      → part (markAll R w t) ≡ part w
   unfolding markAll
   kept part same w [] = refl
   kept part same w (x ∷ xs) = kept part same (setCell R w x 0 3) xs ∙ same w x
@@ -81,6 +82,7 @@ module _ (R : ℕ) where
           ⊎-elim (λ e. inl (cell-other R w x 0 3 i 0 (cells x (List·Memᴰ·head refl)) (omega arith) hi (omega arith) (λ e′. apart (omega arith)) ∙ e))
           (λ m. ⊎-elim (λ e. absurd (apart e)) (λ m′. inr m′) (List·Memᴰ·cases-cons m)) mem
 
+  -- so the state of a cell of the list is 3
   pub state-markAll-same : (i : ℕ) → 0 < i → (t : List ℕ) → ((x : ℕ) → List·Memᴰ x t → 0 < x) → List·Memᴰ i t → (w : List ℕ)
       → poolLength R i ≤ length w → state R (markAll R w t) i ≡ 3
   state-markAll-same i hi t cells mem w room = marked i hi t cells w room (inr mem)

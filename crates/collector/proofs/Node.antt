@@ -1,12 +1,13 @@
 -- The words with the state and both links of one cell written, as a visit writes them, and the laws of reading and writing these.
-use Prim.Native.Nat.{ℕ, suc, _+_, _*_, _<_, _≤_}
+use Prim.Native.Nat.{ℕ, _<_, _≤_}
 use native.Mathlib.Omega.{arith}
-use mathlib.Core.Path.{_≡_, refl, ap, sym, _∙_}
+use mathlib.Core.Path.{_≡_, _∙_}
 use mathlib.Core.List.{List}
 use lib.ListN.{length}
 use Rattle.pool.specs.Layout.{poolLength, cell, setCell, state, left, right}
 use Rattle.pool.proofs.Laws.{length-setCell, cell-same, cell-other, setCell-again, setCell-comm, setCell-cell}
 
+-- State s, left link l and right link r in the cell p.
 abbrev pub setNode : ℕ → List ℕ → ℕ → ℕ → ℕ → ℕ → List ℕ
 setNode R w p s l r = setCell R (setCell R (setCell R w p 0 s) p 1 l) p 2 r
 
@@ -22,7 +23,12 @@ module _ (R : ℕ) (w : List ℕ) (p : ℕ) (positive : 0 < p) where
   -- the last writes count
   pub setNode-again : (s l r s′ l′ r′ : ℕ) → setNode R (setNode R w p s l r) p s′ l′ r′ ≡ setNode R w p s′ l′ r′
   setNode-again s l r s′ l′ r′ =
-      simp (lower-first 1 0 (omega arith) (omega arith), lower-first 2 0 (omega arith) (omega arith), lower-first 2 1 (omega arith) (omega arith), setCell-again)
+      simp (
+        lower-first 1 0 (omega arith) (omega arith),
+        lower-first 2 0 (omega arith) (omega arith),
+        lower-first 2 1 (omega arith) (omega arith),
+        setCell-again,
+      )
 
   -- writing the links that are there leaves a write of the state
   pub setNode-links : (s : ℕ) → setNode R w p s (left R w p) (right R w p) ≡ setCell R w p 0 s

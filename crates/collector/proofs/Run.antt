@@ -1,22 +1,22 @@
 -- Marking by link reversal: from (p, q), with p unmarked, three visits for each cell newly marked lead to (q, p).
 use Prim.Native.Nat.{ℕ, zero, suc, _+_, _*_, _<_, _≤_}
 use native.Mathlib.Omega.{arith}
-use mathlib.Core.Path.{_≡_, refl, sym, ap, subst, _∙_}
+use mathlib.Core.Path.{_≡_, refl, sym, subst, _∙_}
 use mathlib.Core.Bool.{Bool, true, false, cond, _||_}
-use mathlib.Core.List.{List, [], _∷_, _++_, List·Memᴰ}
+use mathlib.Core.List.{List, _∷_, _++_}
 use lib.ListN.{length, length-append}
 use lib.Dec.{eqb}
-use borrow.Author.Tests.{eq-eqb, ne-eqb}
+use borrow.Author.Tests.{ne-eqb}
 use Rattle.graph.specs.Graph.{Graph}
 use Rattle.graph.proofs.Dfs.{mark, marks, Dfs}
-use Rattle.pool.specs.Layout.{poolLength, cell, setCell, state, left, right}
+use Rattle.pool.specs.Layout.{poolLength, setCell, state, left, right}
 use Rattle.pool.proofs.Laws.{cell-same, cell-other}
 use Rattle.collector.specs.declared.Marker.{Marker}
 use Rattle.collector.specs.Reversal.{unmarked, visitOf, Visitable, Visits, markAll}
 use Rattle.collector.specs.ReversalTheorem.{Agreement, Untouched, marker, RunFromLink}
 use Rattle.collector.proofs.Node.{setNode, state-setLinks, setNode-again, setNode-links, setNode-same, Node, node-set}
-use Rattle.collector.proofs.MarkAll.{markAll-setCell, markAll-append, field-markAll, length-markAll, markAll-setNode}
-use Rattle.collector.proofs.Marks.{marks-marked, mark-same, mark-other, fresh}
+use Rattle.collector.proofs.MarkAll.{markAll-append, length-markAll, markAll-setNode}
+use Rattle.collector.proofs.Marks.{marks-marked, mark-same, mark-other}
 use Rattle.collector.proofs.Agreement.{unmarked-cell, unmarked-true, unmarked-false, agreement-setNode, agreement-dfs, away}
 
 -- The run from (p, q) to (q, p), where the visit of p newly marks t.
@@ -28,8 +28,8 @@ Run R n g m p t =
 module _ (R n : ℕ) where
   -- visits compose
   pub visits-append : {k j : ℕ} {s t u : Marker × List ℕ} → Visits R n k s t → Visits R n j t u → Visits R n (k + j) s u
-  visits-append {j = j} {s} {u = u} Visits.done b = subst (λ (i : ℕ). Visits R n i s u) (omega arith) b
-  visits-append {j = j} {s} {u = u} (Visits.more {k = k} v a) b =
+  visits-append {s = s} {u = u} Visits.done b = subst (λ (i : ℕ). Visits R n i s u) (omega arith) b
+  visits-append {s = s} {u = u} (Visits.more v a) b =
       subst (λ (i : ℕ). Visits R n i s u) (omega arith) (Visits.more v (visits-append a b))
 
   -- a visit of a cell whose state and links are s, l and r, where the outcome b of the test is known
@@ -66,8 +66,10 @@ module _ (R n : ℕ) where
     turn w room s l r q c hs hl b e {k} {t} rest =
         let h = node-set R n w p s l r positive bounded room in
         let again = setNode-again R w p positive s l r (suc s) r q in
+        let visitable : Visitable R n (marker p q c, setNode R w p s l r) =
+        record { positive = positive; bounded = bounded; early = rw (h .state) hs; link = rw (h .state, h .left) hl } in
         let after : Visits R n k (visitOf R (marker p q c, setNode R w p s l r)) t = rw (visit-of h q c b (rw again e), again) rest in
-        Visits.more {s = (marker p q c, setNode R w p s l r)} (record { positive = positive; bounded = bounded; early = rw (h .state) hs; link = rw (h .state, h .left) hl }) after
+        Visits.more visitable after
 
     module _ (g : Graph) where
       -- Half of the work at p, whose state is 0 or 1: a visit, and then, if the link l that comes next is unmarked, all that it leads to. From (p, q) it
@@ -91,7 +93,8 @@ module _ (R n : ℕ) (g : Graph) where
       → Dfs g (marks (mark m p) t) (g .right p) u → Run R n g (marks (mark m p) t) (g .right p) u → Run R n g m p (p ∷ (t ++ u))
   unfolding markAll
   both {m} {p} {t} {u} dl runl dr runr e w a q c =
-      recount R n (simp length-append (omega arith)) (simp length-append (omega arith)) all (visits-append R n (visits-append R n first second) third)
+      recount R n (simp length-append (omega arith)) (simp length-append (omega arith)) all
+      (visits-append R n (visits-append R n first second) third)
     where
       l : ℕ
       l = g .left p

@@ -3,17 +3,16 @@ use Prim.Native.Nat.{ℕ, zero, suc, _<_, _≤_}
 use native.Mathlib.Omega.{arith}
 use native.Mathlib.Decide.{decLe}
 use mathlib.Core.Path.{_≡_, refl, sym, _∙_}
-use mathlib.Core.Logic.{_↔_}
-use mathlib.Core.Bool.{Bool, true, false, cond, _&&_, and-eq-true-iff}
+use mathlib.Core.Bool.{true, cond, _&&_, and-eq-true-iff}
 use mathlib.Core.List.{List, List·Memᴰ}
 use lib.ListN.{length}
 use lib.Dec.{leb}
 use borrow.Author.Tests.{ne-eqb, le-leb, lt-leb, leb-true, eqb-true}
-use Rattle.graph.specs.Graph.{Graph, Reach, Within}
+use Rattle.graph.specs.Graph.{Reach, Within}
 use Rattle.pool.specs.Layout.{poolLength, state, left, right, register, graphOf, rootsOf}
 use Rattle.pool.specs.Words.{every}
 use Rattle.pool.specs.Validity.{validLink, validCell, wellFormed, isUsed}
-use Rattle.collector.specs.ReversalTheorem.{Agreement, Untouched}
+use Rattle.collector.specs.ReversalTheorem.{Agreement}
 use Rattle.collector.proofs.Every.{every-elim, tabulate-elim}
 use Rattle.collector.proofs.Congruence.{Alike}
 
@@ -62,7 +61,9 @@ module _ (R n : ℕ) (w : List ℕ) where
         and-eq-true-iff _ _ .0 (rw (used .2) at (every-elim n (λ k. validCell R n w (suc k)) (tests .1) x (omega arith)))
 
     root-valid : (x : ℕ) → List·Memᴰ x (rootsOf R w) → validLink R n w x ≡ true
-    root-valid x mem = let (k, h, e) = tabulate-elim R (λ k. register w k) x mem in rw e (every-elim R (λ k. validLink R n w (register w k)) (tests .0) k h)
+    root-valid x mem =
+        let (k, h, e) = tabulate-elim R (λ k. register w k) x mem in
+        rw e (every-elim R (λ k. validLink R n w (register w k)) (tests .0) k h)
 
     -- what the registers reach is used
     pub reached-used : {x : ℕ} → Reach (graphOf R w) (rootsOf R w) x → Used R n w x

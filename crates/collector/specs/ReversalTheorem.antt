@@ -6,7 +6,8 @@ use mathlib.Core.List.{List, [], _∷_, List·Memᴰ}
 use lib.ListN.{length}
 use Rattle.graph.specs.Graph.{Graph}
 use Rattle.graph.proofs.Dfs.{Dfs, DfsAll}
-use Rattle.pool.specs.Layout.{poolLength, state, left, right}
+use Rattle.pool.specs.Layout.{poolLength, state, left, right, graphOf, rootsOf}
+use Rattle.pool.specs.Validity.{wellFormed}
 use Rattle.collector.specs.declared.Marker.{Marker}
 use Rattle.collector.specs.Reversal.{unmarked, Visits, markAll}
 
@@ -33,8 +34,8 @@ abbrev pub marker : ℕ → ℕ → ℕ → Marker
 marker p q c = record { cell = p; previous = q; visits = c }
 
 -- Where p is unmarked and the depth-first visit of p newly marks the cells t, three visits for each of them lead from (p, q) to (q, p), whatever
--- q is: every cell of t then has state 3, all links are as before, and no other word is changed. It is said of words in which any marked cells
--- lie on the path to p, so it holds of each link that the marking follows, as in 001, and not of the roots alone.
+-- q is: every cell of t then has state 3, all links are as before, and no other word is changed. As in 001 this holds of every link that the
+-- marking follows, not of the roots alone: the words may hold marked cells on the path from the virtual root to p, their links rotated.
 abbrev pub RunFromLink : Type 0
 RunFromLink =
     (R n : ℕ) (g : Graph) (m : ℕ → ℕ) (p : ℕ) (t w : List ℕ) → Agreement R n g m w → Dfs g m p t → m p ≡ 0 → (q c : ℕ)
@@ -54,3 +55,10 @@ abbrev pub RunFromRoots : Type 0
 RunFromRoots =
     (R n : ℕ) (g : Graph) (m : ℕ → ℕ) (ps t w : List ℕ) → Agreement R n g m w → DfsAll g m ps t → ((x : ℕ) → List·Memᴰ x ps → x ≤ n) → (c : ℕ)
     → MarkRoots R n ps (c, w) (c + 3 * length t, markAll R w t)
+
+-- The same of a well-formed pool of n cells and its registers, where the order t is that of its graph from marks m that leave every cell
+-- unmarked. (A free cell has state 4 and so counts as marked, but no free cell is reached.)
+abbrev pub RunOverPool : Type 0
+RunOverPool =
+    (R n : ℕ) (m : ℕ → ℕ) (t w : List ℕ) → poolLength R n ≤ length w → wellFormed R n w ≡ true → 0 < m 0 → ((x : ℕ) → 0 < x → x ≤ n → m x ≡ 0)
+    → DfsAll (graphOf R w) m (rootsOf R w) t → (c : ℕ) → MarkRoots R n (rootsOf R w) (c, w) (c + 3 * length t, markAll R w t)
