@@ -1,0 +1,11 @@
+pub mod Node
+pub mod MarkAll
+pub mod Marks
+pub mod Agreement
+pub mod Run
+pub mod Congruence
+pub mod Every
+pub mod WellFormed
+pub mod Roots
+pub mod Measure
+pub mod Loop

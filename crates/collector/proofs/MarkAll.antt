@@ -1,0 +1,98 @@
+-- Reading the words in which every cell of a list has state 3.
+use Prim.Native.Nat.{ℕ, _+_, _*_, _<_, _≤_}
+use native.Mathlib.Omega.{arith}
+use native.Mathlib.Decide.{ℕ-discrete}
+use mathlib.Core.Path.{_≡_, refl, ap, _∙_}
+use mathlib.Core.Logic.{_⊎_, inl, inr, ⊎-elim}
+use mathlib.Core.List.{List, [], _∷_, _++_, List·Memᴰ, List·Memᴰ·head, List·Memᴰ·tail, List·Memᴰ·cases-cons, Memᴰ·cast, List·Memᴰ·not-nil}
+use lib.ListN.{length}
+use Rattle.pool.specs.Layout.{poolLength, cell, setCell, state, register, head, count}
+use Rattle.pool.proofs.Laws.{length-setCell, register-setCell, head-setCell, count-setCell, cell-same, cell-other, setCell-comm}
+use Rattle.collector.specs.Reversal.{markAll}
+use Rattle.collector.proofs.Node.{setNode}
+
+module _ (R : ℕ) where
+  -- every part of the words that a write of a state leaves as it is
+  kept : {A : Type 0} (part : List ℕ → A) → ((w : List ℕ) (x : ℕ) → part (setCell R w x 0 3) ≡ part w) → (w t : List ℕ)
+      → part (markAll R w t) ≡ part w
+  unfolding markAll
+  kept part same w [] = refl
+  kept part same w (x ∷ xs) = kept part same (setCell R w x 0 3) xs ∙ same w x
+
+  pub length-markAll : (w t : List ℕ) → length (markAll R w t) ≡ length w
+  length-markAll = kept length λ w x. length-setCell R w x 0 3
+
+  pub register-markAll : (k : ℕ) → k < R → (w t : List ℕ) → register (markAll R w t) k ≡ register w k
+  register-markAll k hk = kept (λ w. register w k) λ w x. register-setCell R w x 0 3 k hk
+
+  pub head-markAll : (w t : List ℕ) → head (markAll R w t) ≡ head w
+  head-markAll = kept head λ w x. head-setCell R w x 0 3
+
+  pub count-markAll : (w t : List ℕ) → count (markAll R w t) ≡ count w
+  count-markAll = kept count λ w x. count-setCell R w x 0 3
+
+  -- one list after the other
+  pub markAll-append : (w t u : List ℕ) → markAll R w (t ++ u) ≡ markAll R (markAll R w t) u
+  unfolding markAll
+  markAll-append w [] u = refl
+  markAll-append w (x ∷ xs) u = markAll-append (setCell R w x 0 3) xs u
+
+  -- a write of a field that is no state of a cell of the list can be made before or after
+  pub markAll-setCell : (i f v : ℕ) → 0 < i → f < 4 → (t : List ℕ) → ((x : ℕ) → List·Memᴰ x t → (0 < x) × (4 * x ≡ 4 * i + f → ⊥)) → (w : List ℕ)
+      → markAll R (setCell R w i f v) t ≡ setCell R (markAll R w t) i f v
+  unfolding markAll
+  markAll-setCell i f v hi hf [] away w = refl
+  markAll-setCell i f v hi hf (x ∷ xs) away w =
+      let here = away x (List·Memᴰ·head refl) in
+      ap (λ w. markAll R w xs) (setCell-comm R w i f v x 0 3 hi hf (here .0) (omega arith) λ e. here .1 (omega arith))
+      ∙ markAll-setCell i f v hi hf xs (λ y mem. away y (List·Memᴰ·tail mem)) (setCell R w x 0 3)
+
+  -- a field that is no state of a cell of the list is as before
+  cell-markAll : (i f : ℕ) → 0 < i → f < 4 → (t : List ℕ) → ((x : ℕ) → List·Memᴰ x t → (0 < x) × (4 * x ≡ 4 * i + f → ⊥)) → (w : List ℕ)
+      → cell R (markAll R w t) i f ≡ cell R w i f
+  unfolding markAll
+  cell-markAll i f hi hf [] away w = refl
+  cell-markAll i f hi hf (x ∷ xs) away w =
+      let here = away x (List·Memᴰ·head refl) in
+      cell-markAll i f hi hf xs (λ y mem. away y (List·Memᴰ·tail mem)) (setCell R w x 0 3)
+      ∙ cell-other R w x 0 3 i f (here .0) (omega arith) hi hf λ e. here .1 (omega arith)
+
+  -- the links and the values are as before
+  pub field-markAll : (i f : ℕ) → 0 < i → 0 < f → f < 4 → (t : List ℕ) → ((x : ℕ) → List·Memᴰ x t → 0 < x) → (w : List ℕ)
+      → cell R (markAll R w t) i f ≡ cell R w i f
+  field-markAll i f hi hf hf′ t cells = cell-markAll i f hi hf′ t λ x mem. (cells x mem, λ e. omega arith)
+
+  -- the state of a cell that is not in the list is as before
+  pub state-markAll-other : (i : ℕ) → 0 < i → (t : List ℕ) → ((x : ℕ) → List·Memᴰ x t → 0 < x) → (List·Memᴰ i t → ⊥) → (w : List ℕ)
+      → state R (markAll R w t) i ≡ state R w i
+  state-markAll-other i hi t cells out =
+      cell-markAll i 0 hi (omega arith) t λ x mem. (cells x mem, λ e. out (Memᴰ·cast (omega arith) mem))
+
+  -- a cell that is in the list, or has state 3 before, has state 3
+  marked : (i : ℕ) → 0 < i → (t : List ℕ) → ((x : ℕ) → List·Memᴰ x t → 0 < x) → (w : List ℕ) → poolLength R i ≤ length w
+      → (state R w i ≡ 3) ⊎ List·Memᴰ i t → state R (markAll R w t) i ≡ 3
+  unfolding markAll
+  marked i hi [] cells w room mem = ⊎-elim (λ e. e) (λ m. absurd (List·Memᴰ·not-nil m)) mem
+  marked i hi (x ∷ xs) cells w room mem =
+      marked i hi xs (λ y m. cells y (List·Memᴰ·tail m)) (setCell R w x 0 3) (simp length-setCell room) (first (ℕ-discrete i x))
+    where
+      first : Dec (i ≡ x) → (state R (setCell R w x 0 3) i ≡ 3) ⊎ List·Memᴰ i xs
+      first (yes e) = inl (rw (← e) (cell-same R w i 0 3 hi (omega arith) room))
+      first (no apart) =
+          ⊎-elim (λ e. inl (cell-other R w x 0 3 i 0 (cells x (List·Memᴰ·head refl)) (omega arith) hi (omega arith) (λ e′. apart (omega arith)) ∙ e))
+          (λ m. ⊎-elim (λ e. absurd (apart e)) (λ m′. inr m′) (List·Memᴰ·cases-cons m)) mem
+
+  -- so the state of a cell of the list is 3
+  pub state-markAll-same : (i : ℕ) → 0 < i → (t : List ℕ) → ((x : ℕ) → List·Memᴰ x t → 0 < x) → List·Memᴰ i t → (w : List ℕ)
+      → poolLength R i ≤ length w → state R (markAll R w t) i ≡ 3
+  state-markAll-same i hi t cells mem w room = marked i hi t cells w room (inr mem)
+
+  -- a cell that is not in the list can be written before or after
+  pub markAll-setNode : (p s l r : ℕ) → 0 < p → (t : List ℕ) → ((x : ℕ) → List·Memᴰ x t → (0 < x) × (x ≡ p → ⊥)) → (w : List ℕ)
+      → markAll R (setNode R w p s l r) t ≡ setNode R (markAll R w t) p s l r
+  markAll-setNode p s l r hp t away w =
+      past 2 r (omega arith) (setCell R (setCell R w p 0 s) p 1 l)
+      ∙ ap (λ w. setCell R w p 2 r) (past 1 l (omega arith) (setCell R w p 0 s) ∙ ap (λ w. setCell R w p 1 l) (past 0 s (omega arith) w))
+    where
+      past : (f v : ℕ) → f < 4 → (w : List ℕ) → markAll R (setCell R w p f v) t ≡ setCell R (markAll R w t) p f v
+      past f v hf = markAll-setCell p f v hp hf t λ x mem. (away x mem .0, λ e. away x mem .1 (omega arith))

@@ -1,0 +1,41 @@
+-- The runs over the links of the roots.
+use Prim.Native.Nat.{ℕ, suc, _+_, _*_, _≤_}
+use native.Mathlib.Omega.{arith}
+use mathlib.Core.Path.{_≡_, refl, sym}
+use mathlib.Core.List.{List, _∷_, _++_, List·Memᴰ, List·Memᴰ·head, List·Memᴰ·tail}
+use lib.ListN.{length, length-append}
+use Rattle.graph.specs.Graph.{Graph}
+use Rattle.graph.proofs.Dfs.{marks, Dfs, DfsAll}
+use Rattle.pool.specs.Layout.{graphOf, rootsOf}
+use Rattle.collector.specs.Reversal.{markAll}
+use Rattle.collector.specs.ReversalTheorem.{Agreement, MarkRoots, RunFromRoots, RunOverPool}
+use Rattle.collector.proofs.MarkAll.{markAll-append}
+use Rattle.collector.proofs.Agreement.{unmarked-true, unmarked-false, agreement-dfs}
+use Rattle.collector.proofs.Congruence.{dfs-all-alike}
+use Rattle.collector.proofs.WellFormed.{stateMarks, within, agreement, alike}
+use Rattle.collector.proofs.Run.{run-from-link}
+
+module _ (R n : ℕ) (g : Graph) where
+  recount : {ps : List ℕ} {s : ℕ × List ℕ} {c c′ : ℕ} {w w′ : List ℕ} → c ≡ c′ → w ≡ w′ → MarkRoots R n ps s (c, w) → MarkRoots R n ps s (c′, w′)
+  recount ec ew v = rw (← ec, ← ew) v
+
+  runs : {m : ℕ → ℕ} {ps t : List ℕ} → DfsAll g m ps t → (w : List ℕ) → Agreement R n g m w → ((x : ℕ) → List·Memᴰ x ps → x ≤ n) → (c : ℕ)
+      → MarkRoots R n ps (c, w) (c + 3 * length t, markAll R w t)
+  unfolding marks markAll
+  runs DfsAll.none w a bound c = recount (omega arith) refl MarkRoots.none
+  runs (DfsAll.next {p = p} (Dfs.stop marked) rest) w a bound c =
+      MarkRoots.skip (unmarked-false R n g a p (bound p (List·Memᴰ·head refl)) marked) (runs rest w a (λ x mem. bound x (List·Memᴰ·tail mem)) c)
+  runs (DfsAll.next {u = v} (Dfs.step {m = m} {p = p} {t = t} {u = u} e dl dr) rest) w a bound c =
+      let d = Dfs.step e dl dr in
+      let new : List ℕ = p ∷ (t ++ u) in
+      recount (simp length-append (omega arith)) (sym (markAll-append R w new v))
+      (MarkRoots.run (unmarked-true R n g a p e) (run-from-link R n g m p new w a d e (suc n) c)
+      (runs rest (markAll R w new) (agreement-dfs R n g a d) (λ x mem. bound x (List·Memᴰ·tail mem)) (c + 3 * length new)))
+
+pub run-from-roots : RunFromRoots
+run-from-roots R n g m ps t w a d bound c = runs R n g d w a bound c
+
+pub run-over-pool : RunOverPool
+run-over-pool R n m t w room well nil cells d c =
+    run-from-roots R n (graphOf R w) (stateMarks R n w) (rootsOf R w) t w (agreement R n w well room) (dfs-all-alike (alike R n w well m nil cells) d)
+    (within R n w well .root) c

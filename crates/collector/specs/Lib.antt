@@ -1,0 +1,2 @@
+pub mod Reversal
+pub mod ReversalTheorem

@@ -1,0 +1,42 @@
+-- Marking by link reversal (01, "Marking by reversal", after source document 000).
+use Prim.Native.Nat.{ℕ, zero, suc, _+_, _<_, _≤_}
+use mathlib.Core.List.{List, [], _∷_}
+use mathlib.Core.Bool.{Bool, cond, _||_, _&&_, not}
+use lib.Dec.{eqb}
+use Rattle.pool.specs.Layout.{state, left, right, setCell}
+use Rattle.collector.specs.declared.Marker.{Marker}
+
+-- "nil counts as marked and is never visited": a link is unmarked if it is a cell's number and that cell has state 0.
+abbrev pub unmarked : ℕ → List ℕ → ℕ → Bool
+unmarked R w x = not (eqb x 0) && eqb (state R w x) 0
+
+-- One visit: p is the cell in hand and q its predecessor. "add 1 to m[p]; if m[p] is now 3 or l[p] has state 0, then p, l[p], r[p], q become
+-- l[p], r[p], q, p; else l[p], r[p], q become r[p], q, l[p]". Both write r[p] to l[p] and q to r[p]; they differ in p and q.
+unfoldable pub visitOf : ℕ → Marker × List ℕ → Marker × List ℕ
+visitOf R s =
+    let p = s .0 .cell in
+    let l = left R (s .1) p in
+    let w = setCell R (s .1) p 0 (suc (state R (s .1) p)) in (
+      cond (eqb (state R w p) 3 || unmarked R w l)
+          (record { cell = l; previous = p; visits = suc (s .0 .visits) })
+          (record { cell = p; previous = l; visits = suc (s .0 .visits) }),
+      setCell R (setCell R w p 1 (right R w p)) p 2 (s .0 .previous),
+    )
+
+-- What a visit may rely on: the cell in hand is one of the n cells and was visited at most twice; and, unless this is its third visit, its
+-- left link is nil or a cell, so that no state but a cell's is ever read. The virtual root is no cell.
+pub record Visitable (R n : ℕ) (s : Marker × List ℕ) : Type 0 where
+  pub positive : 0 < s .0 .cell
+  pub bounded : s .0 .cell ≤ n
+  pub early : state R (s .1) (s .0 .cell) < 3
+  pub link : state R (s .1) (s .0 .cell) < 2 → left R (s .1) (s .0 .cell) ≤ n
+
+-- `Visits R n k s t`: k visits, one after the other, lead from s to t, and each may rely on what it needs.
+pub data Visits (R n : ℕ) : ℕ → Marker × List ℕ → Marker × List ℕ → Type 0 where
+  done : {s : Marker × List ℕ} → Visits R n 0 s s
+  more : {k : ℕ} {s t : Marker × List ℕ} → Visitable R n s → Visits R n k (visitOf R s) t → Visits R n (suc k) s t
+
+-- The words with state 3 in every cell of a list.
+unfoldable pub markAll : ℕ → List ℕ → List ℕ → List ℕ
+markAll R w [] = w
+markAll R w (x ∷ xs) = markAll R (setCell R w x 0 3) xs
