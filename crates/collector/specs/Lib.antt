@@ -1,2 +1,3 @@
 pub mod Reversal
+pub mod Collect
 pub mod ReversalTheorem

@@ -1,0 +1,84 @@
+-- Demand 3, for every list of calls: the pool answers as the reference model does.
+use Prim.Native.Nat.{ℕ, _≤_, _<_, min, max}
+use mathlib.Core.Path.{_≡_}
+use mathlib.Core.Logic.{_↔_}
+use mathlib.Core.List.{List, [], _∷_, List·Memᴰ}
+use mathlib.Core.Bool.{Bool, true, false, _&&_, not}
+use lib.Dec.{leb, ltb}
+use Rattle.graph.specs.Theorems.{Distinct}
+use Rattle.pool.specs.Layout.{registerCount, cellLimit, cellsOf, state}
+use Rattle.pool.specs.Validity.{wellFormed}
+use Rattle.pool.specs.Retain.{freshWords, freeList}
+use Rattle.pool.specs.Outcome.{Outcome, refused}
+use Rattle.calls.specs.declared.Call.{Call}
+use Rattle.calls.specs.declared.Call.the-variants as call
+use Rattle.calls.specs.Answers.{compared}
+use Rattle.calls.specs.Calls.{callOf}
+use Rattle.calls.specs.Model.{Model, empty, live, valid, modelOf}
+
+-- "each call gets what the one before it left, refused or not": the answers of the pool, an accepted "new" without its visits.
+unfoldable pub poolAnswers : List Call → List ℕ → List Outcome
+poolAnswers [] w = []
+poolAnswers (c ∷ cs) w = compared c ((callOf c w) .0) ∷ poolAnswers cs ((callOf c w) .1)
+
+-- The answers of the reference model with limit L.
+unfoldable pub modelAnswers : ℕ → List Call → Model → List Outcome
+modelAnswers L [] m = []
+modelAnswers L (c ∷ cs) m = (modelOf L c m) .0 ∷ modelAnswers L cs ((modelOf L c m) .1)
+
+-- Does this call tell a pool of N cells from a limit of L? A "new" with valid registers does, where it finds "at least min(N, L) and fewer than
+-- max(N, L) live cells".
+abbrev pub tells : ℕ → ℕ → Call → Model → Bool
+tells N L (call.Copy r a) m = false
+tells N L (call.Clear r) m = false
+tells N L (call.New r a b v) m = valid r a b && leb (min N L) (live m) && ltb (live m) (max N L)
+tells N L (call.Left r a) m = false
+tells N L (call.Right r a) m = false
+tells N L (call.SetLeft a b) m = false
+tells N L (call.SetRight a b) m = false
+tells N L (call.SetValue a v) m = false
+tells N L (call.Value a) m = false
+tells N L (call.Same a b) m = false
+tells N L call.Collect m = false
+
+-- No call of the list tells them apart, in the run of the reference model.
+unfoldable pub noneTells : ℕ → ℕ → List Call → Model → Bool
+noneTells N L [] m = true
+noneTells N L (c ∷ cs) m = not (tells N L c m) && noneTells N L cs ((modelOf L c m) .1)
+
+-- Demand 3: "the pool's answers equal those of the never-collecting ledger with limit L exactly when no `new` with valid registers finds at least
+-- min(N, L) and fewer than max(N, L) live cells".
+abbrev pub Equivalence : Type 0
+Equivalence =
+    (N L : ℕ) (calls : List Call) → 1 ≤ N → N ≤ cellLimit
+    → (poolAnswers calls (freshWords registerCount N) ≡ modelAnswers L calls empty) ↔ (noneTells N L calls empty ≡ true)
+
+-- With L = N they are always equal.
+abbrev pub EquivalenceAtLimit : Type 0
+EquivalenceAtLimit =
+    (N : ℕ) (calls : List Call) → 1 ≤ N → N ≤ cellLimit → poolAnswers calls (freshWords registerCount N) ≡ modelAnswers N calls empty
+
+-- The words that a list of calls leaves.
+unfoldable pub poolAfter : List Call → List ℕ → List ℕ
+poolAfter [] w = w
+poolAfter (c ∷ cs) w = poolAfter cs ((callOf c w) .1)
+
+-- The free list has every free cell once, and nothing else.
+pub record ExactFreeList (n : ℕ) (w : List ℕ) : Type 0 where
+  pub once : Distinct (freeList registerCount n w)
+  pub free : (i : ℕ) → List·Memᴰ i (freeList registerCount n w) → (0 < i) × (i ≤ n) × (state registerCount w i ≡ 4)
+  pub all : (i : ℕ) → 0 < i → i ≤ n → state registerCount w i ≡ 4 → List·Memᴰ i (freeList registerCount n w)
+
+-- Every pool that calls lead to from fresh words is a pool of N cells, well-formed, and its free list has every free cell once.
+abbrev pub ReachedPools : Type 0
+ReachedPools =
+    (N : ℕ) (calls : List Call) → 1 ≤ N → N ≤ cellLimit
+    → (cellsOf registerCount (poolAfter calls (freshWords registerCount N)) ≡ N)
+    × (wellFormed registerCount N (poolAfter calls (freshWords registerCount N)) ≡ true)
+    × ExactFreeList N (poolAfter calls (freshWords registerCount N))
+
+-- "Refusals .. 1 and 3 never come": no list of calls on a fresh pool is ever refused with 1 or 3.
+abbrev pub NeverMalformed : Type 0
+NeverMalformed =
+    (N : ℕ) (calls : List Call) → 1 ≤ N → N ≤ cellLimit → (o : Outcome) → List·Memᴰ o (poolAnswers calls (freshWords registerCount N))
+    → (o ≡ refused 1 → ⊥) × (o ≡ refused 3 → ⊥)

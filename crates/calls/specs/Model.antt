@@ -1,0 +1,86 @@
+-- The reference model (01: the ledger): it never collects, and it is fed the calls and nothing from the pool.
+use Prim.Native.Nat.{ℕ, suc, _+_, _*_, _-_}
+use mathlib.Core.List.{List, [], _∷_, _++_}
+use mathlib.Core.Bool.{Bool, cond, _&&_}
+use lib.ListN.{length, getD, set, replicate}
+use lib.Dec.{eqb, leb, ltb}
+use Rattle.graph.specs.Graph.{Graph}
+use Rattle.graph.specs.Order.{order}
+use Rattle.pool.specs.Layout.{registerCount}
+use Rattle.pool.specs.Outcome.{Outcome, answered, refused}
+use Rattle.calls.specs.declared.Call.{Call}
+use Rattle.calls.specs.declared.Call.the-variants as call
+
+-- "a list of cells (left, right, value) that only grows, and sixteen registers, each nil or a place in that list". Places count from 1; 0 is nil.
+pub record Entry : Type 0 where
+  pub left : ℕ
+  pub right : ℕ
+  pub value : ℕ
+
+pub record Model : Type 0 where
+  pub cells : List Entry
+  pub registers : List ℕ
+
+-- "Fresh is no cells and all nil."
+abbrev pub empty : Model
+empty = record { cells = []; registers = replicate registerCount 0 }
+
+-- The cell at a place, and the cells with another one at that place.
+abbrev pub entry : Model → ℕ → Entry
+entry m x = getD (m .cells) (x - 1) (record { left = 0; right = 0; value = 0 })
+
+abbrev pub replace : Model → ℕ → Entry → Model
+replace m x e = record { cells = set (m .cells) (x - 1) e; registers = m .registers }
+
+abbrev pub held : Model → ℕ → ℕ
+held m k = getD (m .registers) k 0
+
+abbrev pub hold : Model → ℕ → ℕ → Model
+hold m k x = record { cells = m .cells; registers = set (m .registers) k x }
+
+abbrev pub modelGraph : Model → Graph
+modelGraph m = record { left = λ x. (entry m x) .left; right = λ x. (entry m x) .right }
+
+-- "Live is the number of cells reached from the registers over left and right."
+abbrev pub live : Model → ℕ
+live m = length (order (length (m .cells)) (modelGraph m) (m .registers))
+
+-- "A call's registers are valid if all their numbers are below 16." A refused call changes nothing.
+abbrev pub valid : ℕ → ℕ → ℕ → Bool
+valid r a b = ltb r registerCount && ltb a registerCount && ltb b registerCount
+
+abbrev pub named : Model → ℕ → ℕ → ℕ → Outcome × Model → Outcome × Model
+named m r a b x = cond (valid r a b) x (refused 2, m)
+
+-- "does a hold a cell? No: 4."
+abbrev pub onCell : Model → ℕ → Outcome × Model → Outcome × Model
+onCell m a x = cond (eqb (held m a) 0) (refused 4, m) x
+
+-- "new with valid registers finds the live count as it stands before it: it is refused with 5 if that is L or more ..; otherwise it appends its
+-- cell, and r gets that cell's place."
+abbrev pub append : Model → ℕ → ℕ → ℕ → ℕ → Model
+append m r a b v =
+    record {
+      cells = m .cells ++ (record { left = held m a; right = held m b; value = v } ∷ []);
+      registers = set (m .registers) r (suc (length (m .cells)));
+    }
+
+-- One call, with the limit L.
+abbrev pub modelOf : ℕ → Call → Model → Outcome × Model
+modelOf L (call.Copy r a) m = named m r a a (answered [], hold m r (held m a))
+modelOf L (call.Clear r) m = named m r r r (answered [], hold m r 0)
+modelOf L (call.New r a b v) m = named m r a b (cond (leb L (live m)) (refused 5, m) (answered [], append m r a b v))
+modelOf L (call.Left r a) m = named m r a a (onCell m a (answered [], hold m r ((entry m (held m a)) .left)))
+modelOf L (call.Right r a) m = named m r a a (onCell m a (answered [], hold m r ((entry m (held m a)) .right)))
+modelOf L (call.SetLeft a b) m =
+    let e = entry m (held m a) in
+    named m a b b (onCell m a (answered [], replace m (held m a) (record { left = held m b; right = e .right; value = e .value })))
+modelOf L (call.SetRight a b) m =
+    let e = entry m (held m a) in
+    named m a b b (onCell m a (answered [], replace m (held m a) (record { left = e .left; right = held m b; value = e .value })))
+modelOf L (call.SetValue a v) m =
+    let e = entry m (held m a) in
+    named m a a a (onCell m a (answered [], replace m (held m a) (record { left = e .left; right = e .right; value = v })))
+modelOf L (call.Value a) m = named m a a a (onCell m a (answered ((entry m (held m a)) .value ∷ []), m))
+modelOf L (call.Same a b) m = named m a b b (answered (cond (eqb (held m a) (held m b)) 1 0 ∷ []), m)
+modelOf L call.Collect m = (answered (live m ∷ 3 * live m ∷ []), m)

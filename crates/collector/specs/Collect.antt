@@ -1,0 +1,38 @@
+-- A collection (01, "Marking by reversal", "The sweep"): what it keeps, what it answers and what it leaves.
+use Prim.Native.Nat.{ℕ, _*_}
+use mathlib.Core.List.{List, [], _∷_}
+use mathlib.Core.Bool.{Bool, cond}
+use lib.ListN.{length}
+use lib.Dec.{ltb}
+use Rattle.graph.specs.Order.{has, order}
+use Rattle.pool.specs.Layout.{registerCount, cellsOf, graphOf, rootsOf}
+use Rattle.pool.specs.Validity.{wellFormed}
+use Rattle.pool.specs.Retain.{retain}
+use Rattle.pool.specs.Outcome.{Outcome, answered, refused}
+
+-- The cells that the registers reach, in depth-first order.
+abbrev pub reachedCells : ℕ → ℕ → List ℕ → List ℕ
+reachedCells R n w = order n (graphOf R w) (rootsOf R w)
+
+-- Is the cell reached?
+abbrev pub isReached : ℕ → ℕ → List ℕ → ℕ → Bool
+isReached R n w i = has i (reachedCells R n w)
+
+-- How many cells are kept: those that are reached.
+abbrev pub keptCells : ℕ → ℕ → List ℕ → ℕ
+keptCells R n w = length (reachedCells R n w)
+
+-- The words after a collection: every reached cell is used, its links and its value as before, and every other cell is on the ascending chain.
+abbrev pub collected : ℕ → ℕ → List ℕ → List ℕ
+collected R n w = retain R n (isReached R n w) w
+
+-- A collection of a pool of n cells: "is the pool whole? No: 3"; then kept, and three visits for each kept cell.
+abbrev pub collectIn : ℕ → List ℕ → Outcome × List ℕ
+collectIn n w =
+    cond (wellFormed registerCount n w)
+    (answered (keptCells registerCount n w ∷ 3 * keptCells registerCount n w ∷ []), collected registerCount n w)
+    (refused 3, w)
+
+-- The call: the first question, then the collection.
+abbrev pub collectOf : List ℕ → Outcome × List ℕ
+collectOf w = let n = cellsOf registerCount w in cond (ltb 0 n) (collectIn n w) (refused 1, w)
