@@ -10,11 +10,11 @@ use Rattle.pool.specs.Layout.{registerCount, cellLimit, cellsOf, state}
 use Rattle.pool.specs.Validity.{wellFormed}
 use Rattle.pool.specs.Retain.{freshWords, freeList}
 use Rattle.pool.specs.Outcome.{Outcome, refused}
 use Rattle.calls.specs.declared.Call.{Call}
 use Rattle.calls.specs.declared.Call.the-variants as call
 use Rattle.calls.specs.Answers.{compared}
 use Rattle.calls.specs.Calls.{callOf}
-use Rattle.calls.specs.Model.{Model, empty, live, valid, modelOf}
+use Rattle.reference.specs.Model.{Model, empty, live, valid, modelOf}
 
 -- "each call gets what the one before it left, refused or not": the answers of the pool, an accepted "new" without its visits.
 unfoldable pub poolAnswers : List Call → List ℕ → List Outcome
