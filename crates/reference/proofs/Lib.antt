@@ -1,0 +1,4 @@
+pub mod Pigeonhole
+pub mod FreeList
+pub mod Fit
+pub mod Taken
