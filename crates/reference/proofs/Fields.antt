@@ -1,0 +1,75 @@
+-- The fields of a cell, in the pool and in the reference model: left, right and value.
+use Prim.Native.Nat.{ℕ, _-_, _<_, _≤_}
+use native.Mathlib.Omega.{arith}
+use mathlib.Core.Path.{_≡_, refl}
+use mathlib.Core.List.{List, [], _∷_}
+use lib.ListN.{length, getD, set}
+use Rattle.reference.specs.Model.{Entry}
+
+pub data Field : Type 0 where
+  left : Field
+  right : Field
+  value : Field
+
+-- The number of a field in the pool's cells.
+abbrev pub number : Field → ℕ
+number left = 1
+number right = 2
+number value = 3
+
+pub number-above : (f : Field) → 0 < number f
+number-above left = omega arith
+number-above right = omega arith
+number-above value = omega arith
+
+pub number-below : (f : Field) → number f < 4
+number-below left = omega arith
+number-below right = omega arith
+number-below value = omega arith
+
+-- A field of a cell of the reference model, and the cell with another value there.
+abbrev pub get : Field → Entry → ℕ
+get left e = e .left
+get right e = e .right
+get value e = e .value
+
+abbrev pub put : Field → Entry → ℕ → Entry
+put left e v = record { left = v; right = e .right; value = e .value }
+put right e v = record { left = e .left; right = v; value = e .value }
+put value e v = record { left = e .left; right = e .right; value = v }
+
+-- What a field leads to is related by P, or, where it is the value, equal.
+abbrev pub Related : (ℕ → ℕ → Type 0) → Field → ℕ → ℕ → Type 0
+Related P left x y = P x y
+Related P right x y = P x y
+Related P value x y = x ≡ y
+
+-- The links of a cell are at most k.
+abbrev pub Linked : ℕ → Entry → Type 0
+Linked k e = (e .left ≤ k) × (e .right ≤ k)
+
+pub put-linked : (k : ℕ) (f : Field) (e : Entry) (v : ℕ) → Linked k e → (number f < 3 → v ≤ k) → Linked k (put f e v)
+put-linked k left e v old new = (new (omega arith), old .1)
+put-linked k right e v old new = (old .0, new (omega arith))
+put-linked k value e v old new = old
+
+-- What P holds of, it holds of after a write of what it holds of.
+pub set-holds : {A : Type 0} (P : A → Type 0) (l : List A) (i j : ℕ) (v d : A) → P (getD l j d) → P v → P (getD (set l i v) j d)
+set-holds P [] i j v d old new = old
+set-holds P (x ∷ l) ℕ.zero ℕ.zero v d old new = new
+set-holds P (x ∷ l) ℕ.zero (ℕ.suc j) v d old new = old
+set-holds P (x ∷ l) (ℕ.suc i) ℕ.zero v d old new = old
+set-holds P (x ∷ l) (ℕ.suc i) (ℕ.suc j) v d old new = set-holds P l i j v d old new
+
+-- A field after a write is related where the field written is, and every other one was.
+pub put-related : (P : ℕ → ℕ → Type 0) (f g : Field) (e : Entry) (u v : ℕ) (read : ℕ) → Related P f u v
+    → (number f ≡ number g → read ≡ u) → ((number f ≡ number g → ⊥) → Related P g read (get g e)) → Related P g read (get g (put f e v))
+put-related P left left e u v read new here there = rw (here refl) new
+put-related P left right e u v read new here there = there (λ q. omega arith)
+put-related P left value e u v read new here there = there (λ q. omega arith)
+put-related P right left e u v read new here there = there (λ q. omega arith)
+put-related P right right e u v read new here there = rw (here refl) new
+put-related P right value e u v read new here there = there (λ q. omega arith)
+put-related P value left e u v read new here there = there (λ q. omega arith)
+put-related P value right e u v read new here there = there (λ q. omega arith)
+put-related P value value e u v read new here there = rw (here refl) new

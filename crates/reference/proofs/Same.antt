@@ -1,0 +1,108 @@
+-- A pool and the reference model show the same: their cells are paired from the registers on, one to one, with equal values.
+use Prim.Native.Nat.{ℕ, suc, _<_, _≤_}
+use native.Mathlib.Omega.{arith}
+use mathlib.Core.Path.{_≡_, refl, sym, _∙_}
+use mathlib.Core.Logic.{⊎-elim}
+use mathlib.Core.List.{List, [], _∷_}
+use lib.ListN.{length, getD}
+use Rattle.graph.specs.Graph.{Within, Reach}
+use Rattle.graph.specs.Compare.{Paired, OneToOne}
+use Rattle.graph.proofs.Lists.{Each, each-nil, each-cons}
+use Rattle.graph.proofs.Marks.{zero-or-above}
+use Rattle.graph.proofs.Pairing.{paired-least, paired-reach, pairing-kept, length-paired}
+use Rattle.pool.specs.Layout.{registerCount, register, cell, value, graphOf, rootsOf}
+use Rattle.pool.proofs.Every.{length-tabulate, getD-tabulate}
+use Rattle.pool.proofs.WellFormed.{Link, well-formed-made}
+use Rattle.collector.specs.Collect.{keptCells}
+use Rattle.collector.proofs.WellFormed.{Used, reached-used, within}
+use Rattle.reference.specs.Model.{Model, entry, held, modelGraph, live}
+use Rattle.reference.proofs.Fit.{Fit}
+use Rattle.reference.proofs.Fields.{Field, number, get, Related, Linked}
+
+-- A link of the pool and one of the reference model that the same register leads to, over the same lefts and rights.
+abbrev pub Pair : List ℕ → Model → ℕ → ℕ → Type 0
+Pair w m = Paired (graphOf registerCount w) (rootsOf registerCount w) (modelGraph m) (m .registers)
+
+-- Every register and every link of the reference model is nil or a place.
+pub record Bounded (m : Model) : Type 0 where
+  pub registers : length (m .registers) ≡ registerCount
+  pub roots : (k : ℕ) → held m k ≤ length (m .cells)
+  pub cells : (x : ℕ) → Linked (length (m .cells)) (entry m x)
+
+pub record Same (w : List ℕ) (m : Model) : Type 0 where
+  pub bounded : Bounded m
+  pub one-to-one : OneToOne (Pair w m)
+  pub values : (x y : ℕ) → Pair w m x y → 0 < x → 0 < y → value registerCount w x ≡ (entry m y) .value
+
+-- So it is a graph of its cells.
+each-place : (P : ℕ → Type 0) (l : List ℕ) → ((k : ℕ) → P (getD l k 0)) → Each P l
+each-place P [] at = each-nil P
+each-place P (x ∷ l) at = each-cons P (at 0) (each-place P l (λ k. at (suc k)))
+
+model-within : {m : Model} → Bounded m → Within (length (m .cells)) (modelGraph m) (m .registers)
+model-within {m} b =
+    record {
+      root = each-place (λ x. x ≤ length (m .cells)) (m .registers) (b .roots);
+      left = λ x r. b .cells x .0;
+      right = λ x r. b .cells x .1;
+    }
+
+-- That holds where it does of any one-to-one relation that the registers have, and cells that have it pass on to their fields.
+pub same-made : (w : List ℕ) (m : Model) (P : ℕ → ℕ → Type 0) → OneToOne P → Bounded m
+    → ((k : ℕ) → k < registerCount → P (register w k) (held m k))
+    → ((x y : ℕ) → P x y → 0 < x → 0 < y → (f : Field) → Related P f (cell registerCount w x (number f)) (get f (entry m y)))
+    → Same w m
+same-made w m P one bounded roots fields =
+    record {
+      bounded = bounded;
+      one-to-one = pairing-kept (graphOf registerCount w) (rootsOf registerCount w) (modelGraph m) (m .registers) P one starts links;
+      values = λ x y pair hx hy. fields x y (paired-least P starts links pair) hx hy Field.value;
+    }
+  where
+    starts : (k : ℕ) → k < length (rootsOf registerCount w) → P (getD (rootsOf registerCount w) k 0) (held m k)
+    starts k low =
+        let below : k < registerCount = rw (length-tabulate registerCount (λ j. register w j)) at low in
+        rw (getD-tabulate registerCount (λ j. register w j) k 0 below) (roots k below)
+
+    links : (x y : ℕ) → P x y → 0 < x → 0 < y
+        → P (cell registerCount w x 1) ((entry m y) .left) × P (cell registerCount w x 2) ((entry m y) .right)
+    links x y pair hx hy = (fields x y pair hx hy Field.left, fields x y pair hx hy Field.right)
+
+module _ {w : List ℕ} {m : Model} (same : Same w m) where
+  pub root-pair : (k : ℕ) → k < registerCount → Pair w m (register w k) (held m k)
+  root-pair k low =
+      let start : Pair w m (getD (rootsOf registerCount w) k 0) (held m k) =
+      Paired.root k (rw (length-tabulate registerCount (λ j. register w j)) low) in
+      rw (getD-tabulate registerCount (λ j. register w j) k 0 low) at start
+
+  pub field-related : (x y : ℕ) → Pair w m x y → 0 < x → 0 < y → (f : Field)
+      → Related (Pair w m) f (cell registerCount w x (number f)) (get f (entry m y))
+  field-related x y pair hx hy Field.left = Paired.left pair hx hy
+  field-related x y pair hx hy Field.right = Paired.right pair hx hy
+  field-related x y pair hx hy Field.value = same .values x y pair hx hy
+
+  -- A link of the reference model that is paired is nil or a place.
+  pub pair-place : {x y : ℕ} → Pair w m x y → y ≤ length (m .cells)
+  pair-place =
+      paired-least (λ x y. y ≤ length (m .cells)) (λ i low. same .bounded .roots i)
+      (λ x y pair hx hy. (same .bounded .cells y .0, same .bounded .cells y .1))
+
+  module _ {N : ℕ} (fit : Fit N w) where
+    -- A link of the pool that is paired is nil or a used cell.
+    pub pair-used : {x y : ℕ} → Pair w m x y → 0 < x → Used registerCount N w x
+    pair-used pair some = reached-used registerCount N w (well-formed-made registerCount N w (fit .well)) (paired-reach pair some)
+
+    pub pair-link : {x y : ℕ} → Pair w m x y → Link registerCount N w x
+    pair-link {x} pair =
+        ⊎-elim Link.nil
+        (λ some.
+        let used = pair-used pair some in
+        Link.used some (used .1) (used .2))
+        (zero-or-above x)
+
+    -- As many cells are live as the pool keeps.
+    pub kept-live : keptCells registerCount N w ≡ live m
+    kept-live =
+        length-paired N (graphOf registerCount w) (rootsOf registerCount w) (length (m .cells)) (modelGraph m) (m .registers)
+        (within registerCount N w (well-formed-made registerCount N w (fit .well))) (model-within (same .bounded))
+        (length-tabulate registerCount (λ j. register w j) ∙ sym (same .bounded .registers)) (same .one-to-one)

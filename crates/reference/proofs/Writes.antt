@@ -1,0 +1,88 @@
+-- A pool and the reference model still show the same after the same write to both: of a register, or of a field of a cell.
+use Prim.Native.Nat.{ℕ, _-_, _<_, _≤_}
+use native.Mathlib.Omega.{arith}
+use native.Mathlib.Decide.{ℕ-discrete}
+use mathlib.Core.Path.{_≡_, refl, sym, subst, _∙_}
+use mathlib.Core.List.{List}
+use lib.ListN.{length, getD, set, length-set}
+use lib.Seq.{getD-set-same, getD-set-other}
+use Rattle.pool.specs.Layout.{registerCount, poolLength, register, setRegister, cell, setCell}
+use Rattle.pool.proofs.Laws.{register-same, register-other, cell-setRegister, register-setCell, cell-same, cell-other}
+use Rattle.reference.specs.Model.{Entry, Model, entry, held, hold, replace}
+use Rattle.reference.proofs.Fit.{Fit}
+use Rattle.reference.proofs.Fields.{Field, number, number-above, number-below, get, put, Related, Linked, put-linked, put-related, set-holds}
+use Rattle.reference.proofs.Same.{Pair, Bounded, Same, same-made, root-pair, field-related, pair-place, pair-used}
+
+module _ {N : ℕ} {w : List ℕ} {m : Model} (fit : Fit N w) (same : Same w m) where
+  pub same-hold : (r x y : ℕ) → r < registerCount → Pair w m x y → Same (setRegister w r x) (hold m r y)
+  same-hold r x y low pair =
+      same-made (setRegister w r x) (hold m r y) (Pair w m) (same .one-to-one)
+      (record {
+        registers = length-set (m .registers) r y ∙ same .bounded .registers;
+        roots = λ k. set-holds (λ z. z ≤ length (m .cells)) (m .registers) r k y 0 (same .bounded .roots k) (pair-place same pair);
+        cells = same .bounded .cells;
+      })
+      (λ k below. roots k below (ℕ-discrete k r))
+      (λ i j p hi hj f. rw (cell-setRegister registerCount w r x i (number f) low) (field-related same i j p hi hj f))
+    where
+      roots : (k : ℕ) → k < registerCount → Dec (k ≡ r) → Pair w m (register (setRegister w r x) k) (held (hold m r y) k)
+      roots k below (yes e) =
+          rw (
+            e,
+            register-same registerCount w r x (omega (arith, fit .sized .exact, fit .sized .least)),
+            getD-set-same (m .registers) r y 0 (omega (arith, same .bounded .registers)),
+          ) pair
+      roots k below (no e) =
+          rw (register-other registerCount w r x k e, getD-set-other (m .registers) r k y 0 e) (root-pair same k below)
+
+  related-place : (f : Field) (u v : ℕ) → Related (Pair w m) f u v → number f < 3 → v ≤ length (m .cells)
+  related-place Field.left u v pair link = pair-place same pair
+  related-place Field.right u v pair link = pair-place same pair
+  related-place Field.value u v e link = absurd (omega arith)
+
+  pub same-put : (f : Field) (x y u v : ℕ) → Pair w m x y → 0 < x → 0 < y → Related (Pair w m) f u v
+      → Same (setCell registerCount w x (number f) u) (replace m y (put f (entry m y) v))
+  same-put f x y u v pair hx hy new =
+      same-made after model (Pair w m) (same .one-to-one)
+      (record {
+        registers = same .bounded .registers;
+        roots = λ k. rw (length-set (m .cells) (y - 1) e) (same .bounded .roots k);
+        cells = λ j. rw (length-set (m .cells) (y - 1) e)
+            (set-holds (Linked (length (m .cells))) (m .cells) (y - 1) (j - 1) e _ (same .bounded .cells j)
+            (put-linked (length (m .cells)) f (entry m y) v (same .bounded .cells y) (related-place f u v new)));
+      })
+      (λ k below. rw (register-setCell registerCount w x (number f) u k below) (root-pair same k below))
+      (λ i j p hi hj g. go i j p hi hj g (ℕ-discrete i x))
+    where
+      e : Entry
+      e = put f (entry m y) v
+
+      after : List ℕ
+      after = setCell registerCount w x (number f) u
+
+      model : Model
+      model = replace m y e
+
+      room : poolLength registerCount x ≤ length w
+      room = omega (arith, fit .sized .exact, pair-used same fit pair hx .1)
+
+      -- the cell written, field by field, and every other cell
+      here : (g : Field) → Related (Pair w m) g (cell registerCount after x (number g)) (get g e)
+      here g =
+          put-related (Pair w m) f g (entry m y) u v (cell registerCount after x (number g)) new
+          (λ q. rw (← q) (cell-same registerCount w x (number f) u hx (number-below f) room))
+          (λ q. rw (cell-other registerCount w x (number f) u x (number g) hx (number-below f) hx (number-below g) (λ k. q (omega arith)))
+          (field-related same x y pair hx hy g))
+
+      go : (i j : ℕ) → Pair w m i j → 0 < i → 0 < j → (g : Field) → Dec (i ≡ x)
+          → Related (Pair w m) g (cell registerCount after i (number g)) (get g (entry model j))
+      go i j p hi hj g (yes q) =
+          let place : j ≡ y = same .one-to-one .forward x j y (subst (λ (z : ℕ). Pair w m z j) q p) pair in
+          rw (q, place, getD-set-same (m .cells) (y - 1) e (record { left = 0; right = 0; value = 0 }) (omega (arith, pair-place same pair))) (here g)
+      go i j p hi hj g (no q) =
+          let place : j - 1 ≡ y - 1 → ⊥ = λ k. q (same .one-to-one .backward i x y (subst (λ (z : ℕ). Pair w m i z) (omega arith) p) pair) in
+          rw (
+            cell-other registerCount w x (number f) u i (number g) hx (number-below f) hi (number-below g) (λ k. q (omega (arith, number-below f, number-below g))),
+            getD-set-other (m .cells) (y - 1) (j - 1) e (record { left = 0; right = 0; value = 0 }) place,
+          )
+          (field-related same i j p hi hj g)
