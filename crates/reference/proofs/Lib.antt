@@ -5,3 +5,4 @@ pub mod Taken
 pub mod Fields
 pub mod Same
 pub mod Writes
+pub mod Append
