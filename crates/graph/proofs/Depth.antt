@@ -10,7 +10,7 @@ use borrow.Author.Tests.{eq-eqb, ne-eqb}
 use Rattle.graph.specs.Graph.{Graph, Reach, Within}
 use Rattle.graph.specs.Order.{has, visit, visits, order}
 use Rattle.graph.specs.Marking.{outside, marked}
-use Rattle.graph.proofs.Dfs.{Dfs, DfsAll, mark, marks}
+use Rattle.graph.specs.Dfs.{Dfs, DfsAll, mark, marks}
 use Rattle.graph.proofs.Reached.{reach-within}
 use Rattle.graph.proofs.Lists.{Each}
 use Rattle.graph.proofs.Marks.{Cells, cells-outside, cells-marks, zero-or-above, marks-append, marks-cases, marks-member, outside-cell}
