@@ -6,3 +6,4 @@ pub mod PoolMarks
 pub mod Roots
 pub mod Measure
 pub mod Loop
+pub mod Collected

@@ -5,4 +5,5 @@ pub mod WellFormed
 pub mod PoolGraph
 pub mod Retained
 pub mod RetainedPool
+pub mod AllKept
 pub mod FreshPool
