@@ -7,17 +7,18 @@ use mathlib.Core.Bool.{true, false}
 use mathlib.Core.List.{List, [], _∷_, List·Memᴰ, List·Memᴰ·head, List·Memᴰ·tail}
 use borrow.Author.Tests.{eq-eqb, ne-eqb}
 use Rattle.graph.specs.Graph.{Graph}
-use Rattle.graph.proofs.Dfs.{mark, marks, Dfs}
+use Rattle.graph.specs.Dfs.{mark, marks, Dfs}
 use Rattle.pool.specs.Layout.{cell, state, left, right}
 use Rattle.collector.specs.Reversal.{unmarked, markAll}
 use Rattle.collector.specs.ReversalTheorem.{Agreement, Untouched}
 use Rattle.collector.proofs.Node.{setNode, length-setNode, cell-setNode, state-setNode, setNode-links}
-use Rattle.collector.proofs.Marks.{not-nil, mark-same, mark-other, fresh}
+use Rattle.graph.proofs.Marks.{above-nil, mark-self, mark-other}
+use Rattle.graph.proofs.Visits.{fresh}
 
 module _ (R n : ℕ) (g : Graph) where
   -- what is unmarked is a cell
   pub unmarked-cell : {m : ℕ → ℕ} {w : List ℕ} → Agreement R n g m w → (x : ℕ) → m x ≡ 0 → (0 < x) × (x ≤ n)
-  unmarked-cell {m} a x e = (not-nil m (a .nil) x e, bounded (decLe x n))
+  unmarked-cell {m} a x e = (above-nil m x (a .nil) e, bounded (decLe x n))
     where
       bounded : Dec (x ≤ n) → x ≤ n
       bounded (yes h) = h
@@ -75,7 +76,7 @@ module _ (R n : ℕ) (g : Graph) where
       let here = cells x (List·Memᴰ·head refl) in
       agreement-markAll xs
       (rw (setNode-links R w x (here .0)) at
-      (agreement-setNode a (mark m x) x 3 (left R w x) (right R w x) (here .0) (here .1) (omega arith) (mark-same m x) (mark-other m x)))
+      (agreement-setNode a (mark m x) x 3 (left R w x) (right R w x) (here .0) (here .1) (omega arith) (mark-self m x x refl) (mark-other m x)))
       λ y mem. cells y (List·Memᴰ·tail mem)
 
   -- so, too, after a visit: the next one can start

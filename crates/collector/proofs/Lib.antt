@@ -1,11 +1,9 @@
 pub mod Node
 pub mod MarkAll
-pub mod Marks
 pub mod Agreement
 pub mod Run
-pub mod Congruence
-pub mod Every
-pub mod WellFormed
+pub mod PoolMarks
 pub mod Roots
 pub mod Measure
 pub mod Loop
+pub mod Collected

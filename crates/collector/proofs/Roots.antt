@@ -5,14 +5,18 @@ use mathlib.Core.Path.{_≡_, refl, sym}
 use mathlib.Core.List.{List, _∷_, _++_, List·Memᴰ, List·Memᴰ·head, List·Memᴰ·tail}
 use lib.ListN.{length, length-append}
 use Rattle.graph.specs.Graph.{Graph}
-use Rattle.graph.proofs.Dfs.{marks, Dfs, DfsAll}
+use Rattle.graph.specs.Dfs.{marks, Dfs, DfsAll}
 use Rattle.pool.specs.Layout.{graphOf, rootsOf}
 use Rattle.collector.specs.Reversal.{markAll}
+use Rattle.collector.specs.Collect.{reachedCells}
 use Rattle.collector.specs.ReversalTheorem.{Agreement, MarkRoots, RunFromRoots, RunOverPool}
 use Rattle.collector.proofs.MarkAll.{markAll-append}
 use Rattle.collector.proofs.Agreement.{unmarked-true, unmarked-false, agreement-dfs}
-use Rattle.collector.proofs.Congruence.{dfs-all-alike}
-use Rattle.collector.proofs.WellFormed.{stateMarks, within, agreement, alike}
+use Rattle.graph.proofs.Congruence.{dfs-all-alike}
+use Rattle.graph.proofs.Depth.{order-dfs}
+use Rattle.pool.proofs.WellFormed.{well-formed-read}
+use Rattle.pool.proofs.PoolGraph.{pool-within}
+use Rattle.collector.proofs.PoolMarks.{stateMarks, agreement, alike}
 use Rattle.collector.proofs.Run.{run-from-link}
 
 module _ (R n : ℕ) (g : Graph) where
@@ -36,6 +40,8 @@ pub run-from-roots : RunFromRoots
 run-from-roots R n g m ps t w a d bound c = runs R n g d w a bound c
 
 pub run-over-pool : RunOverPool
-run-over-pool R n m t w room well nil cells d c =
-    run-from-roots R n (graphOf R w) (stateMarks R n w) (rootsOf R w) t w (agreement R n w well room) (dfs-all-alike (alike R n w well m nil cells) d)
-    (within R n w well .root) c
+run-over-pool R n w room well c =
+    let facts = well-formed-read R n w well in
+    let within = pool-within facts in
+    run-from-roots R n (graphOf R w) (stateMarks R n w) (rootsOf R w) (reachedCells R n w) w (agreement R n w facts room)
+    (dfs-all-alike (alike R n w facts) (order-dfs n (graphOf R w) (rootsOf R w) within)) (within .root) c

@@ -8,7 +8,7 @@ use lib.ListN.{length, length-append}
 use lib.Dec.{eqb}
 use borrow.Author.Tests.{ne-eqb}
 use Rattle.graph.specs.Graph.{Graph}
-use Rattle.graph.proofs.Dfs.{mark, marks, Dfs}
+use Rattle.graph.specs.Dfs.{mark, marks, Dfs}
 use Rattle.pool.specs.Layout.{poolLength, setCell, state, left, right}
 use Rattle.pool.proofs.Laws.{cell-same, cell-other}
 use Rattle.collector.specs.declared.Marker.{Marker}
@@ -16,7 +16,7 @@ use Rattle.collector.specs.Reversal.{unmarked, visitOf, Visitable, Visit
 use Rattle.collector.specs.ReversalTheorem.{Agreement, Untouched, marker, RunFromLink}
 use Rattle.collector.proofs.Node.{setNode, state-setLinks, setNode-again, setNode-links, setNode-same, Node, node-set}
 use Rattle.collector.proofs.MarkAll.{markAll-append, length-markAll, markAll-setNode}
-use Rattle.collector.proofs.Marks.{marks-marked, mark-same, mark-other}
+use Rattle.graph.proofs.Marks.{marks-keeps, mark-self, mark-other}
 use Rattle.collector.proofs.Agreement.{unmarked-cell, unmarked-true, unmarked-false, agreement-setNode, agreement-dfs, away}
 
 -- The run from (p, q) to (q, p), where the visit of p newly marks t.
@@ -115,14 +115,14 @@ module _ (R n : ℕ) (g : Graph) where
       w₂ = markAll R w₁ u
 
       stays : 0 < marks (mark m p) t p
-      stays = marks-marked t (mark m p) p (mark-same m p)
+      stays = marks-keeps (mark m p) t p (mark-self m p p refl)
 
       a₁ : Agreement R n g (mark m p) (setNode R w p 1 r q)
-      a₁ = agreement-setNode R n g a (mark m p) p 1 r q (here .0) (here .1) (omega arith) (mark-same m p) (mark-other m p)
+      a₁ = agreement-setNode R n g a (mark m p) p 1 r q (here .0) (here .1) (omega arith) (mark-self m p p refl) (mark-other m p)
 
       -- p can be written before or after its left link is followed
       past-left : (s l r : ℕ) → markAll R (setNode R w p s l r) t ≡ setNode R w₁ p s l r
-      past-left s l r = markAll-setNode R p s l r (here .0) t (away R n g a₁ dl p (mark-same m p)) w
+      past-left s l r = markAll-setNode R p s l r (here .0) t (away R n g a₁ dl p (mark-self m p p refl)) w
 
       a₂ : Agreement R n g (marks (mark m p) t) (setNode R w₁ p 2 q l)
       a₂ =
@@ -132,7 +132,7 @@ module _ (R n : ℕ) (g : Graph) where
       first : Visits R n (suc (3 * length t)) (marker p q c, w) (marker p l (suc c + 3 * length t), setNode R w₁ p 1 r q)
       first =
           rw (setNode-same R w p (here .0) (before .state) (before .left) (before .right)) at
-          (half R n p (here .0) (here .1) g dl runl w (a .room) 0 r q c (omega arith) (before .left-bound) (mark-same m p) a₁)
+          (half R n p (here .0) (here .1) g dl runl w (a .room) 0 r q c (omega arith) (before .left-bound) (mark-self m p p refl) a₁)
 
       second : Visits R n (suc (3 * length u)) (marker p l (suc c + 3 * length t), setNode R w₁ p 1 r q)
           (marker p r (suc (suc c + 3 * length t) + 3 * length u), setNode R w₂ p 2 q l)

@@ -5,11 +5,12 @@ use mathlib.Core.Bool.{true, false}
 use mathlib.Core.List.{List, [], _∷_, List·Memᴰ}
 use lib.ListN.{length}
 use Rattle.graph.specs.Graph.{Graph}
-use Rattle.graph.proofs.Dfs.{Dfs, DfsAll}
-use Rattle.pool.specs.Layout.{poolLength, state, left, right, graphOf, rootsOf}
+use Rattle.graph.specs.Dfs.{Dfs, DfsAll}
+use Rattle.pool.specs.Layout.{poolLength, state, left, right, rootsOf}
 use Rattle.pool.specs.Validity.{wellFormed}
 use Rattle.collector.specs.declared.Marker.{Marker}
 use Rattle.collector.specs.Reversal.{unmarked, Visits, markAll}
+use Rattle.collector.specs.Collect.{reachedCells, keptCells}
 
 -- What the words have to say of an unmarked cell x of the graph g of n cells: state 0, and the links of the graph, which are nil or cells.
 pub record Untouched (R n : ℕ) (g : Graph) (w : List ℕ) (x : ℕ) : Type 0 where
@@ -56,9 +57,9 @@ RunFromRoots =
     (R n : ℕ) (g : Graph) (m : ℕ → ℕ) (ps t w : List ℕ) → Agreement R n g m w → DfsAll g m ps t → ((x : ℕ) → List·Memᴰ x ps → x ≤ n) → (c : ℕ)
     → MarkRoots R n ps (c, w) (c + 3 * length t, markAll R w t)
 
--- The same of a well-formed pool of n cells and its registers, where the order t is that of its graph from marks m that leave every cell
--- unmarked. (A free cell has state 4 and so counts as marked, but no free cell is reached.)
+-- The same of a well-formed pool and its registers: the marking makes three visits for each reached cell, leaves state 3 in exactly these, and
+-- changes no other word. (A free cell has state 4 and so counts as marked, but no free cell is reached.)
 abbrev pub RunOverPool : Type 0
 RunOverPool =
-    (R n : ℕ) (m : ℕ → ℕ) (t w : List ℕ) → poolLength R n ≤ length w → wellFormed R n w ≡ true → 0 < m 0 → ((x : ℕ) → 0 < x → x ≤ n → m x ≡ 0)
-    → DfsAll (graphOf R w) m (rootsOf R w) t → (c : ℕ) → MarkRoots R n (rootsOf R w) (c, w) (c + 3 * length t, markAll R w t)
+    (R n : ℕ) (w : List ℕ) → poolLength R n ≤ length w → wellFormed R n w ≡ true → (c : ℕ)
+    → MarkRoots R n (rootsOf R w) (c, w) (c + 3 * keptCells R n w, markAll R w (reachedCells R n w))

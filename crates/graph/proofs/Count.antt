@@ -9,7 +9,7 @@ use lib.ListN.{length, length-append}
 use borrow.Author.Tests.{lt-ltb, le-ltb}
 use Rattle.graph.specs.Graph.{Graph}
 use Rattle.graph.specs.Marking.{marked, outside}
-use Rattle.graph.proofs.Dfs.{Dfs, DfsAll, mark, marks}
+use Rattle.graph.specs.Dfs.{Dfs, DfsAll, mark, marks}
 use Rattle.graph.proofs.Marks.{Cells, cells-mark, cells-marks, zero-or-above, before, mark-self, mark-keeps, mark-cases, marks-append, outside-cell}
 
 marked-cell : (n : ℕ) (m : ℕ → ℕ) → 0 < m (suc n) → marked (suc n) m ≡ suc (marked n m)

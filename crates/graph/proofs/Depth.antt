@@ -3,29 +3,19 @@ use Prim.Native.Nat.{ℕ, zero, suc, _+_, _<_, _≤_}
 use native.Mathlib.Omega.{arith}
 use mathlib.Core.Path.{_≡_, refl, sym, subst, ap, _∙_}
 use mathlib.Core.Logic.{⊎-elim}
-use mathlib.Core.List.{List, [], _∷_, _++_, List·Memᴰ, List·Memᴰ·head, List·Memᴰ·tail, append-nil, append-assoc}
+use mathlib.Core.List.{List, [], _∷_, _++_, List·Memᴰ·head, List·Memᴰ·tail, append-nil, append-assoc}
 use mathlib.Core.Bool.{true, false, _||_, or-true}
 use lib.Dec.{eqb}
 use borrow.Author.Tests.{eq-eqb, ne-eqb}
 use Rattle.graph.specs.Graph.{Graph, Reach, Within}
 use Rattle.graph.specs.Order.{has, visit, visits, order}
 use Rattle.graph.specs.Marking.{outside, marked}
-use Rattle.graph.proofs.Dfs.{Dfs, DfsAll, mark, marks}
+use Rattle.graph.specs.Dfs.{Dfs, DfsAll, mark, marks}
 use Rattle.graph.proofs.Reached.{reach-within}
-use Rattle.graph.proofs.Lists.{Each}
+use Rattle.graph.proofs.Lists.{Each, has-member, has-none}
 use Rattle.graph.proofs.Marks.{Cells, cells-outside, cells-marks, zero-or-above, marks-append, marks-cases, marks-member, outside-cell}
 use Rattle.graph.proofs.Count.{marked-mark, marked-le, counts}
 use Rattle.graph.proofs.Transfer.{all-functional}
-
-has-member : (x : ℕ) {xs : List ℕ} → List·Memᴰ x xs → has x xs ≡ true
-unfolding has
-has-member x (List·Memᴰ·head {x = y} e) = rw (eq-eqb x y e)
-has-member x (List·Memᴰ·tail {x = y} {xs = ys} h) = rw (has-member x {xs = ys} h) (or-true (eqb x y))
-
-has-none : (x : ℕ) (xs : List ℕ) → (List·Memᴰ x xs → ⊥) → has x xs ≡ false
-unfolding has
-has-none x [] h = refl
-has-none x (y ∷ xs) h = rw (ne-eqb x y (λ e. h (List·Memᴰ·head e)), has-none x xs (λ k. h (List·Memᴰ·tail k)))
 
 -- The marks in a graph of n cells once the cells of a list have been visited.
 abbrev after : ℕ → List ℕ → ℕ → ℕ

@@ -1,4 +1,3 @@
-pub mod Dfs
 pub mod Reached
 pub mod Lists
 pub mod Marks
@@ -9,3 +8,4 @@ pub mod Depth
 pub mod Theorems
 pub mod Pairing
 pub mod Walk
+pub mod Congruence

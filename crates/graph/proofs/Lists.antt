@@ -4,7 +4,11 @@ use native.Mathlib.Omega.{arith}
 use mathlib.Core.Path.{_≡_, refl, sym, ap, subst}
 use mathlib.Core.Logic.{⊎-elim}
 use mathlib.Core.List.{List, [], _∷_, _++_, List·Memᴰ, List·Memᴰ·head, List·Memᴰ·tail, List·Memᴰ·not-nil, List·Memᴰ·cases-cons, List·Memᴰ·append-cases, Forall₂, Forall₂·nil, Forall₂·cons}
+use mathlib.Core.Bool.{Bool, true, false, false≢true, _||_, or-true}
 use lib.ListN.{length, getD}
+use lib.Dec.{eqb}
+use borrow.Author.Tests.{eq-eqb, ne-eqb, eqb-true}
+use Rattle.graph.specs.Order.{has}
 use Rattle.graph.specs.Theorems.{Distinct}
 
 -- P holds of each member of a list.
@@ -20,6 +24,26 @@ module _ (P : ℕ → Type 0) where
 
   pub each-append : (t : List ℕ) {u : List ℕ} → Each P t → Each P u → Each P (t ++ u)
   each-append t f g x h = ⊎-elim (f x) (g x) (List·Memᴰ·append-cases t h)
+
+-- The test of membership.
+pub has-member : (x : ℕ) {xs : List ℕ} → List·Memᴰ x xs → has x xs ≡ true
+unfolding has
+has-member x (List·Memᴰ·head {x = y} e) = rw (eq-eqb x y e)
+has-member x (List·Memᴰ·tail {x = y} {xs = ys} h) = rw (has-member x {xs = ys} h) (or-true (eqb x y))
+
+pub has-none : (x : ℕ) (xs : List ℕ) → (List·Memᴰ x xs → ⊥) → has x xs ≡ false
+unfolding has
+has-none x [] h = refl
+has-none x (y ∷ xs) h = rw (ne-eqb x y (λ e. h (List·Memᴰ·head e)), has-none x xs (λ k. h (List·Memᴰ·tail k)))
+
+pub member-has : (x : ℕ) (xs : List ℕ) → has x xs ≡ true → List·Memᴰ x xs
+unfolding has
+member-has x [] h = absurd (false≢true h)
+member-has x (y ∷ xs) h = go (eqb x y) refl h (member-has x xs)
+  where
+    go : (t : Bool) → eqb x y ≡ t → (t || has x xs) ≡ true → (has x xs ≡ true → List·Memᴰ x xs) → List·Memᴰ x (y ∷ xs)
+    go true e k rest = List·Memᴰ·head (eqb-true x y e)
+    go false e k rest = List·Memᴰ·tail (rest k)
 
 -- Two lists with no member twice and none in common join to one.
 pub distinct-append : {t u : List ℕ} → Distinct t → Distinct u → Each (λ x. List·Memᴰ x u → ⊥) t → Distinct (t ++ u)

@@ -7,7 +7,7 @@ use mathlib.Core.Logic.{_⊎_, inl, inr, ⊎-elim}
 use mathlib.Core.List.{List, [], _∷_, _++_, List·Memᴰ, List·Memᴰ·head, List·Memᴰ·tail}
 use borrow.Author.Tests.{eq-eqb, ne-eqb, le-ltb, lt-ltb}
 use Rattle.graph.specs.Marking.{outside}
-use Rattle.graph.proofs.Dfs.{mark, marks}
+use Rattle.graph.specs.Dfs.{mark, marks}
 
 -- A number is 0 or above 0.
 pub zero-or-above : (k : ℕ) → (k ≡ 0) ⊎ (0 < k)
@@ -26,6 +26,10 @@ above-nil m (ℕ.suc x) h e = omega arith
 pub mark-self : (m : ℕ → ℕ) (x y : ℕ) → y ≡ x → 0 < mark m x y
 unfolding mark
 mark-self m x y e = rw (eq-eqb y x e) (omega arith)
+
+pub mark-other : (m : ℕ → ℕ) (p x : ℕ) → (x ≡ p → ⊥) → mark m p x ≡ m x
+unfolding mark
+mark-other m p x apart = simp (ne-eqb x p apart)
 
 pub mark-keeps : (m : ℕ → ℕ) (x y : ℕ) → 0 < m y → 0 < mark m x y
 unfolding mark

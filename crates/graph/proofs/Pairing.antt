@@ -10,7 +10,7 @@ use Rattle.graph.specs.Order.{order}
 use Rattle.graph.specs.Marking.{outside}
 use Rattle.graph.specs.Compare.{Paired, OneToOne}
 use Rattle.graph.specs.Theorems.{Order-paired, Length-paired, Pairing-kept}
-use Rattle.graph.proofs.Dfs.{Dfs, DfsAll, mark, marks}
+use Rattle.graph.specs.Dfs.{Dfs, DfsAll, mark, marks}
 use Rattle.graph.proofs.Lists.{getD-member, forall₂-places, forall₂-getD, forall₂-length, forall₂-append}
 use Rattle.graph.proofs.Marks.{before, zero-or-above, mark-along, mark-keeps, marks-keeps, above-nil, outside-cell, outside-nil}
 use Rattle.graph.proofs.Reached.{reach-within}

@@ -10,7 +10,7 @@ use Rattle.graph.specs.Order.{has, visit, visits, order}
 use Rattle.graph.specs.Example.{Order-example}
 use Rattle.graph.specs.Marking.{Closure, outside, marked}
 use Rattle.graph.specs.Theorems.{Order-reached, Order-distinct, Order-length, Order-depth, Marked-reached, Marked-count, Order-agree}
-use Rattle.graph.proofs.Dfs.{marks}
+use Rattle.graph.specs.Dfs.{marks}
 use Rattle.graph.proofs.Reached.{reach-above, reach-within, within-agree}
 use Rattle.graph.proofs.Marks.{outside-cell, outside-nil, cells-outside, marks-cases}
 use Rattle.graph.proofs.Visits.{closure, all-reached, all-distinct}

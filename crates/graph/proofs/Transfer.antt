@@ -6,7 +6,7 @@ use mathlib.Core.Logic.{_↔_}
 use mathlib.Core.List.{List, [], _∷_, List·Memᴰ·head, List·Memᴰ·tail, Memᴰ·append-left, Memᴰ·append-right}
 use Rattle.graph.specs.Graph.{Graph}
 use Rattle.graph.specs.Compare.{Agree}
-use Rattle.graph.proofs.Dfs.{Dfs, DfsAll, mark, marks}
+use Rattle.graph.specs.Dfs.{Dfs, DfsAll, mark, marks}
 use Rattle.graph.proofs.Lists.{Each}
 use Rattle.graph.proofs.Marks.{before, mark-along}
 

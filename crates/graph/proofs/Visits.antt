@@ -7,7 +7,7 @@ use mathlib.Core.List.{List, [], _++_, List·Memᴰ, List·Memᴰ·head, List·M
 use Rattle.graph.specs.Graph.{Graph, Reach}
 use Rattle.graph.specs.Marking.{Closure}
 use Rattle.graph.specs.Theorems.{Distinct}
-use Rattle.graph.proofs.Dfs.{Dfs, DfsAll, mark, marks}
+use Rattle.graph.specs.Dfs.{Dfs, DfsAll, mark, marks}
 use Rattle.graph.proofs.Lists.{Each, each-nil, each-append, each-cons, distinct-append}
 use Rattle.graph.proofs.Marks.{mark-self, mark-keeps, marks-keeps, marks-member, marks-cases, marks-append, before, above-nil}
 

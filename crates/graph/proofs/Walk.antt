@@ -5,7 +5,7 @@ use mathlib.Core.List.{List, [], _∷_, _++_, append-assoc}
 use Rattle.graph.specs.Graph.{Graph, Within}
 use Rattle.graph.specs.Order.{order}
 use Rattle.graph.specs.Marking.{outside}
-use Rattle.graph.proofs.Dfs.{Dfs, DfsAll, mark, marks}
+use Rattle.graph.specs.Dfs.{Dfs, DfsAll, mark, marks}
 use Rattle.graph.proofs.Marks.{marks-append}
 use Rattle.graph.proofs.Depth.{order-dfs}
 

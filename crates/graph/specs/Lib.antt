@@ -1,5 +1,6 @@
 pub mod Graph
 pub mod Order
+pub mod Dfs
 pub mod Marking
 pub mod Compare
 pub mod Theorems

@@ -1,7 +1,8 @@
 -- The laws of `every` and `tabulate`.
 use Prim.Native.Nat.{ℕ, zero, suc, _+_, _-_, _<_, _≤_}
-use mathlib.Core.Path.{_≡_, refl, sym, ap₂, _∙_}
-use mathlib.Core.List.{List, [], _∷_, _++_}
+use mathlib.Core.Path.{_≡_, refl, sym, ap, ap₂, _∙_}
+use mathlib.Core.Logic.{⊎-elim}
+use mathlib.Core.List.{List, [], _∷_, _++_, List·Memᴰ, List·Memᴰ·append-cases, List·Memᴰ·eq-of-singleton, List·Memᴰ·not-nil, List·Memᴰ·head, Memᴰ·append-left, Memᴰ·append-right}
 use mathlib.Core.Bool.{Bool, true, false}
 use native.Mathlib.Omega.{arith}
 use native.Mathlib.Decide.{decLt}
@@ -69,3 +70,20 @@ pub tabulate-list : (n : ℕ) (f : ℕ → ℕ) (l : List ℕ) → length l ≡ 
 tabulate-list n f l len same =
     ext-getD 0 l (tabulate n f) (len ∙ sym (length-tabulate n f)) λ k below.
     same k (rw len at below) ∙ sym (getD-tabulate n f k 0 (rw len at below))
+
+-- what stands in a list by a rule
+pub tabulate-member : (n : ℕ) (f : ℕ → ℕ) (x : ℕ) → List·Memᴰ x (tabulate n f) → (k : ℕ) × (k < n) × (x ≡ f k)
+unfolding tabulate
+tabulate-member zero f x mem = absurd (List·Memᴰ·not-nil mem)
+tabulate-member (suc n) f x mem =
+    ⊎-elim (λ m. let (k, h, e) = tabulate-member n f x m in (k, omega arith, e)) (λ m. (n, omega arith, List·Memᴰ·eq-of-singleton m))
+    (List·Memᴰ·append-cases (tabulate n f) mem)
+
+pub member-tabulate : (n : ℕ) (f : ℕ → ℕ) (k : ℕ) → k < n → List·Memᴰ (f k) (tabulate n f)
+unfolding tabulate
+member-tabulate zero f k low = absurd (omega arith)
+member-tabulate (suc n) f k low = go (λ less. member-tabulate n f k less) (decLt k n)
+  where
+    go : (k < n → List·Memᴰ (f k) (tabulate n f)) → Dec (k < n) → List·Memᴰ (f k) (tabulate n f ++ (f n ∷ []))
+    go rest (yes less) = Memᴰ·append-left (f n ∷ []) (rest less)
+    go rest (no same) = let last : k ≡ n = omega arith in Memᴰ·append-right (tabulate n f) (List·Memᴰ·head (ap f last))

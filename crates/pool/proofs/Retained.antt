@@ -4,14 +4,16 @@ use native.Mathlib.Omega.{arith}
 use native.Mathlib.Decide.{decLe, decLt, ℕ-discrete}
 use mathlib.Core.Path.{_≡_, refl, sym, ap, ap₂, _∙_}
 use mathlib.Core.List.{List}
-use mathlib.Core.Bool.{Bool, true, false, cond}
-use lib.ListN.{length, getD}
+use mathlib.Core.Bool.{Bool, true, false, cond, _||_}
+use lib.ListN.{length, getD, List·getD-eq-default}
 use lib.Seq.{getD-set-same, getD-set-other}
+use lib.Dec.{ltb, leb}
 use borrow.Author.Tests.{lt-ltb, le-ltb, le-leb, lt-leb, eq-eqb, ne-eqb}
+use Rattle.pool.specs.Words.{tabulate}
 use Rattle.pool.specs.Layout.{poolLength, cellAt, cell, setCell, head, setHead, count, register}
 use Rattle.pool.specs.Retain.{lowestFree, freeAbove, keptField, freeField, retainedField, retainedWord, retain, keptCount, freeCell, marked, sweepOf}
 use Rattle.pool.proofs.Laws.{cell-same, cell-other, length-setCell, length-setHead}
-use Rattle.pool.proofs.Every.{length-tabulate, getD-tabulate, tabulate-list}
+use Rattle.pool.proofs.Every.{length-tabulate, getD-tabulate, tabulate-list, tabulate-cong}
 
 -- the lowest free cell above i, where the next cell is kept, and where it is not
 module _ (keep : ℕ → Bool) (n i : ℕ) (here : i < n) where
@@ -54,13 +56,30 @@ module _ (R : ℕ) (w : List ℕ) (i next : ℕ) (positive : 0 < i) where
   freeCell-same keep n (suc (suc (suc (suc f)))) hf room e = absurd (omega arith)
 
 -- a word that is no cell's
-abbrev Elsewhere : ℕ → ℕ → ℕ → Type 0
+abbrev pub Elsewhere : ℕ → ℕ → ℕ → Type 0
 Elsewhere R n k = (j f : ℕ) → 0 < j → j ≤ n → f < 4 → k ≡ cellAt R j f → ⊥
 
 setCell-elsewhere : (R n : ℕ) (w : List ℕ) (i f v k : ℕ) → 0 < i → i ≤ n → f < 4 → Elsewhere R n k
     → getD (setCell R w i f v) k 0 ≡ getD w k 0
 unfolding setCell
 setCell-elsewhere R n w i f v k low high hf away = getD-set-other w (cellAt R i f) k v 0 (away i f low high hf)
+
+-- which word the place k is: the head, a word that stays, or a field of a cell
+pub data Place (R n k : ℕ) : Type 0 where
+  first : k ≡ 1 → Place R n k
+  stays : (k ≡ 1 → ⊥) → Elsewhere R n k → (ltb k (2 + R) || leb (poolLength R n) k) ≡ true → Place R n k
+  field : (i f : ℕ) → 0 < i → i ≤ n → f < 4 → k ≡ cellAt R i f → Place R n k
+
+pub place : (R n k : ℕ) → Place R n k
+place R n k = go (ℕ-discrete k 1) (decLt k (2 + R)) (decLe (poolLength R n) k)
+  where
+    go : Dec (k ≡ 1) → Dec (k < 2 + R) → Dec (poolLength R n ≤ k) → Place R n k
+    go (yes e) low high = Place.first e
+    go (no other) (yes low) high = Place.stays other (λ j f hj top hf e. omega arith) (simp (lt-ltb k (2 + R) low))
+    go (no other) (no low) (yes high) =
+        Place.stays other (λ j f hj top hf e. omega arith) (simp (le-ltb k (2 + R) (omega arith), le-leb (poolLength R n) k high))
+    go (no other) (no low) (no high) =
+        Place.field (suc ((k - (2 + R)) / 4)) ((k - (2 + R)) % 4) (omega arith) (omega arith) (omega arith) (omega arith)
 
 -- the words after the turns of the sweep for the cells n to i + 1
 pub record Swept (R n : ℕ) (keep : ℕ → Bool) (w₀ w : List ℕ) (i : ℕ) : Type 0 where
@@ -118,23 +137,12 @@ module _ (R n : ℕ) (keep : ℕ → Bool) (w₀ : List ℕ) where
         go j f low high hf (no other) =
             freeCell-other R w (suc i) next (omega arith) j f (omega arith) hf other ∙ s .above j f (omega arith) high hf
 
-  -- a word of the header or behind the cells is no cell's
-  elsewhere-low : (k : ℕ) → k < 2 + R → Elsewhere R n k
-  elsewhere-low k low j f hj high hf e = omega arith
+  -- the rule of the retained words at a word that stays and at a field of a cell
+  pub word-stays : (k : ℕ) → (k ≡ 1 → ⊥) → (ltb k (2 + R) || leb (poolLength R n) k) ≡ true → retainedWord R n keep w₀ k ≡ getD w₀ k 0
+  word-stays k other test = simp (ne-eqb k 1 other, test)
 
-  elsewhere-high : (k : ℕ) → poolLength R n ≤ k → Elsewhere R n k
-  elsewhere-high k high j f hj top hf e = omega arith
-
-  -- the rule of the retained words at a word of the header, behind the cells, and of a cell
-  word-low : (k : ℕ) → (k ≡ 1 → ⊥) → k < 2 + R → retainedWord R n keep w₀ k ≡ getD w₀ k 0
-  word-low k other low = simp (ne-eqb k 1 other, lt-ltb k (2 + R) low)
-
-  word-high : (k : ℕ) → poolLength R n ≤ k → retainedWord R n keep w₀ k ≡ getD w₀ k 0
-  word-high k high =
-      simp (ne-eqb k 1 (λ e. omega arith), le-ltb k (2 + R) (omega arith), le-leb (poolLength R n) k high)
-
-  word-cell : (i f : ℕ) → 0 < i → i ≤ n → f < 4 → retainedWord R n keep w₀ (cellAt R i f) ≡ retainedField R n keep w₀ i f
-  word-cell i f hi high hf =
+  pub word-field : (i f : ℕ) → 0 < i → i ≤ n → f < 4 → retainedWord R n keep w₀ (cellAt R i f) ≡ retainedField R n keep w₀ i f
+  word-field i f hi high hf =
       let number : suc ((cellAt R i f - (2 + R)) / 4) ≡ i = omega arith in
       let field : (cellAt R i f - (2 + R)) % 4 ≡ f = omega arith in
       simp (
@@ -149,24 +157,16 @@ module _ (R n : ℕ) (keep : ℕ → Bool) (w₀ : List ℕ) where
   pub swept-all : (w : List ℕ) → poolLength R n ≤ length w₀ → Swept R n keep w₀ w 0 → setHead w (freeAbove keep n 0) ≡ retain R n keep w₀
   unfolding retain setHead cell
   swept-all w room s =
-      tabulate-list (length w₀) (retainedWord R n keep w₀) (setHead w (freeAbove keep n 0)) (length-setHead R w _ ∙ s .len) λ k below.
-      at k below (ℕ-discrete k 1) (decLt k (2 + R)) (decLe (poolLength R n) k)
+      tabulate-list (length w₀) (retainedWord R n keep w₀) (setHead w (freeAbove keep n 0)) (length-setHead R w _ ∙ s .len) λ k below. at k (place R n k)
     where
       same : (k : ℕ) → (k ≡ 1 → ⊥) → getD (setHead w (freeAbove keep n 0)) k 0 ≡ getD w k 0
       same k other = getD-set-other w 1 k _ 0 other
 
-      at : (k : ℕ) → k < length w₀ → Dec (k ≡ 1) → Dec (k < 2 + R) → Dec (poolLength R n ≤ k)
-          → getD (setHead w (freeAbove keep n 0)) k 0 ≡ retainedWord R n keep w₀ k
-      at k below (yes first) low high = rw first (getD-set-same w 1 (freeAbove keep n 0) 0 (omega (arith, s .len)))
-      at k below (no other) (yes low) high = same k other ∙ (s .elsewhere k (elsewhere-low k low) ∙ sym (word-low k other low))
-      at k below (no other) (no low) (yes high) = same k other ∙ (s .elsewhere k (elsewhere-high k high) ∙ sym (word-high k high))
-      at k below (no other) (no low) (no high) =
-          let i = suc ((k - (2 + R)) / 4) in
-          let f = (k - (2 + R)) % 4 in
-          let place : k ≡ cellAt R i f = omega arith in
-          let top : i ≤ n = omega arith in
-          let hf : f < 4 = omega arith in
-          same k other ∙ (rw (ap (λ (j : ℕ). getD w j 0 ≡ retainedWord R n keep w₀ j) place) (s .above i f (omega arith) top hf ∙ sym (word-cell i f (omega arith) top hf)))
+      at : (k : ℕ) → Place R n k → getD (setHead w (freeAbove keep n 0)) k 0 ≡ retainedWord R n keep w₀ k
+      at k (Place.first e) = rw e (getD-set-same w 1 (freeAbove keep n 0) 0 (omega (arith, s .len)))
+      at k (Place.stays other away test) = same k other ∙ (s .elsewhere k away ∙ sym (word-stays k other test))
+      at k (Place.field i f low high hf e) =
+          same k (λ q. omega arith) ∙ rw e (s .above i f low high hf ∙ sym (word-field i f low high hf))
 
   -- the retained pool, read
   pub length-retain : length (retain R n keep w₀) ≡ length w₀
@@ -180,17 +180,28 @@ module _ (R n : ℕ) (keep : ℕ → Bool) (w₀ : List ℕ) where
 
     pub retain-count : count (retain R n keep w₀) ≡ count w₀
     unfolding retain count
-    retain-count = getD-tabulate (length w₀) (retainedWord R n keep w₀) 0 0 (omega arith) ∙ word-low 0 (λ e. omega arith) (omega arith)
+    retain-count = getD-tabulate (length w₀) (retainedWord R n keep w₀) 0 0 (omega arith) ∙ word-stays 0 (λ e. omega arith) (simp (lt-ltb 0 (2 + R) (omega arith)))
 
     pub retain-register : (k : ℕ) → k < R → register (retain R n keep w₀) k ≡ register w₀ k
     unfolding retain register
     retain-register k low =
-        getD-tabulate (length w₀) (retainedWord R n keep w₀) (2 + k) 0 (omega arith) ∙ word-low (2 + k) (λ e. omega arith) (omega arith)
+        getD-tabulate (length w₀) (retainedWord R n keep w₀) (2 + k) 0 (omega arith) ∙ word-stays (2 + k) (λ e. omega arith) (simp (lt-ltb (2 + k) (2 + R) (omega arith)))
+
+    pub retain-elsewhere : (k : ℕ) → (k ≡ 1 → ⊥) → Elsewhere R n k → getD (retain R n keep w₀) k 0 ≡ getD w₀ k 0
+    unfolding retain
+    retain-elsewhere k other away = go (decLt k (length w₀)) (place R n k)
+      where
+        go : Dec (k < length w₀) → Place R n k → getD (retain R n keep w₀) k 0 ≡ getD w₀ k 0
+        go (yes below) (Place.first e) = absurd (other e)
+        go (yes below) (Place.stays q r test) = getD-tabulate (length w₀) (retainedWord R n keep w₀) k 0 below ∙ word-stays k other test
+        go (yes below) (Place.field i f low high hf e) = absurd (away i f low high hf e)
+        go (no past) p =
+            List·getD-eq-default (retain R n keep w₀) 0 (omega (arith, length-retain)) ∙ sym (List·getD-eq-default w₀ 0 (omega arith))
 
     pub retain-cell : (i f : ℕ) → 0 < i → i ≤ n → f < 4 → cell R (retain R n keep w₀) i f ≡ retainedField R n keep w₀ i f
     unfolding retain cell
     retain-cell i f low high hf =
-        getD-tabulate (length w₀) (retainedWord R n keep w₀) (cellAt R i f) 0 (omega arith) ∙ word-cell i f low high hf
+        getD-tabulate (length w₀) (retainedWord R n keep w₀) (cellAt R i f) 0 (omega arith) ∙ word-field i f low high hf
 
 -- how many cells are kept, the topmost first
 pub kept-more : (keep : ℕ → Bool) (i : ℕ) → 0 < i → keep i ≡ true → keptCount keep i ≡ suc (keptCount keep (i - 1))
@@ -265,3 +276,47 @@ module _ (R n : ℕ) (w₀ : List ℕ) (room : poolLength R n ≤ length w₀) w
   turn-last w w' zero next kept last t write =
       ap₂ (λ (k : ℕ) (l : List ℕ). (k, l)) (omega (arith, t .counted)) (write ∙ (ap (setHead w) (t .chain) ∙ swept-all R n (marked R w₀) w₀ w room (t .swept)))
   turn-last w w' (suc i) next kept last t write = absurd (omega arith)
+
+-- the lowest free cell, and the number of kept ones, are the same where the same cells from 1 to n are kept
+lowest-cong : (keep keep' : ℕ → Bool) (k i : ℕ) → ((j : ℕ) → i ≤ j → j < i + k → keep j ≡ keep' j) → lowestFree keep k i ≡ lowestFree keep' k i
+unfolding lowestFree
+lowest-cong keep keep' zero i same = refl
+lowest-cong keep keep' (suc k) i same =
+    let here : keep i ≡ keep' i = same i (omega arith) (omega arith) in
+    rw (here, lowestFree) (ap (λ (x : ℕ). elim (keep' i) as (λ t. ℕ) [ true ↦ x | false ↦ i ]) (lowest-cong keep keep' k (suc i) λ j low high. same j (omega arith) (omega arith)))
+
+pub kept-cong : (keep keep' : ℕ → Bool) (n : ℕ) → ((j : ℕ) → 0 < j → j ≤ n → keep j ≡ keep' j) → keptCount keep n ≡ keptCount keep' n
+unfolding keptCount
+kept-cong keep keep' zero same = refl
+kept-cong keep keep' (suc n) same =
+    rw (same (suc n) (omega arith) (omega arith), kept-cong keep keep' n λ j low high. same j low (omega arith))
+
+-- two pools retain the same words where the same cells are kept, with the same links and values, and all that stays is the same
+pub retain-cong : (R n : ℕ) (keep keep' : ℕ → Bool) (w w' : List ℕ) → length w ≡ length w'
+    → ((j : ℕ) → 0 < j → j ≤ n → keep j ≡ keep' j)
+    → ((k : ℕ) → (k ≡ 1 → ⊥) → Elsewhere R n k → getD w k 0 ≡ getD w' k 0)
+    → ((j f : ℕ) → 0 < j → j ≤ n → suc f < 4 → keep j ≡ true → cell R w j (suc f) ≡ cell R w' j (suc f))
+    → retain R n keep w ≡ retain R n keep' w'
+unfolding retain
+retain-cong R n keep keep' w w' len same stay kept =
+    ap (λ (l : ℕ). tabulate l (retainedWord R n keep w)) len
+    ∙ tabulate-cong (length w') (retainedWord R n keep w) (retainedWord R n keep' w') λ k below. at k (place R n k)
+  where
+    chain : (i : ℕ) → freeAbove keep n i ≡ freeAbove keep' n i
+    chain i = lowest-cong keep keep' (n - i) (suc i) λ j low high. same j (omega arith) (omega arith)
+
+    free : (i f : ℕ) → freeField keep n i f ≡ freeField keep' n i f
+    free i zero = refl
+    free i (suc zero) = chain i
+    free i (suc (suc f)) = refl
+
+    fields : (i f : ℕ) → 0 < i → i ≤ n → f < 4 → (t : Bool) → keep i ≡ t → retainedField R n keep w i f ≡ retainedField R n keep' w' i f
+    fields i zero low high hf true e = rw (← same i low high, e)
+    fields i (suc f) low high hf true e = rw (← same i low high, e) (kept i f low high hf e)
+    fields i f low high hf false e = rw (← same i low high, e) (free i f)
+
+    at : (k : ℕ) → Place R n k → retainedWord R n keep w k ≡ retainedWord R n keep' w' k
+    at k (Place.first e) = rw e (chain 0)
+    at k (Place.stays other away test) = word-stays R n keep w k other test ∙ (stay k other away ∙ sym (word-stays R n keep' w' k other test))
+    at k (Place.field i f low high hf e) =
+        rw e (word-field R n keep w i f low high hf ∙ (fields i f low high hf (keep i) refl ∙ sym (word-field R n keep' w' i f low high hf)))

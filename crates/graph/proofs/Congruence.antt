@@ -5,9 +5,9 @@ use native.Mathlib.Decide.{ℕ-discrete}
 use mathlib.Core.Path.{_≡_, refl}
 use mathlib.Core.Logic.{_↔_}
 use mathlib.Core.List.{List, [], _∷_, List·Memᴰ, List·Memᴰ·head, List·Memᴰ·tail}
 use Rattle.graph.specs.Graph.{Graph, Reach}
-use Rattle.graph.proofs.Dfs.{mark, marks, Dfs, DfsAll}
-use Rattle.collector.proofs.Marks.{not-nil, mark-same, mark-other, marks-marked}
+use Rattle.graph.specs.Dfs.{mark, marks, Dfs, DfsAll}
+use Rattle.graph.proofs.Marks.{above-nil, mark-self, mark-keeps, mark-other}
 
 -- Two marks agree on nil, which both mark, and on every cell that the roots reach.
 pub record Alike (g : Graph) (roots : List ℕ) (m m′ : ℕ → ℕ) : Type 0 where
@@ -17,18 +17,17 @@ pub record Alike (g : Graph) (roots : List ℕ) (m m′ : ℕ → ℕ) : Type 0 
 
 module _ (g : Graph) (roots : List ℕ) where
   alike-mark : {m m′ : ℕ → ℕ} → Alike g roots m m′ → (p : ℕ) → Alike g roots (mark m p) (mark m′ p)
-  unfolding marks
   alike-mark {m} {m′} a p =
       record {
-        nil = marks-marked (p ∷ []) m 0 (a .nil);
-        nil′ = marks-marked (p ∷ []) m′ 0 (a .nil′);
+        nil = mark-keeps m p 0 (a .nil);
+        nil′ = mark-keeps m′ p 0 (a .nil′);
         reached = λ x reach. reached x reach (ℕ-discrete x p);
       }
     where
       reached : (x : ℕ) → Reach g roots x → Dec (x ≡ p) → (mark m p x ≡ 0) ↔ (mark m′ p x ≡ 0)
       reached x reach (yes e) =
-          let h : 0 < mark m p x = rw e (mark-same m p) in
-          let h′ : 0 < mark m′ p x = rw e (mark-same m′ p) in (λ z. absurd (omega arith), λ z. absurd (omega arith))
+          let h : 0 < mark m p x = mark-self m p x e in
+          let h′ : 0 < mark m′ p x = mark-self m′ p x e in (λ z. absurd (omega arith), λ z. absurd (omega arith))
       reached x reach (no apart) = rw (mark-other m p x apart, mark-other m′ p x apart) (a .reached x reach)
 
   alike-marks : (t : List ℕ) {m m′ : ℕ → ℕ} → Alike g roots m m′ → Alike g roots (marks m t) (marks m′ t)
@@ -48,7 +47,7 @@ module _ (g : Graph) (roots : List ℕ) where
       still (yes e) = absurd (omega (arith, alike-link a p reach .1 e))
       still (no e) = omega arith
   visit-alike (Dfs.step {m = m} {p = p} {t = t} e dl dr) a reach =
-      let here : Reach g roots p = reach (not-nil m (a .nil) p e) in
+      let here : Reach g roots p = reach (above-nil m p (a .nil) e) in
       Dfs.step (alike-link a p reach .0 e) (visit-alike dl (alike-mark a p) λ h. Reach.left here h)
       (visit-alike dr (alike-marks t (alike-mark a p)) λ h. Reach.right here h)
 
@@ -59,9 +58,6 @@ module _ (g : Graph) (roots : List ℕ) where
       DfsAll.next (visit-alike d a λ h. Reach.root (rooted p (List·Memᴰ·head refl)) h)
       (visits-alike rest (alike-marks t a) λ x mem. rooted x (List·Memᴰ·tail mem))
 
--- the visit of a link, and the visits of several, where the marks are alike
-pub dfs-alike : {g : Graph} {m m′ : ℕ → ℕ} {p : ℕ} {t : List ℕ} → Alike g (p ∷ []) m m′ → Dfs g m p t → Dfs g m′ p t
-dfs-alike {g} {p = p} a d = visit-alike g (p ∷ []) d a λ h. Reach.root (List·Memᴰ·head refl) h
-
+-- the visits of several links, where the marks are alike
 pub dfs-all-alike : {g : Graph} {m m′ : ℕ → ℕ} {ps t : List ℕ} → Alike g ps m m′ → DfsAll g m ps t → DfsAll g m′ ps t
 dfs-all-alike {g} {ps = ps} a d = visits-alike g ps d a λ x mem. mem

@@ -1,0 +1,115 @@
+-- A collected pool: what it keeps, that it is well-formed with the same graph, and when nothing changes.
+use Prim.Native.Nat.{ℕ, zero, suc, _<_, _≤_}
+use native.Mathlib.Omega.{arith}
+use mathlib.Core.Path.{_≡_, refl, sym, ap, ap₂, _∙_}
+use mathlib.Core.List.{List, List·Memᴰ}
+use mathlib.Core.Bool.{Bool, true, false, true≢false}
+use mathlib.Core.Logic.{⊎-elim}
+use lib.ListN.{length}
+use lib.Dec.{ltb}
+use borrow.Author.Tests.{lt-ltb, le-ltb}
+use Rattle.graph.specs.Graph.{Graph, Reach}
+use Rattle.graph.specs.Order.{has, order}
+use Rattle.graph.specs.Marking.{outside, marked}
+use Rattle.graph.specs.Dfs.{marks}
+use Rattle.graph.specs.Compare.{Agree}
+use Rattle.graph.proofs.Lists.{has-member, member-has}
+use Rattle.graph.proofs.Marks.{marks-member, marks-cases, outside-cell, zero-or-above}
+use Rattle.graph.proofs.Theorems.{order-reached, order-agree, order-closure, marked-count}
+use Rattle.graph.proofs.Reached.{reach-above, reach-within}
+use Rattle.pool.specs.Layout.{poolLength, head, register, cell, state, left, right, value, graphOf, rootsOf}
+use Rattle.pool.specs.Retain.{retain, keptCount}
+use Rattle.pool.proofs.Every.{tabulate-cong, member-tabulate}
+use Rattle.pool.proofs.WellFormed.{Link, WellFormed}
+use Rattle.pool.proofs.PoolGraph.{reached-used, pool-within}
+use Rattle.pool.proofs.Retained.{retain-register, retain-head}
+use Rattle.pool.proofs.RetainedPool.{Kept, retained-used, retained-same, retained-well-formed}
+use Rattle.pool.proofs.AllKept.{counted-all, all-counted, all-none-free, none-free-all, retain-all, retain-again}
+use Rattle.collector.specs.Collect.{reachedCells, isReached, keptCells, collected}
+
+-- the same count, of tests and of marks
+count-marked : (n : ℕ) (keep : ℕ → Bool) (m : ℕ → ℕ) → ((j : ℕ) → 0 < j → j ≤ n → keep j ≡ ltb 0 (m j)) → keptCount keep n ≡ marked n m
+unfolding keptCount marked
+count-marked zero keep m same = refl
+count-marked (suc n) keep m same =
+    rw (same (suc n) (omega arith) (omega arith), count-marked n keep m λ j low high. same j low (omega arith))
+
+-- what is in a list is what marking the list marks
+reached-marked : (n : ℕ) (t : List ℕ) (x : ℕ) → 0 < x → x ≤ n → has x t ≡ ltb 0 (marks (outside n) t x)
+reached-marked n t x low high = go (has x t) refl
+  where
+    go : (b : Bool) → has x t ≡ b → b ≡ ltb 0 (marks (outside n) t x)
+    go true e = sym (lt-ltb 0 (marks (outside n) t x) (marks-member (outside n) x (member-has x t e)))
+    go false e =
+        sym (le-ltb 0 (marks (outside n) t x)
+        (⊎-elim (λ z. omega arith)
+        (λ h. ⊎-elim (λ mem. absurd (true≢false (sym (has-member x mem) ∙ e))) (λ k. absurd (omega (arith, outside-cell n x low high))) (marks-cases (outside n) t x h))
+        (zero-or-above (marks (outside n) t x))))
+
+module _ (R n : ℕ) (w : List ℕ) (well : WellFormed R n w) where
+  -- what is kept is what is reached
+  pub kept-reached : (x : ℕ) → isReached R n w x ≡ true → Reach (graphOf R w) (rootsOf R w) x
+  kept-reached x h = order-reached n (graphOf R w) (rootsOf R w) (pool-within well) x .0 (member-has x (reachedCells R n w) h)
+
+  pub reached-kept : {x : ℕ} → Reach (graphOf R w) (rootsOf R w) x → isReached R n w x ≡ true
+  reached-kept {x} r = has-member x (order-reached n (graphOf R w) (rootsOf R w) (pool-within well) x .1 r)
+
+  module _ (room : poolLength R n ≤ length w) where
+    -- a reached cell keeps its links and its value
+    pub collected-field : {x : ℕ} (f : ℕ) → suc f < 4 → Reach (graphOf R w) (rootsOf R w) x → cell R (collected R n w) x (suc f) ≡ cell R w x (suc f)
+    collected-field {x} f hf r =
+        retained-same R n (isReached R n w) w room x f (reach-above r) (reach-within (pool-within well) r) hf (reached-kept r)
+
+    pub collected-agree : (x : ℕ) → Reach (graphOf R w) (rootsOf R w) x → Agree (graphOf R w) (graphOf R (collected R n w)) x
+    collected-agree x r = record { left = sym (collected-field 0 (omega arith) r); right = sym (collected-field 1 (omega arith) r) }
+
+    pub collected-roots : rootsOf R (collected R n w) ≡ rootsOf R w
+    collected-roots =
+        tabulate-cong R (λ k. register (collected R n w) k) (λ k. register w k) λ k low. retain-register R n (isReached R n w) w room k low
+
+    -- it is well-formed
+    kept-link : (x : ℕ) → (0 < x → Reach (graphOf R w) (rootsOf R w) x) → Kept n (isReached R n w) x
+    kept-link zero r = Kept.nil refl
+    kept-link (suc x) r =
+        let reach = r (omega arith) in
+        Kept.kept (omega arith) (reach-within (pool-within well) reach) (reached-kept reach)
+
+    pub collected-well-formed : WellFormed R n (collected R n w)
+    collected-well-formed =
+        retained-well-formed R n (isReached R n w) w room
+        (λ k low. kept-link (register w k) (Reach.root (member-tabulate R (λ j. register w j) k low)))
+        λ i low high e. let reach = kept-reached i e in (kept-link (left R w i) (Reach.left reach), kept-link (right R w i) (Reach.right reach))
+
+    -- the same cells are reached, in the same order
+    pub collected-order : reachedCells R n (collected R n w) ≡ reachedCells R n w
+    collected-order =
+        ap (order n (graphOf R (collected R n w))) collected-roots
+        ∙ sym (order-agree n (graphOf R w) (graphOf R (collected R n w)) (rootsOf R w) (pool-within well) collected-agree)
+
+    -- so a second collection changes nothing
+    pub collected-again : collected R n (collected R n w) ≡ collected R n w
+    collected-again =
+        ap (λ (t : List ℕ). retain R n (λ i. has i t) (collected R n w)) collected-order ∙ retain-again R n (isReached R n w) w room
+
+    -- the number of kept cells is the number of reached ones
+    pub kept-count : keptCount (isReached R n w) n ≡ keptCells R n w
+    kept-count =
+        let g = graphOf R w in
+        let roots = rootsOf R w in
+        count-marked n (isReached R n w) (marks (outside n) (reachedCells R n w)) (reached-marked n (reachedCells R n w))
+        ∙ marked-count n g roots (pool-within well) (marks (outside n) (reachedCells R n w)) (order-closure n g roots (pool-within well))
+
+    -- where every cell is reached and the head is nil, nothing changes at all
+    pub collected-full : keptCells R n w ≡ n → head w ≡ 0 → collected R n w ≡ w
+    collected-full full nil =
+        let all = counted-all (isReached R n w) n (kept-count ∙ full) in
+        retain-all R n (isReached R n w) w all (λ j low high. reached-used well (kept-reached j (all j low high)) .state) nil
+
+    -- no cell is free after a collection exactly where all are kept
+    pub collected-head-nil : 0 < n → keptCells R n w ≡ n → head (collected R n w) ≡ 0
+    collected-head-nil some full =
+        retain-head R n (isReached R n w) w room some ∙ all-none-free (isReached R n w) n (counted-all (isReached R n w) n (kept-count ∙ full))
+
+    pub head-nil-full : 0 < n → head (collected R n w) ≡ 0 → keptCells R n w ≡ n
+    head-nil-full some nil =
+        sym kept-count ∙ all-counted (isReached R n w) n (none-free-all (isReached R n w) n (sym (retain-head R n (isReached R n w) w room some) ∙ nil))
