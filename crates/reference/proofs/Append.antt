@@ -3,7 +3,7 @@ use Prim.Native.Nat.{ℕ, suc, _+_, _-_, _<_, _≤_}
 use native.Mathlib.Omega.{arith}
 use native.Mathlib.Decide.{ℕ-discrete}
 use mathlib.Core.Path.{_≡_, refl, sym, subst, _∙_}
-use mathlib.Core.Logic.{_⊎_, inl, inr}
+use mathlib.Core.Logic.{inl, inr}
 use mathlib.Core.List.{List, [], _∷_, _++_}
 use lib.ListN.{length, getD, length-set, length-append, List·getD-append}
 use lib.Seq.{getD-set-same, getD-set-other, getD-append-seam}
@@ -14,8 +14,8 @@ use Rattle.reference.specs.Model.{Entry, Model, entry, held, append}
 use Rattle.reference.proofs.FreeList.{First, chain-first}
 use Rattle.reference.proofs.Fit.{Fit}
 use Rattle.reference.proofs.Taken.{taken-cell, taken-other, taken-register, taken-register-other}
-use Rattle.reference.proofs.Fields.{Field, number, number-below, get, Related, Linked, set-holds}
-use Rattle.reference.proofs.Same.{Pair, Bounded, Same, same-made, root-pair, field-related, pair-place, pair-used}
+use Rattle.reference.proofs.Fields.{Field, number, number-below, get, Related, related-map, Linked, set-holds}
+use Rattle.reference.proofs.Same.{Pair, More, more-one, Bounded, Same, same-made, root-pair, field-related, pair-place, pair-used}
 
 append-holds : {A : Type 0} (P : A → Type 0) (l : List A) (j : ℕ) (v d : A) → P (getD l j d) → P v → P d → P (getD (l ++ (v ∷ [])) j d)
 append-holds P [] ℕ.zero v d old new default = new
@@ -24,10 +24,6 @@ append-holds P (x ∷ l) ℕ.zero v d old new default = old
 append-holds P (x ∷ l) (suc j) v d old new default = append-holds P l j v d old new default
 
 module _ {N : ℕ} {w : List ℕ} {m : Model} (fit : Fit N w) (same : Same w m) (some : 0 < head w) where
-  -- The pairs as they were, and the new one.
-  abbrev More : ℕ → ℕ → Type 0
-  More x y = Pair w m x y ⊎ ((x ≡ head w) × (y ≡ suc (length (m .cells))))
-
   first : First N w (head w) (fit .free .list)
   first = chain-first (fit .free .chain) (fit .free .once) some
 
@@ -36,34 +32,18 @@ module _ {N : ℕ} {w : List ℕ} {m : Model} (fit : Fit N w) (same : Same w m) 
   new-cell {x} pair e =
       let used = pair-used same fit pair (omega arith) in
       let free : state registerCount w x ≡ 4 = rw e (first .free) in
-      omega (arith, used .2)
+      omega (arith, used .state)
 
   new-place : {x y : ℕ} → Pair w m x y → y ≡ suc (length (m .cells)) → ⊥
   new-place pair e = omega (arith, pair-place same pair)
 
-  more-one : OneToOne More
-  more-one = record { nil = nil; forward = forward; backward = backward }
-    where
-      nil : (x y : ℕ) → More x y → ((x ≡ 0) → (y ≡ 0)) × ((y ≡ 0) → (x ≡ 0))
-      nil x y (inl pair) = same .one-to-one .nil x y pair
-      nil x y (inr new) = (λ e. absurd (omega arith), λ e. absurd (omega arith))
+  abbrev Added : ℕ → ℕ → Type 0
+  Added = More w m (head w) (suc (length (m .cells)))
 
-      forward : (x y z : ℕ) → More x y → More x z → y ≡ z
-      forward x y z (inl a) (inl b) = same .one-to-one .forward x y z a b
-      forward x y z (inl a) (inr b) = absurd (new-cell a (b .0))
-      forward x y z (inr a) (inl b) = absurd (new-cell b (a .0))
-      forward x y z (inr a) (inr b) = omega arith
-
-      backward : (x y z : ℕ) → More x z → More y z → x ≡ y
-      backward x y z (inl a) (inl b) = same .one-to-one .backward x y z a b
-      backward x y z (inl a) (inr b) = absurd (new-place a (b .1))
-      backward x y z (inr a) (inl b) = absurd (new-place b (a .1))
-      backward x y z (inr a) (inr b) = omega arith
-
-  old : (f : Field) (x y : ℕ) → Related (Pair w m) f x y → Related More f x y
-  old Field.left x y pair = inl pair
-  old Field.right x y pair = inl pair
-  old Field.value x y e = e
+  added-one : OneToOne Added
+  added-one =
+      more-one same (head w) (suc (length (m .cells))) (λ e. absurd (omega arith), λ e. absurd (omega arith))
+      (λ x y pair. (λ e. absurd (new-cell pair e), λ e. absurd (new-place pair e)))
 
   module _ (r a b v : ℕ) (hr : r < registerCount) (ha : a < registerCount) (hb : b < registerCount) where
     abbrev after : List ℕ
@@ -91,10 +71,10 @@ module _ {N : ℕ} {w : List ℕ} {m : Model} (fit : Fit N w) (same : Same w m) 
 
     pub same-append : Same after model
     same-append =
-        same-made after model More more-one append-bounded (λ k below. roots k below (ℕ-discrete k r))
+        same-made after model Added added-one append-bounded (λ k below. roots k below (ℕ-discrete k r))
         (λ x y p hx hy f. fields f x y p hx hy)
       where
-        roots : (k : ℕ) → k < registerCount → Dec (k ≡ r) → More (register after k) (held model k)
+        roots : (k : ℕ) → k < registerCount → Dec (k ≡ r) → Added (register after k) (held model k)
         roots k below (yes e) =
             inr (
               rw e (taken-register fit r (register w a) (register w b) v hr some (first .high)),
@@ -107,19 +87,19 @@ module _ {N : ℕ} {w : List ℕ} {m : Model} (fit : Fit N w) (same : Same w m) 
             )
             (inl (root-pair same k below))
 
-        new : (f : Field) → Related More f (cell registerCount after (head w) (number f)) (get f cell-new)
+        new : (f : Field) → Related Added f (cell registerCount after (head w) (number f)) (get f cell-new)
         new Field.left = rw (taken-cell fit r (register w a) (register w b) v hr some (first .high) 1 (omega arith)) (inl (root-pair same a ha))
         new Field.right = rw (taken-cell fit r (register w a) (register w b) v hr some (first .high) 2 (omega arith)) (inl (root-pair same b hb))
         new Field.value = taken-cell fit r (register w a) (register w b) v hr some (first .high) 3 (omega arith)
 
-        fields : (f : Field) (x y : ℕ) → More x y → 0 < x → 0 < y
-            → Related More f (cell registerCount after x (number f)) (get f (entry model y))
+        fields : (f : Field) (x y : ℕ) → Added x y → 0 < x → 0 < y
+            → Related Added f (cell registerCount after x (number f)) (get f (entry model y))
         fields f x y (inl pair) hx hy =
             rw (
               taken-other fit r (register w a) (register w b) v hr some (first .high) x (number f) hx (number-below f) (new-cell pair),
               List·getD-append (m .cells) (cell-new ∷ []) (record { left = 0; right = 0; value = 0 }) (y - 1) (omega (arith, pair-place same pair)),
             )
-            (old f _ _ (field-related same x y pair hx hy f))
+            (related-map (λ i j. inl) f _ _ (field-related same x y pair hx hy f))
         fields f x y (inr here) hx hy =
             let place : y - 1 ≡ length (m .cells) = omega arith in
             rw (here .0, place, getD-append-seam (m .cells) cell-new [] (record { left = 0; right = 0; value = 0 })) (new f)

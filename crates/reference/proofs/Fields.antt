@@ -2,6 +2,7 @@
 use Prim.Native.Nat.{ℕ, _-_, _<_, _≤_}
 use native.Mathlib.Omega.{arith}
 use mathlib.Core.Path.{_≡_, refl}
+use mathlib.Core.Logic.{_↔_}
 use mathlib.Core.List.{List, [], _∷_}
 use lib.ListN.{length, getD, set}
 use Rattle.reference.specs.Model.{Entry}
@@ -43,6 +44,17 @@ abbrev pub Related : (ℕ → ℕ → Type 0) → Field → ℕ → ℕ → Type
 Related P left x y = P x y
 Related P right x y = P x y
 Related P value x y = x ≡ y
+
+pub related-map : {P Q : ℕ → ℕ → Type 0} → ((x y : ℕ) → P x y → Q x y) → (f : Field) (x y : ℕ) → Related P f x y → Related Q f x y
+related-map step left x y r = step x y r
+related-map step right x y r = step x y r
+related-map step value x y r = r
+
+-- A field that is a link.
+pub link-related : (P : ℕ → ℕ → Type 0) (f : Field) (x y : ℕ) → number f < 3 → P x y ↔ Related P f x y
+link-related P left x y link = (λ r. r, λ r. r)
+link-related P right x y link = (λ r. r, λ r. r)
+link-related P value x y link = absurd (omega arith)
 
 -- The links of a cell are at most k.
 abbrev pub Linked : ℕ → Entry → Type 0

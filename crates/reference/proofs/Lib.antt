@@ -6,3 +6,4 @@ pub mod Fields
 pub mod Same
 pub mod Writes
 pub mod Append
+pub mod Steps

@@ -7,7 +7,7 @@ use mathlib.Core.List.{List, [], _∷_, List·Memᴰ, List·Memᴰ·head, List·
 use lib.ListN.{length}
 use Rattle.graph.specs.Marking.{marked}
 use Rattle.graph.specs.Theorems.{Distinct}
-use Rattle.graph.proofs.Dfs.{mark, marks}
+use Rattle.graph.specs.Dfs.{mark, marks}
 use Rattle.graph.proofs.Lists.{Each}
 use Rattle.graph.proofs.Marks.{zero-or-above, mark-cases}
 use Rattle.graph.proofs.Count.{marked-le, marked-mark}

@@ -2,7 +2,7 @@
 use Prim.Native.Nat.{ℕ, suc, _<_, _≤_}
 use native.Mathlib.Omega.{arith}
 use mathlib.Core.Path.{_≡_, refl, sym, _∙_}
-use mathlib.Core.Logic.{⊎-elim}
+use mathlib.Core.Logic.{_↔_, _⊎_, inl, inr, ⊎-elim}
 use mathlib.Core.List.{List, [], _∷_}
 use lib.ListN.{length, getD}
 use Rattle.graph.specs.Graph.{Within, Reach}
@@ -12,9 +12,9 @@ use Rattle.graph.proofs.Marks.{zero-or-above}
 use Rattle.graph.proofs.Pairing.{paired-least, paired-reach, pairing-kept, length-paired}
 use Rattle.pool.specs.Layout.{registerCount, register, cell, value, graphOf, rootsOf}
 use Rattle.pool.proofs.Every.{length-tabulate, getD-tabulate}
-use Rattle.pool.proofs.WellFormed.{Link, well-formed-made}
+use Rattle.pool.proofs.WellFormed.{Link}
+use Rattle.pool.proofs.PoolGraph.{Used, reached-used, pool-within}
 use Rattle.collector.specs.Collect.{keptCells}
-use Rattle.collector.proofs.WellFormed.{Used, reached-used, within}
 use Rattle.reference.specs.Model.{Model, entry, held, modelGraph, live}
 use Rattle.reference.proofs.Fit.{Fit}
 use Rattle.reference.proofs.Fields.{Field, number, get, Related, Linked}
@@ -68,7 +68,31 @@ same-made w m P one bounded roots fields =
         → P (cell registerCount w x 1) ((entry m y) .left) × P (cell registerCount w x 2) ((entry m y) .right)
     links x y pair hx hy = (fields x y pair hx hy Field.left, fields x y pair hx hy Field.right)
 
+-- The pairs and one more.
+abbrev pub More : List ℕ → Model → ℕ → ℕ → ℕ → ℕ → Type 0
+More w m p q x y = Pair w m x y ⊎ ((x ≡ p) × (y ≡ q))
+
 module _ {w : List ℕ} {m : Model} (same : Same w m) where
+  -- With one more they are one-to-one where that one goes with each of them.
+  pub more-one : (p q : ℕ) → (p ≡ 0) ↔ (q ≡ 0) → ((x y : ℕ) → Pair w m x y → (x ≡ p) ↔ (y ≡ q)) → OneToOne (More w m p q)
+  more-one p q ends fits = record { nil = nil; forward = forward; backward = backward }
+    where
+      nil : (x y : ℕ) → More w m p q x y → (x ≡ 0) ↔ (y ≡ 0)
+      nil x y (inl a) = same .one-to-one .nil x y a
+      nil x y (inr a) = (λ e. a .1 ∙ ends .0 (sym (a .0) ∙ e), λ e. a .0 ∙ ends .1 (sym (a .1) ∙ e))
+
+      forward : (x y z : ℕ) → More w m p q x y → More w m p q x z → y ≡ z
+      forward x y z (inl a) (inl b) = same .one-to-one .forward x y z a b
+      forward x y z (inl a) (inr b) = fits x y a .0 (b .0) ∙ sym (b .1)
+      forward x y z (inr a) (inl b) = a .1 ∙ sym (fits x z b .0 (a .0))
+      forward x y z (inr a) (inr b) = a .1 ∙ sym (b .1)
+
+      backward : (x y z : ℕ) → More w m p q x z → More w m p q y z → x ≡ y
+      backward x y z (inl a) (inl b) = same .one-to-one .backward x y z a b
+      backward x y z (inl a) (inr b) = fits x z a .1 (b .1) ∙ sym (b .0)
+      backward x y z (inr a) (inl b) = a .0 ∙ sym (fits y z b .1 (a .1))
+      backward x y z (inr a) (inr b) = a .0 ∙ sym (b .0)
+
   pub root-pair : (k : ℕ) → k < registerCount → Pair w m (register w k) (held m k)
   root-pair k low =
       let start : Pair w m (getD (rootsOf registerCount w) k 0) (held m k) =
@@ -90,19 +114,19 @@ module _ {w : List ℕ} {m : Model} (same : Same w m) where
   module _ {N : ℕ} (fit : Fit N w) where
     -- A link of the pool that is paired is nil or a used cell.
     pub pair-used : {x y : ℕ} → Pair w m x y → 0 < x → Used registerCount N w x
-    pair-used pair some = reached-used registerCount N w (well-formed-made registerCount N w (fit .well)) (paired-reach pair some)
+    pair-used pair some = reached-used (fit .well) (paired-reach pair some)
 
     pub pair-link : {x y : ℕ} → Pair w m x y → Link registerCount N w x
     pair-link {x} pair =
         ⊎-elim Link.nil
         (λ some.
         let used = pair-used pair some in
-        Link.used some (used .1) (used .2))
+        Link.used some (used .bounded) (used .state))
         (zero-or-above x)
 
     -- As many cells are live as the pool keeps.
     pub kept-live : keptCells registerCount N w ≡ live m
     kept-live =
         length-paired N (graphOf registerCount w) (rootsOf registerCount w) (length (m .cells)) (modelGraph m) (m .registers)
-        (within registerCount N w (well-formed-made registerCount N w (fit .well))) (model-within (same .bounded))
+        (pool-within (fit .well)) (model-within (same .bounded))
         (length-tabulate registerCount (λ j. register w j) ∙ sym (same .bounded .registers)) (same .one-to-one)

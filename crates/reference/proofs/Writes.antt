@@ -3,6 +3,7 @@ use Prim.Native.Nat.{ℕ, _-_, _<_, _≤_}
 use native.Mathlib.Omega.{arith}
 use native.Mathlib.Decide.{ℕ-discrete}
 use mathlib.Core.Path.{_≡_, refl, sym, subst, _∙_}
+use mathlib.Core.Logic.{inl, inr, ⊎-elim}
 use mathlib.Core.List.{List}
 use lib.ListN.{length, getD, set, length-set}
 use lib.Seq.{getD-set-same, getD-set-other}
@@ -10,36 +11,41 @@ use Rattle.pool.specs.Layout.{registerCount, poolLength, register, setRegister,
 use Rattle.pool.proofs.Laws.{register-same, register-other, cell-setRegister, register-setCell, cell-same, cell-other}
 use Rattle.reference.specs.Model.{Entry, Model, entry, held, hold, replace}
 use Rattle.reference.proofs.Fit.{Fit}
-use Rattle.reference.proofs.Fields.{Field, number, number-above, number-below, get, put, Related, Linked, put-linked, put-related, set-holds}
-use Rattle.reference.proofs.Same.{Pair, Bounded, Same, same-made, root-pair, field-related, pair-place, pair-used}
+use Rattle.reference.proofs.Fields.{Field, number, number-below, get, put, Related, related-map, link-related, Linked, put-linked, put-related, set-holds}
+use Rattle.reference.proofs.Same.{Pair, More, more-one, Same, same-made, root-pair, field-related, pair-place, pair-used}
 
 module _ {N : ℕ} {w : List ℕ} {m : Model} (fit : Fit N w) (same : Same w m) where
-  pub same-hold : (r x y : ℕ) → r < registerCount → Pair w m x y → Same (setRegister w r x) (hold m r y)
-  same-hold r x y low pair =
-      same-made (setRegister w r x) (hold m r y) (Pair w m) (same .one-to-one)
+  -- A register gets a link that is paired, or nil in both.
+  pub same-hold : (r x y : ℕ) → r < registerCount → More w m 0 0 x y → Same (setRegister w r x) (hold m r y)
+  same-hold r x y low link =
+      same-made (setRegister w r x) (hold m r y) (More w m 0 0) (more-one same 0 0 (λ e. e, λ e. e) (same .one-to-one .nil))
       (record {
         registers = length-set (m .registers) r y ∙ same .bounded .registers;
-        roots = λ k. set-holds (λ z. z ≤ length (m .cells)) (m .registers) r k y 0 (same .bounded .roots k) (pair-place same pair);
+        roots = λ k. set-holds (λ z. z ≤ length (m .cells)) (m .registers) r k y 0 (same .bounded .roots k) (place link);
         cells = same .bounded .cells;
       })
-      (λ k below. roots k below (ℕ-discrete k r))
-      (λ i j p hi hj f. rw (cell-setRegister registerCount w r x i (number f) low) (field-related same i j p hi hj f))
+      (λ k below. roots k below (ℕ-discrete k r)) fields
     where
-      roots : (k : ℕ) → k < registerCount → Dec (k ≡ r) → Pair w m (register (setRegister w r x) k) (held (hold m r y) k)
+      place : More w m 0 0 x y → y ≤ length (m .cells)
+      place = ⊎-elim (pair-place same) (λ nil. omega arith)
+
+      roots : (k : ℕ) → k < registerCount → Dec (k ≡ r) → More w m 0 0 (register (setRegister w r x) k) (held (hold m r y) k)
       roots k below (yes e) =
           rw (
             e,
             register-same registerCount w r x (omega (arith, fit .sized .exact, fit .sized .least)),
             getD-set-same (m .registers) r y 0 (omega (arith, same .bounded .registers)),
-          ) pair
+          ) link
       roots k below (no e) =
-          rw (register-other registerCount w r x k e, getD-set-other (m .registers) r k y 0 e) (root-pair same k below)
+          rw (register-other registerCount w r x k e, getD-set-other (m .registers) r k y 0 e) (inl (root-pair same k below))
 
-  related-place : (f : Field) (u v : ℕ) → Related (Pair w m) f u v → number f < 3 → v ≤ length (m .cells)
-  related-place Field.left u v pair link = pair-place same pair
-  related-place Field.right u v pair link = pair-place same pair
-  related-place Field.value u v e link = absurd (omega arith)
+      fields : (i j : ℕ) → More w m 0 0 i j → 0 < i → 0 < j → (f : Field)
+          → Related (More w m 0 0) f (cell registerCount (setRegister w r x) i (number f)) (get f (entry m j))
+      fields i j (inl p) hi hj f =
+          rw (cell-setRegister registerCount w r x i (number f) low) (related-map (λ a b. inl) f _ _ (field-related same i j p hi hj f))
+      fields i j (inr p) hi hj f = absurd (omega arith)
 
+  -- A field of two cells that are paired gets what is related.
   pub same-put : (f : Field) (x y u v : ℕ) → Pair w m x y → 0 < x → 0 < y → Related (Pair w m) f u v
       → Same (setCell registerCount w x (number f) u) (replace m y (put f (entry m y) v))
   same-put f x y u v pair hx hy new =
@@ -49,7 +55,7 @@ module _ {N : ℕ} {w : List ℕ} {m : Model} (fit : Fit N w) (same : Same w m) 
         roots = λ k. rw (length-set (m .cells) (y - 1) e) (same .bounded .roots k);
         cells = λ j. rw (length-set (m .cells) (y - 1) e)
             (set-holds (Linked (length (m .cells))) (m .cells) (y - 1) (j - 1) e _ (same .bounded .cells j)
-            (put-linked (length (m .cells)) f (entry m y) v (same .bounded .cells y) (related-place f u v new)));
+            (put-linked (length (m .cells)) f (entry m y) v (same .bounded .cells y) (λ link. pair-place same (link-related (Pair w m) f u v link .1 new))));
       })
       (λ k below. rw (register-setCell registerCount w x (number f) u k below) (root-pair same k below))
       (λ i j p hi hj g. go i j p hi hj g (ℕ-discrete i x))
@@ -64,7 +70,7 @@ module _ {N : ℕ} {w : List ℕ} {m : Model} (fit : Fit N w) (same : Same w m) 
       model = replace m y e
 
       room : poolLength registerCount x ≤ length w
-      room = omega (arith, fit .sized .exact, pair-used same fit pair hx .1)
+      room = omega (arith, fit .sized .exact, pair-used same fit pair hx .bounded)
 
       -- the cell written, field by field, and every other cell
       here : (g : Field) → Related (Pair w m) g (cell registerCount after x (number g)) (get g e)
