@@ -7,3 +7,5 @@ pub mod Same
 pub mod Writes
 pub mod Append
 pub mod Steps
+pub mod Collecting
+pub mod New
