@@ -9,3 +9,6 @@ pub mod Append
 pub mod Steps
 pub mod Collecting
 pub mod New
+pub mod Start
+pub mod Runs
+pub mod Theorems

@@ -1,0 +1,61 @@
+-- Fresh words and the empty reference model show the same.
+use Prim.Native.Nat.{ℕ, _+_, _*_, _<_, _≤_}
+use native.Mathlib.Omega.{arith}
+use native.Mathlib.Decide.{decLt}
+use mathlib.Core.Path.{_≡_, refl, sym, _∙_}
+use mathlib.Core.List.{List, [], _∷_}
+use mathlib.Core.Bool.{false}
+use lib.ListN.{length, getD, replicate, length-replicate, getD-replicate, List·getD-eq-default}
+use Rattle.pool.specs.Layout.{registerCount, cellLimit, poolLength, register}
+use Rattle.pool.specs.Retain.{freshWords}
+use Rattle.pool.proofs.Questions.{cells-sized}
+use Rattle.pool.proofs.WellFormed.{Link, well-formed-read}
+use Rattle.pool.proofs.RetainedPool.{retained-free}
+use Rattle.pool.proofs.FreshPool.{fresh-is-well-formed}
+use Rattle.reference.specs.Model.{empty, held}
+use Rattle.reference.proofs.FreeList.{retained-exact}
+use Rattle.reference.proofs.Fit.{Fit}
+use Rattle.reference.proofs.Same.{Same, same-made}
+
+module _ (N : ℕ) (low : 1 ≤ N) (high : N ≤ cellLimit) where
+  -- What fresh words are made of: N, and 0 everywhere else.
+  abbrev blank : List ℕ
+  blank = N ∷ replicate (1 + registerCount + 4 * N) 0
+
+  room : poolLength registerCount N ≤ length blank
+  room = simp length-replicate (omega arith)
+
+  pub fresh-fit : Fit N (freshWords registerCount N)
+  fresh-fit =
+      let facts = fresh-is-well-formed N low high in
+      let pool = rw (facts .0) at (cells-sized registerCount (freshWords registerCount N) (omega (arith, facts .0))) in
+      record {
+        sized = pool .0;
+        counted = pool .1;
+        well = well-formed-read registerCount N (freshWords registerCount N) (facts .1);
+        free = retained-exact N (λ i. false) blank low room;
+      }
+
+  -- Every cell is free, so that a valid link is nil.
+  link-nil : {x : ℕ} → Link registerCount N (freshWords registerCount N) x → x ≡ 0
+  link-nil (Link.nil e) = e
+  link-nil {x} (Link.used some top s) = absurd (omega (arith, retained-free registerCount N (λ i. false) blank room x some top refl))
+
+  all-nil : (k : ℕ) → held empty k ≡ 0
+  all-nil k = go (decLt k registerCount)
+    where
+      go : Dec (k < registerCount) → held empty k ≡ 0
+      go (yes below) = getD-replicate registerCount k 0 0 below
+      go (no above) = List·getD-eq-default (replicate registerCount 0) 0 {n = k} (omega arith)
+
+  pub fresh-same : Same (freshWords registerCount N) empty
+  fresh-same =
+      same-made (freshWords registerCount N) empty (λ x y. (x ≡ 0) × (y ≡ 0))
+      (record {
+        nil = λ x y a. (λ e. a .1, λ e. a .0);
+        forward = λ x y z a b. a .1 ∙ sym (b .1);
+        backward = λ x y z a b. a .0 ∙ sym (b .0);
+      })
+      (record { registers = refl; roots = λ k. omega (arith, all-nil k); cells = λ x. omega arith })
+      (λ k below. (link-nil (fresh-fit .well .registers k below), all-nil k))
+      (λ x y a hx hy f. absurd (omega arith))
