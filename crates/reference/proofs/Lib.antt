@@ -12,3 +12,4 @@ pub mod New
 pub mod Start
 pub mod Runs
 pub mod Theorems
+pub mod Examples

@@ -1,2 +1,3 @@
 pub mod Model
 pub mod Equivalence
+pub mod Examples
