@@ -1,10 +1,10 @@
 -- The fields of a cell, in the pool and in the reference model: left, right and value.
-use Prim.Native.Nat.{ℕ, _-_, _<_, _≤_}
+use Prim.Native.Nat.{ℕ, _<_, _≤_}
 use native.Mathlib.Omega.{arith}
 use mathlib.Core.Path.{_≡_, refl}
 use mathlib.Core.Logic.{_↔_}
 use mathlib.Core.List.{List, [], _∷_}
-use lib.ListN.{length, getD, set}
+use lib.ListN.{getD, set}
 use Rattle.reference.specs.Model.{Entry}
 
 pub data Field : Type 0 where

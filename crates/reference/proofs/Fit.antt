@@ -2,10 +2,9 @@
 use Prim.Native.Nat.{ℕ, _+_, _*_, _<_, _≤_}
 use native.Mathlib.Omega.{arith}
 use native.Mathlib.Decide.{ℕ-discrete}
-use mathlib.Core.Path.{_≡_, refl, sym, _∙_}
+use mathlib.Core.Path.{_≡_, sym, _∙_}
 use mathlib.Core.List.{List}
 use lib.ListN.{length}
-use Rattle.graph.proofs.Lists.{Each}
 use Rattle.pool.specs.Layout.{registerCount, cellsOfLength, cellsOf, count, head, register, setRegister, cell, setCell, state, left, right}
 use Rattle.pool.proofs.Laws.{length-setRegister, count-setRegister, head-setRegister, cell-setRegister, register-same, register-other, length-setCell, count-setCell, head-setCell, register-setCell, cell-same, cell-other}
 use Rattle.pool.proofs.Questions.{Sized, sized-length, same-count}

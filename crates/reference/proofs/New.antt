@@ -1,23 +1,22 @@
 -- The call `new` on a pool that shows the same as the reference model: it is accepted exactly where fewer than N cells are live.
 use Prim.Native.Nat.{ℕ, _*_, _<_, _≤_}
 use native.Mathlib.Omega.{arith}
-use mathlib.Core.Path.{_≡_, refl, sym, ap, subst, _∙_}
+use mathlib.Core.Path.{_≡_, refl}
 use mathlib.Core.Logic.{⊎-elim}
 use mathlib.Core.List.{List, [], _∷_, List·Memᴰ}
 use mathlib.Core.Bool.{true}
-use lib.ListN.{length}
 use borrow.Author.Tests.{eq-eqb, ne-eqb, le-leb}
 use Rattle.graph.specs.Theorems.{Distinct}
 use Rattle.graph.proofs.Lists.{each-cons}
 use Rattle.graph.proofs.Marks.{zero-or-above}
-use Rattle.graph.proofs.Theorems.{order-reached, order-distinct, order-length}
+use Rattle.graph.proofs.Theorems.{order-reached, order-distinct}
 use Rattle.pool.specs.Layout.{registerCount, head, register, state, left, graphOf, rootsOf}
-use Rattle.pool.specs.Outcome.{Outcome, answered, refused}
+use Rattle.pool.specs.Outcome.{answered, refused}
 use Rattle.pool.proofs.PoolGraph.{reached-used, pool-within}
 use Rattle.pool.proofs.Retained.{retain-register}
 use Rattle.pool.proofs.WellFormed.{well-formed-made}
 use Rattle.collector.specs.Collect.{isReached, reachedCells, keptCells, collected}
-use Rattle.collector.proofs.Collected.{collected-head-nil, head-nil-full}
+use Rattle.collector.proofs.Collected.{head-nil-full}
 use Rattle.calls.specs.Answers.{silent}
 use Rattle.calls.specs.Calls.{newIn, goodHead, take}
 use Rattle.reference.specs.Model.{Model, live, append}

@@ -1,21 +1,20 @@
 -- One call, and lists of calls, on a pool and on the reference model that show the same.
-use Prim.Native.Nat.{ℕ, _<_, _≤_, min, max}
+use Prim.Native.Nat.{ℕ, _<_, min, max}
 use native.Mathlib.Omega.{arith}
 use native.Mathlib.Decide.{decLt}
-use mathlib.Core.Path.{_≡_, refl, sym, ap, ap₂, _∙_}
+use mathlib.Core.Path.{_≡_, refl, sym, ap₂, _∙_}
 use mathlib.Core.Logic.{_↔_}
 use mathlib.Core.List.{List, [], _∷_}
-use mathlib.Core.Bool.{Bool, true, false, false≢true, cond, _&&_, not}
+use mathlib.Core.Bool.{Bool, true, false, false≢true, _&&_, not}
 use lib.Dec.{leb, ltb}
 use borrow.Author.Tests.{le-leb, lt-leb, lt-ltb, le-ltb, leb-true, ltb-true}
-use Rattle.pool.specs.Layout.{registerCount}
 use Rattle.pool.specs.Outcome.{Outcome, answered, refused}
 use Rattle.pool.proofs.Questions.{both}
 use Rattle.calls.specs.declared.Call.{Call}
 use Rattle.calls.specs.declared.Call.the-variants as call
-use Rattle.calls.specs.Answers.{silent, compared}
+use Rattle.calls.specs.Answers.{compared}
 use Rattle.calls.specs.Calls.{newIn, callOf}
-use Rattle.reference.specs.Model.{Model, live, valid, append, modelOf}
+use Rattle.reference.specs.Model.{Model, live, valid, modelOf}
 use Rattle.reference.specs.Equivalence.{poolAnswers, modelAnswers, tells, noneTells, poolAfter}
 use Rattle.reference.proofs.Fit.{Fit}
 use Rattle.reference.proofs.Fields.{Field}

@@ -1,11 +1,10 @@
 -- A pool and the reference model show the same: their cells are paired from the registers on, one to one, with equal values.
 use Prim.Native.Nat.{ℕ, suc, _<_, _≤_}
-use native.Mathlib.Omega.{arith}
-use mathlib.Core.Path.{_≡_, refl, sym, _∙_}
+use mathlib.Core.Path.{_≡_, sym, _∙_}
 use mathlib.Core.Logic.{_↔_, _⊎_, inl, inr, ⊎-elim}
 use mathlib.Core.List.{List, [], _∷_}
 use lib.ListN.{length, getD}
-use Rattle.graph.specs.Graph.{Within, Reach}
+use Rattle.graph.specs.Graph.{Within}
 use Rattle.graph.specs.Compare.{Paired, OneToOne}
 use Rattle.graph.proofs.Lists.{Each, each-nil, each-cons}
 use Rattle.graph.proofs.Marks.{zero-or-above}

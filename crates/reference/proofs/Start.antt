@@ -3,10 +3,10 @@ use Prim.Native.Nat.{ℕ, _+_, _*_, _<_, _≤_}
 use native.Mathlib.Omega.{arith}
 use native.Mathlib.Decide.{decLt}
 use mathlib.Core.Path.{_≡_, refl, sym, _∙_}
-use mathlib.Core.List.{List, [], _∷_}
+use mathlib.Core.List.{List, _∷_}
 use mathlib.Core.Bool.{false}
-use lib.ListN.{length, getD, replicate, length-replicate, getD-replicate, List·getD-eq-default}
-use Rattle.pool.specs.Layout.{registerCount, cellLimit, poolLength, register}
+use lib.ListN.{length, replicate, length-replicate, getD-replicate, List·getD-eq-default}
+use Rattle.pool.specs.Layout.{registerCount, cellLimit, poolLength}
 use Rattle.pool.specs.Retain.{freshWords}
 use Rattle.pool.proofs.Questions.{cells-sized}
 use Rattle.pool.proofs.WellFormed.{Link, well-formed-read}

@@ -1,5 +1,5 @@
 -- One call on a pool and on the reference model that show the same: every call but `new` and `collect`.
-use Prim.Native.Nat.{ℕ, _<_, _≤_}
+use Prim.Native.Nat.{ℕ, _<_}
 use native.Mathlib.Omega.{arith}
 use native.Mathlib.Decide.{ℕ-discrete}
 use mathlib.Core.Path.{_≡_, refl, subst}
@@ -9,7 +9,7 @@ use mathlib.Core.Bool.{Bool, true, false, cond, _&&_}
 use lib.Dec.{eqb, ltb}
 use borrow.Author.Tests.{lt-ltb, ltb-true, eq-eqb, ne-eqb}
 use Rattle.graph.proofs.Marks.{zero-or-above}
-use Rattle.pool.specs.Layout.{registerCount, cellsOf, register, setRegister, cell, setCell, value}
+use Rattle.pool.specs.Layout.{registerCount, register, setRegister, cell, setCell, value}
 use Rattle.pool.specs.Outcome.{Outcome, answered, refused}
 use Rattle.pool.proofs.Questions.{both}
 use Rattle.pool.proofs.WellFormed.{Link, link-made}

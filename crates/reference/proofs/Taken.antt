@@ -9,8 +9,7 @@ use mathlib.Core.Bool.{cond}
 use lib.ListN.{length, getD}
 use lib.Dec.{eqb}
 use borrow.Author.Tests.{eq-eqb, ne-eqb}
-use Rattle.graph.specs.Theorems.{Distinct}
-use Rattle.pool.specs.Layout.{registerCount, poolLength, count, head, setHead, register, cell, setCell, state, left, right}
+use Rattle.pool.specs.Layout.{registerCount, poolLength, count, head, register, cell, setCell, state, left}
 use Rattle.pool.proofs.Laws.{length-setCell, length-setHead, length-setRegister, cell-same, cell-other, cell-setHead, cell-setRegister, register-same, register-other, register-setHead, register-setCell, head-same, head-setRegister, count-setCell, count-setHead, count-setRegister}
 use Rattle.pool.proofs.WellFormed.{Link, Cell, WellFormed}
 use Rattle.calls.specs.Calls.{take}

@@ -13,9 +13,9 @@ use Rattle.pool.proofs.WellFormed.{well-formed-made}
 use Rattle.calls.specs.declared.Call.{Call}
 use Rattle.calls.specs.declared.Call.the-variants as call
 use Rattle.reference.specs.Model.{Model, empty, held, valid, live, named, onCell, modelOf}
-use Rattle.reference.specs.Equivalence.{poolAnswers, modelAnswers, poolAfter, Equivalence, EquivalenceAtLimit, ReachedPools, NeverMalformed}
+use Rattle.reference.specs.Equivalence.{modelAnswers, poolAfter, Equivalence, EquivalenceAtLimit, ReachedPools, NeverMalformed}
 use Rattle.reference.proofs.FreeList.{exact-free-list}
-use Rattle.reference.proofs.Fit.{Fit, fit-cells}
+use Rattle.reference.proofs.Fit.{fit-cells}
 use Rattle.reference.proofs.Start.{fresh-fit, fresh-same}
 use Rattle.reference.proofs.Runs.{equivalent, along}
 

@@ -1,5 +1,5 @@
 -- The reference model (01: the ledger): it never collects, and it is fed the calls and nothing from the pool.
-use Prim.Native.Nat.{ℕ, suc, _+_, _*_, _-_}
+use Prim.Native.Nat.{ℕ, suc, _*_, _-_}
 use mathlib.Core.List.{List, [], _∷_, _++_}
 use mathlib.Core.Bool.{Bool, cond, _&&_}
 use lib.ListN.{length, getD, set, replicate}
