@@ -1,13 +1,12 @@
--- A collection on a pool that shows the same as the reference model: the call `collect`, and what a collection leaves.
-use Prim.Native.Nat.{ℕ, _*_, _≤_}
+-- A collected pool represents what the pool did, and `collect` answers as the reference model does.
+use Prim.Native.Nat.{ℕ, _*_}
 use native.Mathlib.Omega.{arith}
 use mathlib.Core.Path.{_≡_, refl, _∙_}
 use mathlib.Core.List.{List, [], _∷_}
-use lib.ListN.{length}
 use borrow.Author.Tests.{lt-ltb}
 use Rattle.graph.specs.Graph.{Reach}
 use Rattle.graph.proofs.Pairing.{paired-reach}
-use Rattle.pool.specs.Layout.{registerCount, poolLength, cell, graphOf, rootsOf}
+use Rattle.pool.specs.Layout.{registerCount, cell, graphOf, rootsOf}
 use Rattle.pool.specs.Outcome.{answered}
 use Rattle.pool.proofs.Retained.{length-retain, retain-count, retain-register}
 use Rattle.pool.proofs.WellFormed.{well-formed-made}
@@ -15,38 +14,35 @@ use Rattle.collector.specs.Collect.{isReached, collected, collectOf}
 use Rattle.collector.proofs.Collected.{collected-field, collected-well-formed}
 use Rattle.reference.specs.Model.{Model, live}
 use Rattle.reference.proofs.FreeList.{retained-exact}
-use Rattle.reference.proofs.Fit.{Fit, fit-cells}
+use Rattle.reference.proofs.Invariant.{Invariant, inv-cells, inv-room}
 use Rattle.reference.proofs.Fields.{Field, number}
-use Rattle.reference.proofs.Same.{Pair, Same, same-made, root-pair, field-related, kept-live}
+use Rattle.reference.proofs.Represents.{Pair, Represents, rep-made, root-pair, field-related, kept-live}
 use Rattle.reference.proofs.Steps.{Step}
 
-module _ {N : ℕ} {w : List ℕ} (fit : Fit N w) where
-  pub fit-room : poolLength registerCount N ≤ length w
-  fit-room = omega (arith, fit .sized .exact)
-
-  pub collected-fit : Fit N (collected registerCount N w)
-  collected-fit =
+module _ {N : ℕ} {w : List ℕ} (inv : Invariant N w) where
+  pub collected-inv : Invariant N (collected registerCount N w)
+  collected-inv =
       let keep = isReached registerCount N w in
       record {
-        sized = rw (length-retain registerCount N keep w) (fit .sized);
-        counted = retain-count registerCount N keep w fit-room ∙ fit .counted;
-        well = collected-well-formed registerCount N w (fit .well) fit-room;
-        free = retained-exact N keep w (fit .sized .least) fit-room;
+        sized = rw (length-retain registerCount N keep w) (inv .sized);
+        counted = retain-count registerCount N keep w (inv-room inv) ∙ inv .counted;
+        well = collected-well-formed registerCount N w (inv .well) (inv-room inv);
+        free = retained-exact N keep w (inv .sized .least) (inv-room inv);
       }
 
   field-kept : (f : Field) {x : ℕ} → Reach (graphOf registerCount w) (rootsOf registerCount w) x
       → cell registerCount (collected registerCount N w) x (number f) ≡ cell registerCount w x (number f)
-  field-kept Field.left = collected-field registerCount N w (fit .well) fit-room 0 (omega arith)
-  field-kept Field.right = collected-field registerCount N w (fit .well) fit-room 1 (omega arith)
-  field-kept Field.value = collected-field registerCount N w (fit .well) fit-room 2 (omega arith)
+  field-kept Field.left = collected-field registerCount N w (inv .well) (inv-room inv) 0 (omega arith)
+  field-kept Field.right = collected-field registerCount N w (inv .well) (inv-room inv) 1 (omega arith)
+  field-kept Field.value = collected-field registerCount N w (inv .well) (inv-room inv) 2 (omega arith)
 
-  pub collected-same : {m : Model} → Same w m → Same (collected registerCount N w) m
-  collected-same {m} same =
-      same-made (collected registerCount N w) m (Pair w m) (same .one-to-one) (same .bounded)
-      (λ k low. rw (retain-register registerCount N (isReached registerCount N w) w fit-room k low) (root-pair same k low))
-      (λ x y pair hx hy f. rw (field-kept f (paired-reach pair hx)) (field-related same x y pair hx hy f))
+  pub collected-rep : {m : Model} → Represents w m → Represents (collected registerCount N w) m
+  collected-rep {m} rep =
+      rep-made (collected registerCount N w) m (Pair w m) (rep .one-to-one) (rep .bounded)
+      (λ k low. rw (retain-register registerCount N (isReached registerCount N w) w (inv-room inv) k low) (root-pair rep k low))
+      (λ x y pair hx hy f. rw (field-kept f (paired-reach pair hx)) (field-related rep x y pair hx hy f))
 
-  pub collect-step : {m : Model} → Same w m → Step N (collectOf w) (answered (live m ∷ 3 * live m ∷ []), m)
-  collect-step {m} same =
-      rw (fit-cells fit, lt-ltb 0 N (fit .sized .least), well-formed-made registerCount N w (fit .well), kept-live same fit)
-      (record { answer = refl; fit = collected-fit; same = collected-same same })
+  pub collect-step : {m : Model} → Represents w m → Step N (collectOf w) (answered (live m ∷ 3 * live m ∷ []), m)
+  collect-step {m} rep =
+      rw (inv-cells inv, lt-ltb 0 N (inv .sized .least), well-formed-made registerCount N w (inv .well), kept-live rep inv)
+      (record { answer = refl; inv = collected-inv; rep = collected-rep rep })

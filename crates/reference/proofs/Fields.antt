@@ -3,8 +3,6 @@ use Prim.Native.Nat.{ℕ, _<_, _≤_}
 use native.Mathlib.Omega.{arith}
 use mathlib.Core.Path.{_≡_, refl}
 use mathlib.Core.Logic.{_↔_}
-use mathlib.Core.List.{List, [], _∷_}
-use lib.ListN.{getD, set}
 use Rattle.reference.specs.Model.{Entry}
 
 pub data Field : Type 0 where
@@ -64,14 +62,6 @@ pub put-linked : (k : ℕ) (f : Field) (e : Entry) (v : ℕ) → Linked k e → 
 put-linked k left e v old new = (new (omega arith), old .1)
 put-linked k right e v old new = (old .0, new (omega arith))
 put-linked k value e v old new = old
-
--- What P holds of, it holds of after a write of what it holds of.
-pub set-holds : {A : Type 0} (P : A → Type 0) (l : List A) (i j : ℕ) (v d : A) → P (getD l j d) → P v → P (getD (set l i v) j d)
-set-holds P [] i j v d old new = old
-set-holds P (x ∷ l) ℕ.zero ℕ.zero v d old new = new
-set-holds P (x ∷ l) ℕ.zero (ℕ.suc j) v d old new = old
-set-holds P (x ∷ l) (ℕ.suc i) ℕ.zero v d old new = old
-set-holds P (x ∷ l) (ℕ.suc i) (ℕ.suc j) v d old new = set-holds P l i j v d old new
 
 -- A field after a write is related where the field written is, and every other one was.
 pub put-related : (P : ℕ → ℕ → Type 0) (f g : Field) (e : Entry) (u v : ℕ) (read : ℕ) → Related P f u v

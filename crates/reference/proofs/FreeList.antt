@@ -5,7 +5,7 @@ use native.Mathlib.Decide.{ℕ-discrete}
 use mathlib.Core.Path.{_≡_, refl, sym, ap, _∙_}
 use mathlib.Core.Logic.{⊎-elim}
 use mathlib.Core.List.{List, [], _∷_, List·Memᴰ, List·Memᴰ·head, List·Memᴰ·tail, List·Memᴰ·cases-cons}
-use mathlib.Core.Bool.{Bool, true, false}
+use mathlib.Core.Bool.{Bool, true, false, true≢false}
 use lib.ListN.{length}
 use borrow.Author.Tests.{ne-eqb}
 use Rattle.graph.specs.Theorems.{Distinct}
@@ -17,10 +17,15 @@ use Rattle.pool.proofs.RetainedPool.{retained-used, retained-free}
 use Rattle.reference.specs.Equivalence.{ExactFreeList}
 use Rattle.reference.proofs.Pigeonhole.{distinct-length}
 
+-- i is a free cell.
+abbrev pub IsFree : ℕ → List ℕ → ℕ → Type 0
+IsFree N w i = (0 < i) × (i ≤ N) × (state registerCount w i ≡ 4)
+
 -- From the link i on, left links lead through the free cells of the list l to nil.
 pub data Chain (N : ℕ) (w : List ℕ) : ℕ → List ℕ → Type 0 where
   none : Chain N w 0 []
-  link : {i : ℕ} {l : List ℕ} → 0 < i → i ≤ N → state registerCount w i ≡ 4 → Chain N w (left registerCount w i) l → Chain N w i (i ∷ l)
+  link : {i : ℕ} {l : List ℕ} → 0 < i → i ≤ N → state registerCount w i ≡ 4 → Chain N w (left registerCount w i) l
+      → Chain N w i (i ∷ l)
 
 -- The chain from the head has every free cell once.
 pub record Free (N : ℕ) (w : List ℕ) : Type 0 where
@@ -49,9 +54,9 @@ module _ {N : ℕ} {w : List ℕ} where
   chain-within none = omega arith
   chain-within (link low high free rest) = high
 
-  pub chain-free : {i : ℕ} {l : List ℕ} → Chain N w i l → Each (λ x. (0 < x) × (x ≤ N) × (state registerCount w x ≡ 4)) l
+  pub chain-free : {i : ℕ} {l : List ℕ} → Chain N w i l → Each (IsFree N w) l
   chain-free none = each-nil _
-  chain-free (link low high free rest) = each-cons (λ x. (0 < x) × (x ≤ N) × (state registerCount w x ≡ 4)) (low, high, free) (chain-free rest)
+  chain-free (link low high free rest) = each-cons (IsFree N w) (low, high, free) (chain-free rest)
 
   -- A chain stays where its cells stay free, with the same left links.
   pub chain-same : (w' : List ℕ) {i : ℕ} {l : List ℕ} → Chain N w i l
@@ -73,44 +78,42 @@ module _ {N : ℕ} {w : List ℕ} where
 
   pub exact-free-list : Free N w → ExactFreeList N w
   exact-free-list f =
-      let cells : Each (λ x. (0 < x) × (x ≤ N) × (state registerCount w x ≡ 4)) (f .list) = chain-free (f .chain) in
+      let cells : Each (IsFree N w) (f .list) = chain-free (f .chain) in
       let short : length (f .list) ≤ N = distinct-length N (f .once) (λ x m. (cells x m .0, cells x m .1)) in
       let found : freeList registerCount N w ≡ f .list = chain-follow N (f .chain) short in
       record { once = rw found (f .once); free = rw found cells; all = rw found (f .all) }
 
--- The cells that a retained pool does not keep, in ascending order: none twice, and all of them.
-module _ (keep : ℕ → Bool) where
-  above : (k i : ℕ) → Each (λ x. i ≤ x) (freeCells keep k i)
-  unfolding freeCells
-  above zero i = each-nil _
-  above (suc k) i = go (keep i) (above k (suc i))
-    where
-      go : (t : Bool) → Each (λ x. suc i ≤ x) (freeCells keep k (suc i))
-          → Each (λ x. i ≤ x) (elim t [ true ↦ freeCells keep k (suc i) | false ↦ i ∷ freeCells keep k (suc i) ])
-      go true rest x m = omega (arith, rest x m)
-      go false rest x m = ⊎-elim (λ e. omega arith) (λ k. omega (arith, rest x k)) (List·Memᴰ·cases-cons m)
+-- The cells among the k from i on that are not kept: each once, and all of them.
+record Dropped (keep : ℕ → Bool) (k i : ℕ) (l : List ℕ) : Type 0 where
+  above : Each (λ x. i ≤ x) l
+  once : Distinct l
+  all : (x : ℕ) → i ≤ x → x < i + k → keep x ≡ false → List·Memᴰ x l
 
-  once : (k i : ℕ) → Distinct (freeCells keep k i)
-  unfolding freeCells
-  once zero i = Distinct.none
-  once (suc k) i = go (keep i) (once k (suc i))
-    where
-      go : (t : Bool) → Distinct (freeCells keep k (suc i))
-          → Distinct (elim t [ true ↦ freeCells keep k (suc i) | false ↦ i ∷ freeCells keep k (suc i) ])
-      go true rest = rest
-      go false rest = Distinct.more (λ (m : List·Memᴰ i (freeCells keep k (suc i))). omega (arith, above k (suc i) i m)) rest
-
-  all : (k i x : ℕ) → i ≤ x → x < i + k → keep x ≡ false → List·Memᴰ x (freeCells keep k i)
-  unfolding freeCells
-  all zero i x low high e = absurd (omega arith)
-  all (suc k) i x low high e = go (keep i) refl (λ l. all k (suc i) x l (omega arith) e) (ℕ-discrete x i)
-    where
-      go : (t : Bool) → keep i ≡ t → (suc i ≤ x → List·Memᴰ x (freeCells keep k (suc i))) → Dec (x ≡ i)
-          → List·Memᴰ x (elim t [ true ↦ freeCells keep k (suc i) | false ↦ i ∷ freeCells keep k (suc i) ])
-      go true kept rest (yes same) = let wrong : true ≡ false = sym kept ∙ (ap keep (sym same) ∙ e) in let z : _≡_ {A = ℕ} 0 1 = cc in absurd (omega arith)
-      go true kept rest (no other) = rest (omega arith)
-      go false kept rest (yes same) = List·Memᴰ·head same
-      go false kept rest (no other) = List·Memᴰ·tail (rest (omega arith))
+dropped : (keep : ℕ → Bool) (k i : ℕ) → Dropped keep k i (freeCells keep k i)
+unfolding freeCells
+dropped keep zero i = record { above = each-nil _; once = Distinct.none; all = λ x low high e. absurd (omega arith) }
+dropped keep (suc k) i = go (keep i) refl (dropped keep k (suc i))
+  where
+    go : (t : Bool) → keep i ≡ t → Dropped keep k (suc i) (freeCells keep k (suc i))
+        → Dropped keep (suc k) i (elim t [ true ↦ freeCells keep k (suc i) | false ↦ i ∷ freeCells keep k (suc i) ])
+    go true kept rest =
+        record {
+          above = λ x m. omega (arith, rest .above x m);
+          once = rest .once;
+          all = λ x low high e.
+              let other : x ≡ i → ⊥ = λ same. true≢false (sym kept ∙ (ap keep (sym same) ∙ e)) in
+              rest .all x (omega (arith, other)) (omega arith) e;
+        }
+    go false free rest =
+        record {
+          above = λ x m. ⊎-elim (λ e. omega arith) (λ t. omega (arith, rest .above x t)) (List·Memᴰ·cases-cons m);
+          once = Distinct.more (λ (m : List·Memᴰ i (freeCells keep k (suc i))). omega (arith, rest .above i m)) (rest .once);
+          all = λ x low high e. first x low high e (ℕ-discrete x i);
+        }
+      where
+        first : (x : ℕ) → i ≤ x → x < i + suc k → keep x ≡ false → Dec (x ≡ i) → List·Memᴰ x (i ∷ freeCells keep k (suc i))
+        first x low high e (yes same) = List·Memᴰ·head same
+        first x low high e (no other) = List·Memᴰ·tail (rest .all x (omega arith) (omega arith) e)
 
 module _ (N : ℕ) (keep : ℕ → Bool) (w : List ℕ) (some : 0 < N) (room : poolLength registerCount N ≤ length w) where
   abbrev retained : List ℕ
@@ -125,11 +128,12 @@ module _ (N : ℕ) (keep : ℕ → Bool) (w : List ℕ) (some : 0 < N) (room : p
           → Chain N retained (lowestFree keep (suc k) (suc i)) (freeCells keep (suc k) (suc i))
       go true e rest = rw (e, lowestFree, freeCells) rest
       go false e rest =
-          let k-left : N - suc i ≡ k = omega arith in
+          let behind : N - suc i ≡ k = omega arith in
           let next : left registerCount retained (suc i) ≡ lowestFree keep k (suc (suc i)) =
-          retain-cell registerCount N keep w room (suc i) 1 (omega arith) (omega arith) (omega arith) ∙ rw (e, k-left) in
+          retain-cell registerCount N keep w room (suc i) 1 (omega arith) (omega arith) (omega arith) ∙ rw (e, behind) in
           rw (e, lowestFree, freeCells)
-          (link {i = suc i} {l = freeCells keep k (suc (suc i))} (omega arith) (omega arith) (retained-free registerCount N keep w room (suc i) (omega arith) (omega arith) e) (rw next rest))
+          (link {i = suc i} {l = freeCells keep k (suc (suc i))} (omega arith) (omega arith)
+          (retained-free registerCount N keep w room (suc i) (omega arith) (omega arith) e) (rw next rest))
 
   pub retained-exact : Free N retained
   retained-exact =
@@ -137,10 +141,10 @@ module _ (N : ℕ) (keep : ℕ → Bool) (w : List ℕ) (some : 0 < N) (room : p
       record {
         list = freeCells keep N 1;
         chain = rw (retain-head registerCount N keep w room some, whole) (retained-chain N 0 (omega arith));
-        once = once keep N 1;
-        all = λ i low high free. all keep N 1 i low (omega arith) (dropped i low high free (keep i) refl);
+        once = dropped keep N 1 .once;
+        all = λ i low high free. dropped keep N 1 .all i low (omega arith) (not-kept i low high free (keep i) refl);
       }
     where
-      dropped : (i : ℕ) → 0 < i → i ≤ N → state registerCount retained i ≡ 4 → (t : Bool) → keep i ≡ t → keep i ≡ false
-      dropped i low high free true e = absurd (omega (arith, retained-used registerCount N keep w room i low high e))
-      dropped i low high free false e = e
+      not-kept : (i : ℕ) → 0 < i → i ≤ N → state registerCount retained i ≡ 4 → (t : Bool) → keep i ≡ t → keep i ≡ false
+      not-kept i low high free true e = absurd (omega (arith, retained-used registerCount N keep w room i low high e))
+      not-kept i low high free false e = e

@@ -1,9 +1,10 @@
+pub mod Places
 pub mod Pigeonhole
 pub mod FreeList
-pub mod Fit
+pub mod Invariant
 pub mod Taken
 pub mod Fields
-pub mod Same
+pub mod Represents
 pub mod Writes
 pub mod Append
 pub mod Steps

@@ -28,7 +28,8 @@ marks-count n (Distinct.more {x = x} {xs = t} new rest) m cells =
     unmarked : (y : ℕ) → List·Memᴰ y t → mark m x y ≡ 0
     unmarked y k =
         ⊎-elim (λ e. e)
-        (λ above. absurd (⊎-elim (λ e. new (subst (λ (z : ℕ). List·Memᴰ z t) e k)) (λ old. omega (arith, cells y (List·Memᴰ·tail k) .2)) (mark-cases m x y above)))
+        (λ above.
+        absurd (⊎-elim (λ e. new (subst (λ (z : ℕ). List·Memᴰ z t) e k)) (λ old. omega (arith, cells y (List·Memᴰ·tail k) .2)) (mark-cases m x y above)))
         (zero-or-above (mark m x y))
 
 pub distinct-length : (n : ℕ) {t : List ℕ} → Distinct t → Each (λ x. (0 < x) × (x ≤ n)) t → length t ≤ n

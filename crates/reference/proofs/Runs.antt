@@ -1,11 +1,11 @@
--- One call, and lists of calls, on a pool and on the reference model that show the same.
+-- One call, and lists of calls, on a pool and on the reference model that it represents.
 use Prim.Native.Nat.{ℕ, _<_, min, max}
 use native.Mathlib.Omega.{arith}
 use native.Mathlib.Decide.{decLt}
 use mathlib.Core.Path.{_≡_, refl, sym, ap₂, _∙_}
 use mathlib.Core.Logic.{_↔_}
 use mathlib.Core.List.{List, [], _∷_}
-use mathlib.Core.Bool.{Bool, true, false, false≢true, _&&_, not}
+use mathlib.Core.Bool.{Bool, true, false, false≢true, cond, _&&_, not}
 use lib.Dec.{leb, ltb}
 use borrow.Author.Tests.{le-leb, lt-leb, lt-ltb, le-ltb, leb-true, ltb-true}
 use Rattle.pool.specs.Outcome.{Outcome, answered, refused}
@@ -16,10 +16,10 @@ use Rattle.calls.specs.Answers.{compared}
 use Rattle.calls.specs.Calls.{newIn, callOf}
 use Rattle.reference.specs.Model.{Model, live, valid, modelOf}
 use Rattle.reference.specs.Equivalence.{poolAnswers, modelAnswers, tells, noneTells, poolAfter}
-use Rattle.reference.proofs.Fit.{Fit}
+use Rattle.reference.proofs.Invariant.{Invariant}
 use Rattle.reference.proofs.Fields.{Field}
-use Rattle.reference.proofs.Same.{Same}
-use Rattle.reference.proofs.Steps.{Step, valid-read, asked-fit, copy-step, clear-step, follow-step, link-step, set-value-step, value-step, same-step}
+use Rattle.reference.proofs.Represents.{Represents}
+use Rattle.reference.proofs.Steps.{Step, unchanged, valid-read, asked-cells, copy-step, clear-step, follow-step, link-step, set-value-step, value-step, same-step}
 use Rattle.reference.proofs.Collecting.{collect-step}
 use Rattle.reference.proofs.New.{NewCase, new-case}
 
@@ -31,46 +31,51 @@ pub data Told (N L : ℕ) (c : Call) (w : List ℕ) (m : Model) : Type 0 where
 done-or-refused : (k : ℕ) → answered [] ≡ refused k → ⊥
 done-or-refused k e = let z : _≡_ {A = ℕ} 0 1 = cc in omega arith
 
-module _ {N : ℕ} (L : ℕ) {w : List ℕ} {m : Model} (fit : Fit N w) (same : Same w m) where
+module _ {N : ℕ} (L : ℕ) {w : List ℕ} {m : Model} (inv : Invariant N w) (rep : Represents w m) where
   new-told : (r a b v : ℕ) → Told N L (call.New r a b v) w m
   new-told r a b v = go (valid r a b) refl
     where
-      tests : (s t u : Bool) → valid r a b ≡ s → leb (min N L) (live m) ≡ t → ltb (live m) (max N L) ≡ u → tells N L (call.New r a b v) m ≡ (s && t && u)
+      asked : callOf (call.New r a b v) w ≡ cond (valid r a b) (newIn N w r a b v) (refused 2, w)
+      asked = asked-cells inv r a b (λ n. newIn n w r a b v)
+
+      tests : (s t u : Bool) → valid r a b ≡ s → leb (min N L) (live m) ≡ t → ltb (live m) (max N L) ≡ u
+          → tells N L (call.New r a b v) m ≡ (s && t && u)
       tests s t u p q k = rw (p, q, k)
 
       ask : valid r a b ≡ true → NewCase N w m r a b v → Dec (live m < L) → Told N L (call.New r a b v) w m
       ask e (NewCase.accepted few next) (yes below) =
-          alike (tests true false _ e (lt-leb (min N L) (live m) (omega arith)) refl) (rw (asked-fit fit r a b (λ n. newIn n w r a b v), e, lt-leb L (live m) below) next)
+          alike (tests true false _ e (lt-leb (min N L) (live m) (omega arith)) refl)
+          (rw (asked, e, lt-leb L (live m) below) next)
       ask e (NewCase.accepted few next) (no above) =
           apart (tests true true true e (le-leb (min N L) (live m) (omega arith)) (lt-ltb (live m) (max N L) (omega arith)))
-          (rw (asked-fit fit r a b (λ n. newIn n w r a b v), e, le-leb L (live m) (omega arith)) (λ k. done-or-refused 5 (sym (next .answer) ∙ k)))
+          (rw (asked, e, le-leb L (live m) (omega arith)) (λ k. done-or-refused 5 (sym (next .answer) ∙ k)))
       ask e (NewCase.full many out) (yes below) =
           apart (tests true true true e (le-leb (min N L) (live m) (omega arith)) (lt-ltb (live m) (max N L) (omega arith)))
-          (rw (asked-fit fit r a b (λ n. newIn n w r a b v), e, lt-leb L (live m) below, out) (λ k. done-or-refused 5 (sym k)))
+          (rw (asked, e, lt-leb L (live m) below, out) (λ k. done-or-refused 5 (sym k)))
       ask e (NewCase.full many out) (no above) =
           alike (tests true true false e (le-leb (min N L) (live m) (omega arith)) (le-ltb (live m) (max N L) (omega arith)))
-          (rw (asked-fit fit r a b (λ n. newIn n w r a b v), e, le-leb L (live m) (omega arith), out) (record { answer = refl; fit = fit; same = same }))
+          (rw (asked, e, le-leb L (live m) (omega arith), out) (unchanged inv rep _))
 
       go : (t : Bool) → valid r a b ≡ t → Told N L (call.New r a b v) w m
       go true e =
           let low = valid-read r a b e in
-          ask e (new-case fit same r a b v (low .0) (low .1) (low .2)) (decLt (live m) L)
+          ask e (new-case inv rep r a b v (low .0) (low .1) (low .2)) (decLt (live m) L)
       go false e =
           alike (tests false _ _ e refl refl)
-          (rw (asked-fit fit r a b (λ n. newIn n w r a b v), e) (record { answer = refl; fit = fit; same = same }))
+          (rw (asked, e) (unchanged inv rep _))
 
   pub told : (c : Call) → Told N L c w m
-  told (call.Copy r a) = alike refl (copy-step fit same r a)
-  told (call.Clear r) = alike refl (clear-step fit same r)
+  told (call.Copy r a) = alike refl (copy-step inv rep r a)
+  told (call.Clear r) = alike refl (clear-step inv rep r)
   told (call.New r a b v) = new-told r a b v
-  told (call.Left r a) = alike refl (follow-step fit same Field.left (omega arith) r a)
-  told (call.Right r a) = alike refl (follow-step fit same Field.right (omega arith) r a)
-  told (call.SetLeft a b) = alike refl (link-step fit same Field.left (omega arith) a b)
-  told (call.SetRight a b) = alike refl (link-step fit same Field.right (omega arith) a b)
-  told (call.SetValue a v) = alike refl (set-value-step fit same a v)
-  told (call.Value a) = alike refl (value-step fit same a)
-  told (call.Same a b) = alike refl (same-step fit same a b)
-  told call.Collect = alike refl (collect-step fit same)
+  told (call.Left r a) = alike refl (follow-step inv rep Field.left (omega arith) r a)
+  told (call.Right r a) = alike refl (follow-step inv rep Field.right (omega arith) r a)
+  told (call.SetLeft a b) = alike refl (link-step inv rep Field.left (omega arith) a b)
+  told (call.SetRight a b) = alike refl (link-step inv rep Field.right (omega arith) a b)
+  told (call.SetValue a v) = alike refl (set-value-step inv rep a v)
+  told (call.Value a) = alike refl (value-step inv rep a)
+  told (call.Same a b) = alike refl (same-step inv rep a b)
+  told call.Collect = alike refl (collect-step inv rep)
 
 -- One answer more on both sides, where the call does not tell, and where it does.
 module _ {o p : Outcome} {os ps : List Outcome} {t : Bool} (s : Bool) where
@@ -82,17 +87,17 @@ module _ {o p : Outcome} {os ps : List Outcome} {t : Bool} (s : Bool) where
   more-apart e differ = (λ h. absurd (differ (cc)), λ h. absurd (false≢true (rw e at h)))
 
 -- The answers to a list of calls are equal exactly where no call tells.
-pub equivalent : (N L : ℕ) (calls : List Call) {w : List ℕ} {m : Model} → Fit N w → Same w m
+pub equivalent : (N L : ℕ) (calls : List Call) {w : List ℕ} {m : Model} → Invariant N w → Represents w m
     → (poolAnswers calls w ≡ modelAnswers L calls m) ↔ (noneTells N L calls m ≡ true)
 unfolding poolAnswers modelAnswers noneTells
-equivalent N L [] fit same = (λ h. refl, λ h. refl)
-equivalent N L (c ∷ cs) {w} {m} fit same = go (told L fit same c) (λ fit' same'. equivalent N L cs fit' same')
+equivalent N L [] inv rep = (λ h. refl, λ h. refl)
+equivalent N L (c ∷ cs) {w} {m} inv rep = go (told L inv rep c) (λ inv' rep'. equivalent N L cs inv' rep')
   where
     go : Told N L c w m
-        → (Fit N ((callOf c w) .1) → Same ((callOf c w) .1) ((modelOf L c m) .1)
+        → (Invariant N ((callOf c w) .1) → Represents ((callOf c w) .1) ((modelOf L c m) .1)
         → (poolAnswers cs ((callOf c w) .1) ≡ modelAnswers L cs ((modelOf L c m) .1)) ↔ (noneTells N L cs ((modelOf L c m) .1) ≡ true))
         → (poolAnswers (c ∷ cs) w ≡ modelAnswers L (c ∷ cs) m) ↔ (noneTells N L (c ∷ cs) m ≡ true)
-    go (alike e next) rest = more-alike (noneTells N L cs ((modelOf L c m) .1)) e (next .answer) (rest (next .fit) (next .same))
+    go (alike e next) rest = more-alike (noneTells N L cs ((modelOf L c m) .1)) e (next .answer) (rest (next .inv) (next .rep))
     go (apart e differ) rest = more-apart (noneTells N L cs ((modelOf L c m) .1)) e differ
 
 -- With L = N no call tells.
@@ -113,13 +118,13 @@ never-told N (call.Same a b) m e = false≢true e
 never-told N call.Collect m e = false≢true e
 
 -- So the answers are equal, and what is left is a pool as before.
-pub along : (N : ℕ) (calls : List Call) {w : List ℕ} {m : Model} → Fit N w → Same w m
-    → (poolAnswers calls w ≡ modelAnswers N calls m) × Fit N (poolAfter calls w)
+pub along : (N : ℕ) (calls : List Call) {w : List ℕ} {m : Model} → Invariant N w → Represents w m
+    → (poolAnswers calls w ≡ modelAnswers N calls m) × Invariant N (poolAfter calls w)
 unfolding poolAnswers modelAnswers poolAfter
-along N [] fit same = (refl, fit)
-along N (c ∷ cs) {w} {m} fit same =
-    let next : Step N (compared c ((callOf c w) .0), (callOf c w) .1) (modelOf N c m) = step (told N fit same c) in
-    let rest = along N cs (next .fit) (next .same) in
+along N [] inv rep = (refl, inv)
+along N (c ∷ cs) {w} {m} inv rep =
+    let next : Step N (compared c ((callOf c w) .0), (callOf c w) .1) (modelOf N c m) = step (told N inv rep c) in
+    let rest = along N cs (next .inv) (next .rep) in
     (ap₂ (λ (o : Outcome) (os : List Outcome). o ∷ os) (next .answer) (rest .0), rest .1)
   where
     step : Told N N c w m → Step N (compared c ((callOf c w) .0), (callOf c w) .1) (modelOf N c m)

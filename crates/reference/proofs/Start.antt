@@ -1,4 +1,4 @@
--- Fresh words and the empty reference model show the same.
+-- Fresh words represent the empty reference model.
 use Prim.Native.Nat.{ℕ, _+_, _*_, _<_, _≤_}
 use native.Mathlib.Omega.{arith}
 use native.Mathlib.Decide.{decLt}
@@ -14,8 +14,8 @@ use Rattle.pool.proofs.RetainedPool.{retained-free}
 use Rattle.pool.proofs.FreshPool.{fresh-is-well-formed}
 use Rattle.reference.specs.Model.{empty, held}
 use Rattle.reference.proofs.FreeList.{retained-exact}
-use Rattle.reference.proofs.Fit.{Fit}
-use Rattle.reference.proofs.Same.{Same, same-made}
+use Rattle.reference.proofs.Invariant.{Invariant}
+use Rattle.reference.proofs.Represents.{Represents, rep-made}
 
 module _ (N : ℕ) (low : 1 ≤ N) (high : N ≤ cellLimit) where
   -- What fresh words are made of: N, and 0 everywhere else.
@@ -25,8 +25,8 @@ module _ (N : ℕ) (low : 1 ≤ N) (high : N ≤ cellLimit) where
   room : poolLength registerCount N ≤ length blank
   room = simp length-replicate (omega arith)
 
-  pub fresh-fit : Fit N (freshWords registerCount N)
-  fresh-fit =
+  pub fresh-inv : Invariant N (freshWords registerCount N)
+  fresh-inv =
       let facts = fresh-is-well-formed N low high in
       let pool = rw (facts .0) at (cells-sized registerCount (freshWords registerCount N) (omega (arith, facts .0))) in
       record {
@@ -48,14 +48,14 @@ module _ (N : ℕ) (low : 1 ≤ N) (high : N ≤ cellLimit) where
       go (yes below) = getD-replicate registerCount k 0 0 below
       go (no above) = List·getD-eq-default (replicate registerCount 0) 0 {n = k} (omega arith)
 
-  pub fresh-same : Same (freshWords registerCount N) empty
-  fresh-same =
-      same-made (freshWords registerCount N) empty (λ x y. (x ≡ 0) × (y ≡ 0))
+  pub fresh-rep : Represents (freshWords registerCount N) empty
+  fresh-rep =
+      rep-made (freshWords registerCount N) empty (λ x y. (x ≡ 0) × (y ≡ 0))
       (record {
         nil = λ x y a. (λ e. a .1, λ e. a .0);
         forward = λ x y z a b. a .1 ∙ sym (b .1);
         backward = λ x y z a b. a .0 ∙ sym (b .0);
       })
       (record { registers = refl; roots = λ k. omega (arith, all-nil k); cells = λ x. omega arith })
-      (λ k below. (link-nil (fresh-fit .well .registers k below), all-nil k))
+      (λ k below. (link-nil (fresh-inv .well .registers k below), all-nil k))
       (λ x y a hx hy f. absurd (omega arith))

@@ -1,4 +1,4 @@
--- One call on a pool and on the reference model that show the same: every call but `new` and `collect`.
+-- One call on a pool and on the reference model that it represents: every call but `new` and `collect`.
 use Prim.Native.Nat.{ℕ, _<_}
 use native.Mathlib.Omega.{arith}
 use native.Mathlib.Decide.{ℕ-discrete}
@@ -15,16 +15,16 @@ use Rattle.pool.proofs.Questions.{both}
 use Rattle.pool.proofs.WellFormed.{Link, link-made}
 use Rattle.calls.specs.Calls.{asked, holdsLink, withCell, copyIn, clearIn, followIn, linkIn, setValueIn, valueIn, sameIn}
 use Rattle.reference.specs.Model.{Model, entry, held, hold, replace, valid, named, onCell}
-use Rattle.reference.proofs.Fit.{Fit, fit-cells, fit-setRegister, fit-setCell}
+use Rattle.reference.proofs.Invariant.{Invariant, inv-cells, inv-setRegister, inv-setCell}
 use Rattle.reference.proofs.Fields.{Field, number, number-above, number-below, get, put, Related, link-related}
-use Rattle.reference.proofs.Same.{Pair, More, Same, root-pair, field-related, pair-used, pair-link}
-use Rattle.reference.proofs.Writes.{same-hold, same-put}
+use Rattle.reference.proofs.Represents.{Pair, More, Represents, root-pair, field-related, pair-used, pair-link}
+use Rattle.reference.proofs.Writes.{rep-hold, rep-put}
 
--- The same answer, and what is left shows the same again.
+-- The same answer, and what is left of the pool represents what is left of the reference model.
 pub record Step (N : ℕ) (p : Outcome × List ℕ) (q : Outcome × Model) : Type 0 where
   pub answer : p .0 ≡ q .0
-  pub fit : Fit N (p .1)
-  pub same : Same (p .1) (q .1)
+  pub inv : Invariant N (p .1)
+  pub rep : Represents (p .1) (q .1)
 
 -- The three tests of register numbers.
 pub valid-read : (r a b : ℕ) → valid r a b ≡ true → (r < registerCount) × (a < registerCount) × (b < registerCount)
@@ -33,22 +33,22 @@ valid-read r a b e =
     let inner = both (ltb r registerCount) (ltb a registerCount) (outer .0) in
     (ltb-true r registerCount (inner .0), ltb-true a registerCount (inner .1), ltb-true b registerCount (outer .1))
 
-module _ {N : ℕ} {w : List ℕ} (fit : Fit N w) where
-  -- The first question is always answered with yes, and so is the one after the registers read.
-  pub asked-fit : (r a b : ℕ) (body : ℕ → Outcome × List ℕ) → asked w r a b body ≡ cond (valid r a b) (body N) (refused 2, w)
-  asked-fit r a b body = rw (fit-cells fit, lt-ltb 0 N (fit .sized .least))
+module _ {N : ℕ} {w : List ℕ} (inv : Invariant N w) where
+  -- The first question is answered with yes, and so is whether a register that is read holds a valid link.
+  pub asked-cells : (r a b : ℕ) (body : ℕ → Outcome × List ℕ) → asked w r a b body ≡ cond (valid r a b) (body N) (refused 2, w)
+  asked-cells r a b body = rw (inv-cells inv, lt-ltb 0 N (inv .sized .least))
 
   pub holds-link : (a : ℕ) → a < registerCount → holdsLink N w a ≡ true
-  holds-link a low = link-made registerCount N w (register w a) (fit .well .registers a low)
+  holds-link a low = link-made registerCount N w (register w a) (inv .well .registers a low)
 
-  module _ {m : Model} (same : Same w m) where
-    unchanged : (o : Outcome) → Step N (o, w) (o, m)
-    unchanged o = record { answer = refl; fit = fit; same = same }
+  module _ {m : Model} (rep : Represents w m) where
+    pub unchanged : (o : Outcome) → Step N (o, w) (o, m)
+    unchanged o = record { answer = refl; inv = inv; rep = rep }
 
     -- The second question.
     named-step : (r a b : ℕ) (body : ℕ → Outcome × List ℕ) (q : Outcome × Model)
         → (r < registerCount → a < registerCount → b < registerCount → Step N (body N) q) → Step N (asked w r a b body) (named m r a b q)
-    named-step r a b body q next = rw (asked-fit r a b body) (go (valid r a b) refl)
+    named-step r a b body q next = rw (asked-cells r a b body) (go (valid r a b) refl)
       where
         go : (t : Bool) → valid r a b ≡ t → Step N (cond t (body N) (refused 2, w)) (cond t q (refused 2, m))
         go true e =
@@ -62,7 +62,7 @@ module _ {N : ℕ} {w : List ℕ} (fit : Fit N w) where
     cell-step a low p q next = rw (holds-link a low) (⊎-elim none one (zero-or-above (held m a)))
       where
         nil : (register w a ≡ 0) ↔ (held m a ≡ 0)
-        nil = same .one-to-one .nil (register w a) (held m a) (root-pair same a low)
+        nil = rep .one-to-one .nil (register w a) (held m a) (root-pair rep a low)
 
         none : held m a ≡ 0 → Step N (cond (eqb (register w a) 0) (refused 4, w) p) (onCell m a q)
         none e = rw (eq-eqb (held m a) 0 e, eq-eqb (register w a) 0 (nil .1 e)) (unchanged (refused 4))
@@ -77,26 +77,26 @@ module _ {N : ℕ} {w : List ℕ} (fit : Fit N w) where
     hold-step r x y low link =
         record {
           answer = refl;
-          fit = fit-setRegister fit r x low (⊎-elim (pair-link same fit) (λ nil. Link.nil (nil .0)) link);
-          same = same-hold fit same r x y low link;
+          inv = inv-setRegister inv r x low (⊎-elim (pair-link rep inv) (λ nil. Link.nil (nil .0)) link);
+          rep = rep-hold inv rep r x y low link;
         }
 
     -- A field of a cell is written, in both.
     put-step : (f : Field) (x y u v : ℕ) → Pair w m x y → 0 < x → 0 < y → Related (Pair w m) f u v
         → Step N (answered [], setCell registerCount w x (number f) u) (answered [], replace m y (put f (entry m y) v))
     put-step f x y u v pair hx hy new =
-        let used = pair-used same fit pair hx in
+        let used = pair-used rep inv pair hx in
         record {
           answer = refl;
-          fit = fit-setCell fit x (number f) u hx (used .bounded) (used .state) (number-above f) (number-below f)
-              (λ link. pair-link same fit (link-related (Pair w m) f u v link .1 new));
-          same = same-put fit same f x y u v pair hx hy new;
+          inv = inv-setCell inv x (number f) u hx (used .bounded) (used .state) (number-above f) (number-below f)
+              (λ link. pair-link rep inv (link-related (Pair w m) f u v link .1 new));
+          rep = rep-put inv rep f x y u v pair hx hy new;
         }
 
     pub copy-step : (r a : ℕ) → Step N (asked w r a a (λ n. copyIn n w r a)) (named m r a a (answered [], hold m r (held m a)))
     copy-step r a =
         named-step r a a (λ n. copyIn n w r a) _
-        (λ hr ha h. rw (holds-link a ha) (hold-step r (register w a) (held m a) hr (inl (root-pair same a ha))))
+        (λ hr ha h. rw (holds-link a ha) (hold-step r (register w a) (held m a) hr (inl (root-pair rep a ha))))
 
     pub clear-step : (r : ℕ) → Step N (asked w r r r (λ n. clearIn w r)) (named m r r r (answered [], hold m r 0))
     clear-step r = named-step r r r (λ n. clearIn w r) _ (λ hr h i. hold-step r 0 0 hr (inr (refl, refl)))
@@ -108,8 +108,8 @@ module _ {N : ℕ} {w : List ℕ} (fit : Fit N w) where
     follow-step f link r a =
         named-step r a a (λ n. followIn n w (number f) r a) _ λ hr ha h.
         cell-step a ha _ _ λ hx hy.
-        let next = link-related (Pair w m) f _ _ link .1 (field-related same (register w a) (held m a) (root-pair same a ha) hx hy f) in
-        rw (link-made registerCount N w (cell registerCount w (register w a) (number f)) (pair-link same fit next))
+        let next = link-related (Pair w m) f _ _ link .1 (field-related rep (register w a) (held m a) (root-pair rep a ha) hx hy f) in
+        rw (link-made registerCount N w (cell registerCount w (register w a) (number f)) (pair-link rep inv next))
         (hold-step r _ _ hr (inl next))
 
     -- setleft and setright
@@ -120,21 +120,21 @@ module _ {N : ℕ} {w : List ℕ} (fit : Fit N w) where
         named-step a b b (λ n. linkIn n w (number f) a b) _ λ ha hb h.
         rw (holds-link b hb)
         (cell-step a ha _ _ λ hx hy.
-        put-step f (register w a) (held m a) (register w b) (held m b) (root-pair same a ha) hx hy
-        (link-related (Pair w m) f _ _ link .0 (root-pair same b hb)))
+        put-step f (register w a) (held m a) (register w b) (held m b) (root-pair rep a ha) hx hy
+        (link-related (Pair w m) f _ _ link .0 (root-pair rep b hb)))
 
     pub set-value-step : (a v : ℕ) → Step N (asked w a a a (λ n. setValueIn n w a v))
         (named m a a a (onCell m a (answered [], replace m (held m a) (put Field.value (entry m (held m a)) v))))
     set-value-step a v =
         named-step a a a (λ n. setValueIn n w a v) _ λ ha h i.
-        cell-step a ha _ _ λ hx hy. put-step Field.value (register w a) (held m a) v v (root-pair same a ha) hx hy refl
+        cell-step a ha _ _ λ hx hy. put-step Field.value (register w a) (held m a) v v (root-pair rep a ha) hx hy refl
 
     pub value-step : (a : ℕ) → Step N (asked w a a a (λ n. valueIn n w a))
         (named m a a a (onCell m a (answered ((entry m (held m a)) .value ∷ []), m)))
     value-step a =
         named-step a a a (λ n. valueIn n w a) _ λ ha h i.
         cell-step a ha _ _ λ hx hy.
-        rw (field-related same (register w a) (held m a) (root-pair same a ha) hx hy Field.value) (unchanged _)
+        rw (field-related rep (register w a) (held m a) (root-pair rep a ha) hx hy Field.value) (unchanged _)
 
     pub same-step : (a b : ℕ) → Step N (asked w a b b (λ n. sameIn n w a b))
         (named m a b b (answered (cond (eqb (held m a) (held m b)) 1 0 ∷ []), m))
@@ -145,12 +145,12 @@ module _ {N : ℕ} {w : List ℕ} (fit : Fit N w) where
           where
             go : Dec (held m a ≡ held m b) → eqb (register w a) (register w b) ≡ eqb (held m a) (held m b)
             go (yes e) =
-                let one = same .one-to-one .backward (register w a) (register w b) (held m b)
-                (subst (Pair w m (register w a)) e (root-pair same a ha)) (root-pair same b hb) in
+                let one = rep .one-to-one .backward (register w a) (register w b) (held m b)
+                (subst (Pair w m (register w a)) e (root-pair rep a ha)) (root-pair rep b hb) in
                 rw (eq-eqb (held m a) (held m b) e, eq-eqb (register w a) (register w b) one)
             go (no e) =
                 rw (
                   ne-eqb (held m a) (held m b) e,
-                  ne-eqb (register w a) (register w b) (λ k. e (same .one-to-one .forward (register w b) (held m a) (held m b)
-                      (subst (λ (x : ℕ). Pair w m x (held m a)) k (root-pair same a ha)) (root-pair same b hb))),
+                  ne-eqb (register w a) (register w b) (λ k. e (rep .one-to-one .forward (register w b) (held m a) (held m b)
+                      (subst (λ (x : ℕ). Pair w m x (held m a)) k (root-pair rep a ha)) (root-pair rep b hb))),
                 )

@@ -13,8 +13,8 @@ use Rattle.pool.specs.Layout.{registerCount, poolLength, count, head, register,
 use Rattle.pool.proofs.Laws.{length-setCell, length-setHead, length-setRegister, cell-same, cell-other, cell-setHead, cell-setRegister, register-same, register-other, register-setHead, register-setCell, head-same, head-setRegister, count-setCell, count-setHead, count-setRegister}
 use Rattle.pool.proofs.WellFormed.{Link, Cell, WellFormed}
 use Rattle.calls.specs.Calls.{take}
-use Rattle.reference.proofs.FreeList.{Chain, Free, First, chain-first, chain-free, chain-same}
-use Rattle.reference.proofs.Fit.{Fit, link-kept}
+use Rattle.reference.proofs.FreeList.{Chain, Free, First, chain-free, chain-same}
+use Rattle.reference.proofs.Invariant.{Invariant, inv-first, link-kept}
 
 -- a field of a cell after a write to that cell
 cell-set : (w : List ℕ) (i f v g : ℕ) → 0 < i → f < 4 → g < 4 → poolLength registerCount i ≤ length w
@@ -33,7 +33,8 @@ module _ (w : List ℕ) (i x y v : ℕ) (low : 0 < i) where
   fill-length : length (fill w i x y v) ≡ length w
   fill-length = simp length-setCell
 
-  fill-here : (f : ℕ) → f < 4 → poolLength registerCount i ≤ length w → cell registerCount (fill w i x y v) i f ≡ getD (0 ∷ x ∷ y ∷ v ∷ []) f 0
+  fill-here : (f : ℕ) → f < 4 → poolLength registerCount i ≤ length w
+      → cell registerCount (fill w i x y v) i f ≡ getD (0 ∷ x ∷ y ∷ v ∷ []) f 0
   fill-here f hf room =
       let one = setCell registerCount w i 0 0 in
       let two = setCell registerCount one i 1 x in
@@ -60,13 +61,16 @@ module _ (w : List ℕ) (i x y v : ℕ) (low : 0 < i) where
       ∙ (cell-other registerCount _ i 1 x j f low (omega arith) hj hf (λ e. other (omega arith))
       ∙ cell-other registerCount w i 0 0 j f low (omega arith) hj hf (λ e. other (omega arith))))
 
--- The cell h is taken with the links x and y and the value v, and register r gets it.
-module _ {N : ℕ} {w : List ℕ} (fit : Fit N w) (r x y v : ℕ) (low : r < registerCount) (some : 0 < head w) (high : head w ≤ N) where
+-- The head cell is taken with the links x and y and the value v, and register r gets it.
+module _ {N : ℕ} {w : List ℕ} (inv : Invariant N w) (r x y v : ℕ) (low : r < registerCount) (some : 0 < head w) where
   abbrev h : ℕ
   h = head w
 
   abbrev after : List ℕ
   after = take w r x y v
+
+  first : First N w h (inv .free .list)
+  first = inv-first inv some
 
   pub taken-length : length after ≡ length w
   taken-length = simp (length-setRegister, length-setHead, length-setCell)
@@ -76,19 +80,19 @@ module _ {N : ℕ} {w : List ℕ} (fit : Fit N w) (r x y v : ℕ) (low : r < reg
 
   taken-head : head after ≡ left registerCount w h
   taken-head =
-      head-setRegister registerCount _ r h ∙ head-same registerCount _ _ (rw (fill-length w h x y v some) (omega (arith, fit .sized .exact)))
+      head-setRegister registerCount _ r h ∙ head-same registerCount _ _ (rw (fill-length w h x y v some) (omega (arith, inv .sized .exact)))
 
   pub taken-cell : (f : ℕ) → f < 4 → cell registerCount after h f ≡ getD (0 ∷ x ∷ y ∷ v ∷ []) f 0
   taken-cell f hf =
       cell-setRegister registerCount _ r h h f low
-      ∙ (cell-setHead registerCount _ _ h f ∙ fill-here w h x y v some f hf (omega (arith, fit .sized .exact)))
+      ∙ (cell-setHead registerCount _ _ h f ∙ fill-here w h x y v some f hf (omega (arith, inv .sized .exact, first .high)))
 
   pub taken-other : (j f : ℕ) → 0 < j → f < 4 → (j ≡ h → ⊥) → cell registerCount after j f ≡ cell registerCount w j f
   taken-other j f hj hf other =
       cell-setRegister registerCount _ r h j f low ∙ (cell-setHead registerCount _ _ j f ∙ fill-other w h x y v some j f hj hf other)
 
   pub taken-register : register after r ≡ h
-  taken-register = register-same registerCount _ r h (simp (length-setHead, length-setCell) (omega (arith, fit .sized .exact, fit .sized .least)))
+  taken-register = register-same registerCount _ r h (simp (length-setHead, length-setCell) (omega (arith, inv .sized .exact, inv .sized .least)))
 
   pub taken-register-other : (k : ℕ) → k < registerCount → (k ≡ r → ⊥) → register after k ≡ register w k
   taken-register-other k below other =
@@ -105,15 +109,15 @@ module _ {N : ℕ} {w : List ℕ} (fit : Fit N w) (r x y v : ℕ) (low : r < reg
   taken-well lx ly =
       record {
         registers = λ k below. registers k below (ℕ-discrete k r);
-        cells = λ i hi top. cells i hi (fit .well .cells i hi top) (ℕ-discrete i h);
+        cells = λ i hi top. cells i hi (inv .well .cells i hi top) (ℕ-discrete i h);
       }
     where
       along : {z : ℕ} → Link registerCount N w z → Link registerCount N after z
       along = link-kept after used-kept
 
       registers : (k : ℕ) → k < registerCount → Dec (k ≡ r) → Link registerCount N after (register after k)
-      registers k below (yes same) = rw (same, taken-register) (Link.used some high (taken-cell 0 (omega arith)))
-      registers k below (no other) = rw (taken-register-other k below other) (along (fit .well .registers k below))
+      registers k below (yes same) = rw (same, taken-register) (Link.used some (first .high) (taken-cell 0 (omega arith)))
+      registers k below (no other) = rw (taken-register-other k below other) (along (inv .well .registers k below))
 
       cells : (i : ℕ) → 0 < i → Cell registerCount N w i → Dec (i ≡ h) → Cell registerCount N after i
       cells i hi old (yes same) =
@@ -124,7 +128,6 @@ module _ {N : ℕ} {w : List ℕ} (fit : Fit N w) (r x y v : ℕ) (low : r < reg
 
   taken-free : Free N after
   taken-free =
-      let first : First N w h (fit .free .list) = chain-first (fit .free .chain) (fit .free .once) some in
       let chained : Chain N after (left registerCount w h) (first .rest) =
       chain-same after (first .chain) (λ z m.
       let cells = chain-free (first .chain) z m in
@@ -134,15 +137,15 @@ module _ {N : ℕ} {w : List ℕ} (fit : Fit N w) (r x y v : ℕ) (low : r < reg
         list = first .rest;
         chain = rw taken-head chained;
         once = first .once;
-        all = λ i hi top s. all first i hi top s (ℕ-discrete i h);
+        all = λ i hi top s. all i hi top s (ℕ-discrete i h);
       }
     where
-      all : (first : First N w h (fit .free .list)) (i : ℕ) → 0 < i → i ≤ N → state registerCount after i ≡ 4 → Dec (i ≡ h) → List·Memᴰ i (first .rest)
-      all first i hi top s (yes same) = absurd (omega (arith, taken-cell 0 (omega arith), rw same at s))
-      all first i hi top s (no other) =
+      all : (i : ℕ) → 0 < i → i ≤ N → state registerCount after i ≡ 4 → Dec (i ≡ h) → List·Memᴰ i (first .rest)
+      all i hi top s (yes same) = absurd (omega (arith, taken-cell 0 (omega arith), rw same at s))
+      all i hi top s (no other) =
           ⊎-elim (λ e. absurd (other e)) (λ m. m)
-          (List·Memᴰ·cases-cons (rw (first .split) at (fit .free .all i hi top (sym (taken-other i 0 hi (omega arith) other) ∙ s))))
+          (List·Memᴰ·cases-cons (rw (first .split) at (inv .free .all i hi top (sym (taken-other i 0 hi (omega arith) other) ∙ s))))
 
-  pub taken-fit : Link registerCount N w x → Link registerCount N w y → Fit N after
-  taken-fit lx ly =
-      record { sized = rw taken-length (fit .sized); counted = taken-count ∙ fit .counted; well = taken-well lx ly; free = taken-free }
+  pub taken-inv : Link registerCount N w x → Link registerCount N w y → Invariant N after
+  taken-inv lx ly =
+      record { sized = rw taken-length (inv .sized); counted = taken-count ∙ inv .counted; well = taken-well lx ly; free = taken-free }

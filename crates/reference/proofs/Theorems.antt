@@ -15,20 +15,20 @@ use Rattle.calls.specs.declared.Call.the-variants as call
 use Rattle.reference.specs.Model.{Model, empty, held, valid, live, named, onCell, modelOf}
 use Rattle.reference.specs.Equivalence.{modelAnswers, poolAfter, Equivalence, EquivalenceAtLimit, ReachedPools, NeverMalformed}
 use Rattle.reference.proofs.FreeList.{exact-free-list}
-use Rattle.reference.proofs.Fit.{fit-cells}
-use Rattle.reference.proofs.Start.{fresh-fit, fresh-same}
+use Rattle.reference.proofs.Invariant.{inv-cells}
+use Rattle.reference.proofs.Start.{fresh-inv, fresh-rep}
 use Rattle.reference.proofs.Runs.{equivalent, along}
 
 pub equivalence : Equivalence
-equivalence N L calls low high = equivalent N L calls (fresh-fit N low high) (fresh-same N low high)
+equivalence N L calls low high = equivalent N L calls (fresh-inv N low high) (fresh-rep N low high)
 
 pub equivalence-at-limit : EquivalenceAtLimit
-equivalence-at-limit N calls low high = along N calls (fresh-fit N low high) (fresh-same N low high) .0
+equivalence-at-limit N calls low high = along N calls (fresh-inv N low high) (fresh-rep N low high) .0
 
 pub reached-pools : ReachedPools
 reached-pools N calls low high =
-    let fit = along N calls (fresh-fit N low high) (fresh-same N low high) .1 in
-    (fit-cells fit, well-formed-made registerCount N (poolAfter calls (freshWords registerCount N)) (fit .well), exact-free-list (fit .free))
+    let inv = along N calls (fresh-inv N low high) (fresh-rep N low high) .1 in
+    (inv-cells inv, well-formed-made registerCount N (poolAfter calls (freshWords registerCount N)) (inv .well), exact-free-list (inv .free))
 
 -- An answer that is neither refusal 1 nor refusal 3.
 abbrev Mild : Outcome → Type 0

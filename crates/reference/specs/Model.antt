@@ -25,9 +25,12 @@ pub record Model : Type 0 where
 abbrev pub empty : Model
 empty = record { cells = []; registers = replicate registerCount 0 }
 
--- The cell at a place, and the cells with another one at that place.
+-- The cell at a place (any, where there is none), and the cells with another one at that place.
+abbrev pub anyEntry : Entry
+anyEntry = record { left = 0; right = 0; value = 0 }
+
 abbrev pub entry : Model → ℕ → Entry
-entry m x = getD (m .cells) (x - 1) (record { left = 0; right = 0; value = 0 })
+entry m x = getD (m .cells) (x - 1) anyEntry
 
 abbrev pub replace : Model → ℕ → Entry → Model
 replace m x e = record { cells = set (m .cells) (x - 1) e; registers = m .registers }

@@ -1,12 +1,11 @@
--- A pool and the reference model show the same: their cells are paired from the registers on, one to one, with equal values.
-use Prim.Native.Nat.{ℕ, suc, _<_, _≤_}
+-- The words of a pool represent a state of the reference model: their cells are paired from the registers on, one to one, with equal values.
+use Prim.Native.Nat.{ℕ, _<_, _≤_}
 use mathlib.Core.Path.{_≡_, sym, _∙_}
 use mathlib.Core.Logic.{_↔_, _⊎_, inl, inr, ⊎-elim}
-use mathlib.Core.List.{List, [], _∷_}
+use mathlib.Core.List.{List}
 use lib.ListN.{length, getD}
 use Rattle.graph.specs.Graph.{Within}
 use Rattle.graph.specs.Compare.{Paired, OneToOne}
-use Rattle.graph.proofs.Lists.{Each, each-nil, each-cons}
 use Rattle.graph.proofs.Marks.{zero-or-above}
 use Rattle.graph.proofs.Pairing.{paired-least, paired-reach, pairing-kept, length-paired}
 use Rattle.pool.specs.Layout.{registerCount, register, cell, value, graphOf, rootsOf}
@@ -15,7 +14,8 @@ use Rattle.pool.proofs.WellFormed.{Link}
 use Rattle.pool.proofs.PoolGraph.{Used, reached-used, pool-within}
 use Rattle.collector.specs.Collect.{keptCells}
 use Rattle.reference.specs.Model.{Model, entry, held, modelGraph, live}
-use Rattle.reference.proofs.Fit.{Fit}
+use Rattle.reference.proofs.Places.{each-place}
+use Rattle.reference.proofs.Invariant.{Invariant}
 use Rattle.reference.proofs.Fields.{Field, number, get, Related, Linked}
 
 -- A link of the pool and one of the reference model that the same register leads to, over the same lefts and rights.
@@ -28,16 +28,7 @@ pub record Bounded (m : Model) : Type 0 where
   pub roots : (k : ℕ) → held m k ≤ length (m .cells)
   pub cells : (x : ℕ) → Linked (length (m .cells)) (entry m x)
 
-pub record Same (w : List ℕ) (m : Model) : Type 0 where
-  pub bounded : Bounded m
-  pub one-to-one : OneToOne (Pair w m)
-  pub values : (x y : ℕ) → Pair w m x y → 0 < x → 0 < y → value registerCount w x ≡ (entry m y) .value
-
 -- So it is a graph of its cells.
-each-place : (P : ℕ → Type 0) (l : List ℕ) → ((k : ℕ) → P (getD l k 0)) → Each P l
-each-place P [] at = each-nil P
-each-place P (x ∷ l) at = each-cons P (at 0) (each-place P l (λ k. at (suc k)))
-
 model-within : {m : Model} → Bounded m → Within (length (m .cells)) (modelGraph m) (m .registers)
 model-within {m} b =
     record {
@@ -46,12 +37,18 @@ model-within {m} b =
       right = λ x r. b .cells x .1;
     }
 
--- That holds where it does of any one-to-one relation that the registers have, and cells that have it pass on to their fields.
-pub same-made : (w : List ℕ) (m : Model) (P : ℕ → ℕ → Type 0) → OneToOne P → Bounded m
+-- What the registers lead to is the same in both, under other numbers.
+pub record Represents (w : List ℕ) (m : Model) : Type 0 where
+  pub bounded : Bounded m
+  pub one-to-one : OneToOne (Pair w m)
+  pub values : (x y : ℕ) → Pair w m x y → 0 < x → 0 < y → value registerCount w x ≡ (entry m y) .value
+
+-- The words represent the model where some one-to-one relation holds of the registers, and with two cells of their fields.
+pub rep-made : (w : List ℕ) (m : Model) (P : ℕ → ℕ → Type 0) → OneToOne P → Bounded m
     → ((k : ℕ) → k < registerCount → P (register w k) (held m k))
     → ((x y : ℕ) → P x y → 0 < x → 0 < y → (f : Field) → Related P f (cell registerCount w x (number f)) (get f (entry m y)))
-    → Same w m
-same-made w m P one bounded roots fields =
+    → Represents w m
+rep-made w m P one bounded roots fields =
     record {
       bounded = bounded;
       one-to-one = pairing-kept (graphOf registerCount w) (rootsOf registerCount w) (modelGraph m) (m .registers) P one starts links;
@@ -71,23 +68,23 @@ same-made w m P one bounded roots fields =
 abbrev pub More : List ℕ → Model → ℕ → ℕ → ℕ → ℕ → Type 0
 More w m p q x y = Pair w m x y ⊎ ((x ≡ p) × (y ≡ q))
 
-module _ {w : List ℕ} {m : Model} (same : Same w m) where
+module _ {w : List ℕ} {m : Model} (rep : Represents w m) where
   -- With one more they are one-to-one where that one goes with each of them.
   pub more-one : (p q : ℕ) → (p ≡ 0) ↔ (q ≡ 0) → ((x y : ℕ) → Pair w m x y → (x ≡ p) ↔ (y ≡ q)) → OneToOne (More w m p q)
   more-one p q ends fits = record { nil = nil; forward = forward; backward = backward }
     where
       nil : (x y : ℕ) → More w m p q x y → (x ≡ 0) ↔ (y ≡ 0)
-      nil x y (inl a) = same .one-to-one .nil x y a
+      nil x y (inl a) = rep .one-to-one .nil x y a
       nil x y (inr a) = (λ e. a .1 ∙ ends .0 (sym (a .0) ∙ e), λ e. a .0 ∙ ends .1 (sym (a .1) ∙ e))
 
       forward : (x y z : ℕ) → More w m p q x y → More w m p q x z → y ≡ z
-      forward x y z (inl a) (inl b) = same .one-to-one .forward x y z a b
+      forward x y z (inl a) (inl b) = rep .one-to-one .forward x y z a b
       forward x y z (inl a) (inr b) = fits x y a .0 (b .0) ∙ sym (b .1)
       forward x y z (inr a) (inl b) = a .1 ∙ sym (fits x z b .0 (a .0))
       forward x y z (inr a) (inr b) = a .1 ∙ sym (b .1)
 
       backward : (x y z : ℕ) → More w m p q x z → More w m p q y z → x ≡ y
-      backward x y z (inl a) (inl b) = same .one-to-one .backward x y z a b
+      backward x y z (inl a) (inl b) = rep .one-to-one .backward x y z a b
       backward x y z (inl a) (inr b) = fits x z a .1 (b .1) ∙ sym (b .0)
       backward x y z (inr a) (inl b) = a .0 ∙ sym (fits y z b .1 (a .1))
       backward x y z (inr a) (inr b) = a .0 ∙ sym (b .0)
@@ -102,18 +99,18 @@ module _ {w : List ℕ} {m : Model} (same : Same w m) where
       → Related (Pair w m) f (cell registerCount w x (number f)) (get f (entry m y))
   field-related x y pair hx hy Field.left = Paired.left pair hx hy
   field-related x y pair hx hy Field.right = Paired.right pair hx hy
-  field-related x y pair hx hy Field.value = same .values x y pair hx hy
+  field-related x y pair hx hy Field.value = rep .values x y pair hx hy
 
   -- A link of the reference model that is paired is nil or a place.
   pub pair-place : {x y : ℕ} → Pair w m x y → y ≤ length (m .cells)
   pair-place =
-      paired-least (λ x y. y ≤ length (m .cells)) (λ i low. same .bounded .roots i)
-      (λ x y pair hx hy. (same .bounded .cells y .0, same .bounded .cells y .1))
+      paired-least (λ x y. y ≤ length (m .cells)) (λ i low. rep .bounded .roots i)
+      (λ x y pair hx hy. (rep .bounded .cells y .0, rep .bounded .cells y .1))
 
-  module _ {N : ℕ} (fit : Fit N w) where
+  module _ {N : ℕ} (inv : Invariant N w) where
     -- A link of the pool that is paired is nil or a used cell.
     pub pair-used : {x y : ℕ} → Pair w m x y → 0 < x → Used registerCount N w x
-    pair-used pair some = reached-used (fit .well) (paired-reach pair some)
+    pair-used pair some = reached-used (inv .well) (paired-reach pair some)
 
     pub pair-link : {x y : ℕ} → Pair w m x y → Link registerCount N w x
     pair-link {x} pair =
@@ -127,5 +124,5 @@ module _ {w : List ℕ} {m : Model} (same : Same w m) where
     pub kept-live : keptCells registerCount N w ≡ live m
     kept-live =
         length-paired N (graphOf registerCount w) (rootsOf registerCount w) (length (m .cells)) (modelGraph m) (m .registers)
-        (pool-within (fit .well)) (model-within (same .bounded))
-        (length-tabulate registerCount (λ j. register w j) ∙ sym (same .bounded .registers)) (same .one-to-one)
+        (pool-within (inv .well)) (model-within (rep .bounded))
+        (length-tabulate registerCount (λ j. register w j) ∙ sym (rep .bounded .registers)) (rep .one-to-one)

@@ -5,24 +5,31 @@ use native.Mathlib.Decide.{ℕ-discrete}
 use mathlib.Core.Path.{_≡_, sym, _∙_}
 use mathlib.Core.List.{List}
 use lib.ListN.{length}
-use Rattle.pool.specs.Layout.{registerCount, cellsOfLength, cellsOf, count, head, register, setRegister, cell, setCell, state, left, right}
+use Rattle.pool.specs.Layout.{registerCount, poolLength, cellsOfLength, cellsOf, count, head, register, setRegister, cell, setCell, state, left, right}
 use Rattle.pool.proofs.Laws.{length-setRegister, count-setRegister, head-setRegister, cell-setRegister, register-same, register-other, length-setCell, count-setCell, head-setCell, register-setCell, cell-same, cell-other}
 use Rattle.pool.proofs.Questions.{Sized, sized-length, same-count}
 use Rattle.pool.proofs.WellFormed.{Link, Cell, WellFormed}
-use Rattle.reference.proofs.FreeList.{Free, chain-free, chain-same}
+use Rattle.reference.proofs.FreeList.{Free, First, chain-first, chain-free, chain-same}
 
 -- The words are a pool of N cells, well-formed, whose free list has every free cell once.
-pub record Fit (N : ℕ) (w : List ℕ) : Type 0 where
+pub record Invariant (N : ℕ) (w : List ℕ) : Type 0 where
   pub sized : Sized registerCount (length w) N
   pub counted : count w ≡ N
   pub well : WellFormed registerCount N w
   pub free : Free N w
 
-pub fit-cells : {N : ℕ} {w : List ℕ} → Fit N w → cellsOf registerCount w ≡ N
-fit-cells {N} {w} fit =
-    let size = fit .sized in
+pub inv-cells : {N : ℕ} {w : List ℕ} → Invariant N w → cellsOf registerCount w ≡ N
+inv-cells {N} {w} inv =
+    let size = inv .sized in
     let cells : cellsOfLength registerCount (length w) ≡ N = rw (size .exact) (sized-length registerCount N (size .least) (size .most)) in
-    same-count registerCount w (fit .counted ∙ sym cells) ∙ cells
+    same-count registerCount w (inv .counted ∙ sym cells) ∙ cells
+
+-- The first free cell, where there is one.
+pub inv-first : {N : ℕ} {w : List ℕ} (inv : Invariant N w) → 0 < head w → First N w (head w) (inv .free .list)
+inv-first inv some = chain-first (inv .free .chain) (inv .free .once) some
+
+pub inv-room : {N : ℕ} {w : List ℕ} → Invariant N w → poolLength registerCount N ≤ length w
+inv-room inv = omega (arith, inv .sized .exact)
 
 -- A valid link stays valid where used cells stay used.
 pub link-kept : {N : ℕ} {w : List ℕ} (w' : List ℕ) → ((i : ℕ) → 0 < i → state registerCount w i ≡ 0 → state registerCount w' i ≡ 0)
@@ -42,14 +49,14 @@ record Rewritten (N : ℕ) (w w' : List ℕ) : Type 0 where
       → Link registerCount N w (right registerCount w i)
       → Link registerCount N w (left registerCount w' i) × Link registerCount N w (right registerCount w' i)
 
-rewritten-fit : {N : ℕ} {w w' : List ℕ} → Rewritten N w w' → Fit N w → Fit N w'
-rewritten-fit {N} {w} {w'} c fit =
+rewritten-inv : {N : ℕ} {w w' : List ℕ} → Rewritten N w w' → Invariant N w → Invariant N w'
+rewritten-inv {N} {w} {w'} c inv =
     record {
-      sized = rw (c .len) (fit .sized);
-      counted = c .counted ∙ fit .counted;
-      well = record { registers = λ k low. along (c .registers k low); cells = λ i low high. cells i low (fit .well .cells i low high) };
+      sized = rw (c .len) (inv .sized);
+      counted = c .counted ∙ inv .counted;
+      well = record { registers = λ k low. along (c .registers k low); cells = λ i low high. cells i low (inv .well .cells i low high) };
       free =
-          let old = fit .free in
+          let old = inv .free in
           let chained = chain-same w' (old .chain)
           (λ x m.
           let here = chain-free (old .chain) x m in
@@ -72,10 +79,10 @@ rewritten-fit {N} {w} {w'} c fit =
         let links = c .links i low s l r in
         Cell.used (c .states i low ∙ s) (along (links .0)) (along (links .1))
 
-module _ {N : ℕ} {w : List ℕ} (fit : Fit N w) where
-  pub fit-setRegister : (r v : ℕ) → r < registerCount → Link registerCount N w v → Fit N (setRegister w r v)
-  fit-setRegister r v low link =
-      rewritten-fit
+module _ {N : ℕ} {w : List ℕ} (inv : Invariant N w) where
+  pub inv-setRegister : (r v : ℕ) → r < registerCount → Link registerCount N w v → Invariant N (setRegister w r v)
+  inv-setRegister r v low link =
+      rewritten-inv
       (record {
         len = length-setRegister registerCount w r v;
         counted = count-setRegister registerCount w r v;
@@ -86,27 +93,27 @@ module _ {N : ℕ} {w : List ℕ} (fit : Fit N w) where
         links = λ i some s left right.
             (rw (cell-setRegister registerCount w r v i 1 low) left, rw (cell-setRegister registerCount w r v i 2 low) right);
       })
-      fit
+      inv
     where
       registers : (k : ℕ) → k < registerCount → Dec (k ≡ r) → Link registerCount N w (register (setRegister w r v) k)
-      registers k below (yes same) = rw (same, register-same registerCount w r v (omega (arith, fit .sized .exact, fit .sized .least))) link
-      registers k below (no other) = rw (register-other registerCount w r v k other) (fit .well .registers k below)
+      registers k below (yes same) = rw (same, register-same registerCount w r v (omega (arith, inv .sized .exact, inv .sized .least))) link
+      registers k below (no other) = rw (register-other registerCount w r v k other) (inv .well .registers k below)
 
   -- A link of a used cell, or its value, is changed.
-  pub fit-setCell : (x f v : ℕ) → 0 < x → x ≤ N → state registerCount w x ≡ 0 → 0 < f → f < 4 → (f < 3 → Link registerCount N w v)
-      → Fit N (setCell registerCount w x f v)
-  fit-setCell x f v low high used positive below link =
-      rewritten-fit
+  pub inv-setCell : (x f v : ℕ) → 0 < x → x ≤ N → state registerCount w x ≡ 0 → 0 < f → f < 4 → (f < 3 → Link registerCount N w v)
+      → Invariant N (setCell registerCount w x f v)
+  inv-setCell x f v low high used positive below link =
+      rewritten-inv
       (record {
         len = length-setCell registerCount w x f v;
         counted = count-setCell registerCount w x f v;
         first = head-setCell registerCount w x f v;
         states = λ i some. cell-other registerCount w x f v i 0 low below some (omega arith) (λ e. omega arith);
         chained = λ i some s. cell-other registerCount w x f v i 1 low below some (omega arith) (λ e. free i some s e);
-        registers = λ k some. rw (register-setCell registerCount w x f v k some) (fit .well .registers k some);
+        registers = λ k some. rw (register-setCell registerCount w x f v k some) (inv .well .registers k some);
         links = λ i some s left right. (links i 1 some (omega arith) left, links i 2 some (omega arith) right);
       })
-      fit
+      inv
     where
       free : (i : ℕ) → 0 < i → state registerCount w i ≡ 4 → 4 * x + f ≡ 4 * i + 1 → ⊥
       free i some s e = let same : i ≡ x = omega arith in let both = rw same at s in omega arith
@@ -119,5 +126,5 @@ module _ {N : ℕ} {w : List ℕ} (fit : Fit N w) where
           go (yes e) =
               let cell-here : i ≡ x = omega arith in
               let field-here : g ≡ f = omega arith in
-              rw (cell-here, field-here, cell-same registerCount w x f v low below (omega (arith, fit .sized .exact))) (link (omega arith))
+              rw (cell-here, field-here, cell-same registerCount w x f v low below (omega (arith, inv .sized .exact))) (link (omega arith))
           go (no e) = rw (cell-other registerCount w x f v i g low below some (omega arith) e) old
