@@ -10,3 +10,4 @@ pub mod Collected
 pub mod VisitStep
 pub mod RootLoop
 pub mod MarkSweep
+pub mod CollectTheorem

@@ -71,5 +71,5 @@ pub collect-made : (n : ℕ) (w w₁ w₂ : List ℕ) (visits kept : ℕ) → we
 collect-made n w w₁ w₂ visits kept well room mark sweep =
     let words : w₁ ≡ markAll registerCount w (reachedCells registerCount n w) = ap (λ (x : ℕ × List ℕ). x .1) mark in
     let swept : _≡_ {A = ℕ × List ℕ} (kept, w₂) (keptCells registerCount n w, collected registerCount n w) =
-        sweep ∙ (ap (sweepOf registerCount n) words ∙ swept-reached registerCount n w (well-formed-read registerCount n w well) room) in
+    sweep ∙ (ap (sweepOf registerCount n) words ∙ swept-reached registerCount n w (well-formed-read registerCount n w well) room) in
     rw well (ap₂ (λ (v : ℕ) (x : ℕ × List ℕ). (answered (x .0 ∷ v ∷ []), x .1)) (ap (λ (x : ℕ × List ℕ). x .0) mark) swept)

@@ -102,7 +102,7 @@ module _ (R n : ℕ) where
             same = λ j low.
                 ap (λ (v : List ℕ). register v j) same
                 ∙ (visits-keep (λ v. register v j) (λ v i f x. register-setCell R v i f x j low) (run .2) ∙ g .same j low);
-            rest = rw (made u run) rest
+            rest = rw (made u run) rest;
           }
 
       pub marking-skip : unmarked R w p ≡ false → Marking w₀ w visits (k + 1)

@@ -70,7 +70,7 @@ module _ (R n : ℕ) where
             rest = λ u run.
                 let (k, q, left) = g .rest u run in
                 let (v, fewer, (j, others)) = visits-next left (omega arith) bounded in
-                (j, q, rw e others)
+                (j, q, rw e others);
           }
 
       -- the visits that are left become fewer

@@ -33,5 +33,5 @@ visit-made R m w w₁ w₂ w₃ s l r on h =
     let p = m .cell in
     let written : w₁ ≡ setCell R w p 0 (suc (state R w p)) = h .first ∙ ap (setCell R w p 0) (h .count ∙ add-one (state R w p)) in
     let read : state R w₁ p ≡ s =
-        ap (λ (v : List ℕ). state R v p) (h .first) ∙ cell-same R w p 0 s (h .positive) (omega arith) (h .room) in
+    ap (λ (v : List ℕ). state R v p) (h .first) ∙ cell-same R w p 0 s (h .positive) (omega arith) (h .room) in
     rw (← written) (simp (read, ← h .left, ← h .right, ← h .test, ← h .second, ← h .third, add-one))

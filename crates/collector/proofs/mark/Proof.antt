@@ -35,10 +35,9 @@ is-unmarked-requires c κs =
 -- src/lib.rt:105:13
 mark-from-requires : tie.Need-mark-from-requires Inv-loop μ-loop
 mark-from-requires c κs =
-    let s = c .before .before .before .before .before .before .before .before .before in
-    (
+    let s = c .before .before .before .before .before .before .before .before .before in (
       marking-ends registerCount _ _ (s .pre .0) (s .pre .1) _ _ _ _ (c .before .before .before .before .before .before .before .loop .inv) (c .before .before .before .before .before .before .loop-test .taken) (c .before .before .before .before .read-register .ensures) (s .pre .2) (sym (c .before .before .is-unmarked .ensures) ∙ c .before .if1 .taken),
-      (omega (arith, s .pre .1, c .before .before .before .before .before .before .before .loop .inv .len), s .pre .2)
+      (omega (arith, s .pre .1, c .before .before .before .before .before .before .before .loop .inv .len), s .pre .2),
     )
 
 -- src/lib.rt:106:13

@@ -39,10 +39,9 @@ read-cell-requires-3 c κs = search needs
 -- src/lib.rt:63:13
 moves-on-requires : tie.Need-moves-on-requires
 moves-on-requires c κs =
-    let pre = c .before .before .before .before .before .before .before .before .before .before .before .before .pre in
-    (
+    let pre = c .before .before .before .before .before .before .before .before .before .before .before .before .pre in (
       λ early. omega (arith, pre .1, pre .0 .link (omega (arith, c .before .before .before .before .before .before .before .before .before .read-cell .ensures)), c .before .before .before .before .before .before .before .read-cell2 .ensures, c .before .before .before .before .before .write-cell .kept .0),
-      omega (arith, pre .0 .early, c .before .before .before .before .before .before .before .before .before .read-cell .ensures)
+      omega (arith, pre .0 .early, c .before .before .before .before .before .before .before .before .before .read-cell .ensures),
     )
 
 -- src/lib.rt:64:9
@@ -80,7 +79,7 @@ returns c =
       right = c .before .before .before .before .before .before .before .before .before .before .before .before .read-cell3 .ensures;
       test = c .before .before .before .before .before .before .before .before .before .before .moves-on .ensures;
       second = c .before .before .before .before .before .before .before .before .write-cell2 .ensures;
-      third = c .before .before .before .before .write-cell3 .ensures
+      third = c .before .before .before .before .write-cell3 .ensures;
     })
 
 pub visit-spec : {M : Type 1} → statement M
