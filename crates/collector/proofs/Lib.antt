@@ -5,5 +5,9 @@ pub mod Run
 pub mod PoolMarks
 pub mod Roots
 pub mod Measure
-pub mod Loop
+pub mod RunLoop
 pub mod Collected
+pub mod VisitStep
+pub mod RootLoop
+pub mod MarkSweep
+pub mod CollectTheorem

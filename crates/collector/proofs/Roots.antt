@@ -33,15 +33,16 @@ module _ (R n : ℕ) (g : Graph) where
       let d = Dfs.step e dl dr in
       let new : List ℕ = p ∷ (t ++ u) in
       recount (simp length-append (omega arith)) (sym (markAll-append R w new v))
-      (MarkRoots.run (unmarked-true R n g a p e) (run-from-link R n g m p new w a d e (suc n) c)
+      (MarkRoots.run (unmarked-true R n g a p e) (3 * length new, p, run-from-link R n g m p new w a d e (suc n) c)
       (runs rest (markAll R w new) (agreement-dfs R n g a d) (λ x mem. bound x (List·Memᴰ·tail mem)) (c + 3 * length new)))
 
 pub run-from-roots : RunFromRoots
 run-from-roots R n g m ps t w a d bound c = runs R n g d w a bound c
 
 pub run-over-pool : RunOverPool
-run-over-pool R n w room well c =
+run-over-pool R n w room well =
     let facts = well-formed-read R n w well in
     let within = pool-within facts in
-    run-from-roots R n (graphOf R w) (stateMarks R n w) (rootsOf R w) (reachedCells R n w) w (agreement R n w facts room)
-    (dfs-all-alike (alike R n w facts) (order-dfs n (graphOf R w) (rootsOf R w) within)) (within .root) c
+    recount R n (graphOf R w) (omega arith) refl
+    (run-from-roots R n (graphOf R w) (stateMarks R n w) (rootsOf R w) (reachedCells R n w) w (agreement R n w facts room)
+    (dfs-all-alike (alike R n w facts) (order-dfs n (graphOf R w) (rootsOf R w) within)) (within .root) 0)

@@ -1,3 +1,4 @@
 pub mod Reversal
 pub mod Collect
 pub mod ReversalTheorem
+pub mod CollectTheorem

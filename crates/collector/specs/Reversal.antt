@@ -1,5 +1,5 @@
 -- Marking by link reversal (01, "Marking by reversal", after source document 000).
-use Prim.Native.Nat.{ℕ, zero, suc, _+_, _<_, _≤_}
+use Prim.Native.Nat.{ℕ, suc, _^_, _<_, _≤_}
 use mathlib.Core.List.{List, [], _∷_}
 use mathlib.Core.Bool.{Bool, cond, _||_, _&&_, not}
 use lib.Dec.{eqb}
@@ -35,6 +35,21 @@ pub record Visitable (R n : ℕ) (s : Marker × List ℕ) : Type 0 where
 pub data Visits (R n : ℕ) : ℕ → Marker × List ℕ → Marker × List ℕ → Type 0 where
   done : {s : Marker × List ℕ} → Visits R n 0 s s
   more : {k : ℕ} {s t : Marker × List ℕ} → Visitable R n s → Visits R n k (visitOf R s) t → Visits R n (suc k) s t
+
+-- The cell p in hand, its predecessor q, after c visits.
+abbrev pub marker : ℕ → ℕ → ℕ → Marker
+marker p q c = record { cell = p; previous = q; visits = c }
+
+-- "q starts as the virtual root, which is no cell, and the run ends when p is that": a run from the link p leads from s to t, each the number of
+-- visits and the words. The virtual root is n + 1.
+abbrev pub Run : ℕ → ℕ → ℕ → ℕ × List ℕ → ℕ × List ℕ → Type 0
+Run R n p s t = (k q : ℕ) × Visits R n k (marker p (suc n) (s .0), s .1) (marker (suc n) q (t .0), t .1)
+
+-- A run from the link p that comes to its end, within 2^32 visits.
+pub record Ends (R n p : ℕ) (s : ℕ × List ℕ) : Type 0 where
+  pub last : ℕ × List ℕ
+  pub run : Run R n p s last
+  pub fits : last .0 < 2 ^ 32
 
 -- The words with state 3 in every cell of a list.
 unfoldable pub markAll : ℕ → List ℕ → List ℕ → List ℕ

@@ -8,8 +8,7 @@ use Rattle.graph.specs.Graph.{Graph}
 use Rattle.graph.specs.Dfs.{Dfs, DfsAll}
 use Rattle.pool.specs.Layout.{poolLength, state, left, right, rootsOf}
 use Rattle.pool.specs.Validity.{wellFormed}
-use Rattle.collector.specs.declared.Marker.{Marker}
-use Rattle.collector.specs.Reversal.{unmarked, Visits, markAll}
+use Rattle.collector.specs.Reversal.{unmarked, Visits, marker, Run, markAll}
 use Rattle.collector.specs.Collect.{reachedCells, keptCells}
 
 -- What the words have to say of an unmarked cell x of the graph g of n cells: state 0, and the links of the graph, which are nil or cells.
@@ -30,10 +29,6 @@ pub record Agreement (R n : ℕ) (g : Graph) (m : ℕ → ℕ) (w : List ℕ) : 
   pub unmarked : (x : ℕ) → m x ≡ 0 → Untouched R n g w x
   pub marked : (x : ℕ) → 0 < x → x ≤ n → 0 < m x → 0 < state R w x
 
--- The cell p in hand, its predecessor q, after c visits.
-abbrev pub marker : ℕ → ℕ → ℕ → Marker
-marker p q c = record { cell = p; previous = q; visits = c }
-
 -- Where p is unmarked and the depth-first visit of p newly marks the cells t, three visits for each of them lead from (p, q) to (q, p), whatever
 -- q is: every cell of t then has state 3, all links are as before, and no other word is changed. As in 001 this holds of every link that the
 -- marking follows, not of the roots alone: the words may hold marked cells on the path from the virtual root to p, their links rotated.
@@ -42,13 +37,13 @@ RunFromLink =
     (R n : ℕ) (g : Graph) (m : ℕ → ℕ) (p : ℕ) (t w : List ℕ) → Agreement R n g m w → Dfs g m p t → m p ≡ 0 → (q c : ℕ)
     → Visits R n (3 * length t) (marker p q c, w) (marker q p (c + 3 * length t), markAll R w t)
 
--- "It runs from each register in order .. whose cell has state 0; q starts as the virtual root, which is no cell, and the run ends when p is
--- that." The links of the registers are given; a pair is the number of visits and the words, before and after. The virtual root is n + 1.
+-- "It runs from each register in order .. whose cell has state 0": the links of the registers are given; a pair is the number of visits and the
+-- words, before and after.
 pub data MarkRoots (R n : ℕ) : List ℕ → ℕ × List ℕ → ℕ × List ℕ → Type 0 where
   none : {s : ℕ × List ℕ} → MarkRoots R n [] s s
   skip : {p : ℕ} {ps : List ℕ} {s t : ℕ × List ℕ} → unmarked R (s .1) p ≡ false → MarkRoots R n ps s t → MarkRoots R n (p ∷ ps) s t
-  run : {p q k : ℕ} {ps : List ℕ} {s u t : ℕ × List ℕ} → unmarked R (s .1) p ≡ true
-      → Visits R n k (marker p (suc n) (s .0), s .1) (marker (suc n) q (u .0), u .1) → MarkRoots R n ps u t → MarkRoots R n (p ∷ ps) s t
+  run : {p : ℕ} {ps : List ℕ} {s u t : ℕ × List ℕ} → unmarked R (s .1) p ≡ true → Run R n p s u → MarkRoots R n ps u t
+      → MarkRoots R n (p ∷ ps) s t
 
 -- Where the depth-first visits of the roots' links newly mark the cells t, the runs over the roots make three visits for each cell of t, leave
 -- state 3 in exactly these cells, and change no other word: all links are restored.
@@ -57,9 +52,12 @@ RunFromRoots =
     (R n : ℕ) (g : Graph) (m : ℕ → ℕ) (ps t w : List ℕ) → Agreement R n g m w → DfsAll g m ps t → ((x : ℕ) → List·Memᴰ x ps → x ≤ n) → (c : ℕ)
     → MarkRoots R n ps (c, w) (c + 3 * length t, markAll R w t)
 
--- The same of a well-formed pool and its registers: the marking makes three visits for each reached cell, leaves state 3 in exactly these, and
--- changes no other word. (A free cell has state 4 and so counts as marked, but no free cell is reached.)
+-- What marking a pool of n cells makes of it: three visits for each reached cell, and state 3 in exactly these.
+abbrev pub markedOf : ℕ → ℕ → List ℕ → ℕ × List ℕ
+markedOf R n w = (3 * keptCells R n w, markAll R w (reachedCells R n w))
+
+-- The same of a well-formed pool and its registers: the runs make three visits for each reached cell, leave state 3 in exactly these, and change no
+-- other word. (A free cell has state 4 and so counts as marked, but no free cell is reached.)
 abbrev pub RunOverPool : Type 0
 RunOverPool =
-    (R n : ℕ) (w : List ℕ) → poolLength R n ≤ length w → wellFormed R n w ≡ true → (c : ℕ)
-    → MarkRoots R n (rootsOf R w) (c, w) (c + 3 * keptCells R n w, markAll R w (reachedCells R n w))
+    (R n : ℕ) (w : List ℕ) → poolLength R n ≤ length w → wellFormed R n w ≡ true → MarkRoots R n (rootsOf R w) (0, w) (markedOf R n w)

@@ -72,3 +72,12 @@ module _ (R : ℕ) (w : List ℕ) where
           → Sized R (length w) (cond t (cellsOfLength R (length w)) 0) × (count w ≡ cond t (cellsOfLength R (length w)) 0)
       go true e h = (length-sized R (length w) h, eqb-true _ _ e)
       go false e h = absurd (omega arith)
+
+  -- the same of a number of cells that is not 0
+  pub some-cells : (n : ℕ) → n ≡ cellsOf R w → (n ≡ 0 → ⊥) → Sized R (length w) n
+  some-cells n e some = rw e (cells-sized (omega (arith, some)) .0)
+
+-- words of the same length with the same word 0 are pools of as many cells
+pub cells-same : (R : ℕ) (w w' : List ℕ) → length w ≡ length w' → count w ≡ count w' → cellsOf R w ≡ cellsOf R w'
+unfolding cellsOf
+cells-same R w w' len first = rw (len, first)

@@ -59,7 +59,7 @@ module _ (R : ℕ) (w : List ℕ) (i next : ℕ) (positive : 0 < i) where
 abbrev pub Elsewhere : ℕ → ℕ → ℕ → Type 0
 Elsewhere R n k = (j f : ℕ) → 0 < j → j ≤ n → f < 4 → k ≡ cellAt R j f → ⊥
 
-setCell-elsewhere : (R n : ℕ) (w : List ℕ) (i f v k : ℕ) → 0 < i → i ≤ n → f < 4 → Elsewhere R n k
+pub setCell-elsewhere : (R n : ℕ) (w : List ℕ) (i f v k : ℕ) → 0 < i → i ≤ n → f < 4 → Elsewhere R n k
     → getD (setCell R w i f v) k 0 ≡ getD w k 0
 unfolding setCell
 setCell-elsewhere R n w i f v k low high hf away = getD-set-other w (cellAt R i f) k v 0 (away i f low high hf)

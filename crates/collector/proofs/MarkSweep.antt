@@ -1,0 +1,75 @@
+-- Marking and then sweeping a well-formed pool is the collection of the definition.
+use Prim.Native.Nat.{ℕ, suc, _*_, _<_, _≤_}
+use native.Mathlib.Omega.{arith}
+use mathlib.Core.Path.{_≡_, refl, sym, ap, ap₂, _∙_}
+use mathlib.Core.List.{List, [], _∷_, List·Memᴰ, List·Memᴰ·head, List·Memᴰ·tail}
+use mathlib.Core.Bool.{Bool, true, false, true≢false}
+use lib.ListN.{length, getD}
+use lib.Dec.{eqb}
+use borrow.Author.Tests.{eq-eqb, ne-eqb}
+use Rattle.graph.proofs.Lists.{has-member, member-has}
+use Rattle.graph.proofs.Reached.{reach-above, reach-within}
+use Rattle.pool.specs.Layout.{registerCount, poolLength, cell, setCell, state}
+use Rattle.pool.specs.Validity.{wellFormed}
+use Rattle.pool.specs.Retain.{marked, retain, keptCount, sweepOf}
+use Rattle.pool.specs.Outcome.{Outcome, answered}
+use Rattle.pool.proofs.WellFormed.{Cell, WellFormed, well-formed-read}
+use Rattle.pool.proofs.PoolGraph.{reached-used, pool-within}
+use Rattle.pool.proofs.Retained.{Elsewhere, setCell-elsewhere, kept-cong, retain-cong}
+use Rattle.collector.specs.Reversal.{markAll}
+use Rattle.collector.specs.ReversalTheorem.{markedOf}
+use Rattle.collector.specs.Collect.{reachedCells, isReached, keptCells, collected, collectIn}
+use Rattle.collector.proofs.MarkAll.{length-markAll, field-markAll, state-markAll-same, state-markAll-other}
+use Rattle.collector.proofs.Collected.{kept-reached, kept-count}
+
+-- marking cells changes no word but theirs
+markAll-elsewhere : (R n : ℕ) (t w : List ℕ) (k : ℕ) → ((x : ℕ) → List·Memᴰ x t → (0 < x) × (x ≤ n)) → Elsewhere R n k
+    → getD (markAll R w t) k 0 ≡ getD w k 0
+unfolding markAll
+markAll-elsewhere R n [] w k cells away = refl
+markAll-elsewhere R n (x ∷ t) w k cells away =
+    let here = cells x (List·Memᴰ·head refl) in
+    markAll-elsewhere R n t (setCell R w x 0 3) k (λ y mem. cells y (List·Memᴰ·tail mem)) away
+    ∙ setCell-elsewhere R n w x 0 3 k (here .0) (here .1) (omega arith) away
+
+module _ (R n : ℕ) (w : List ℕ) (well : WellFormed R n w) (room : poolLength R n ≤ length w) where
+  -- the reached cells are cells
+  reached-cells : (x : ℕ) → List·Memᴰ x (reachedCells R n w) → (0 < x) × (x ≤ n)
+  reached-cells x mem =
+      let reach = kept-reached R n w well x (has-member x mem) in
+      (reach-above reach, reach-within (pool-within well) reach)
+
+  positive : (x : ℕ) → List·Memᴰ x (reachedCells R n w) → 0 < x
+  positive x mem = reached-cells x mem .0
+
+  -- after marking, a cell has state 3 exactly where it is reached
+  marked-reached : (j : ℕ) → 0 < j → j ≤ n → marked R (markAll R w (reachedCells R n w)) j ≡ isReached R n w j
+  marked-reached j low high = go (isReached R n w j) refl (well .cells j low high)
+    where
+      go : (t : Bool) → isReached R n w j ≡ t → Cell R n w j → marked R (markAll R w (reachedCells R n w)) j ≡ isReached R n w j
+      go true e h =
+          rw e (eq-eqb _ 3 (state-markAll-same R j low (reachedCells R n w) positive (member-has j (reachedCells R n w) e) w (omega arith)))
+      go false e h = rw e (ne-eqb _ 3 λ three. other h (sym (state-markAll-other R j low (reachedCells R n w) positive (λ mem. true≢false (sym (has-member j mem) ∙ e)) w) ∙ three))
+        where
+          other : Cell R n w j → state R w j ≡ 3 → ⊥
+          other (Cell.free s) three = omega arith
+          other (Cell.used s l r) three = omega arith
+
+  -- so the sweep counts and keeps the reached cells
+  swept-reached : sweepOf R n (markAll R w (reachedCells R n w)) ≡ (keptCells R n w, collected R n w)
+  swept-reached =
+      ap₂ (λ (k : ℕ) (v : List ℕ). (k, v))
+      (kept-cong (marked R (markAll R w (reachedCells R n w))) (isReached R n w) n marked-reached ∙ kept-count R n w well room)
+      (retain-cong R n (marked R (markAll R w (reachedCells R n w))) (isReached R n w) (markAll R w (reachedCells R n w)) w
+      (length-markAll R w (reachedCells R n w)) marked-reached
+      (λ k other away. markAll-elsewhere R n (reachedCells R n w) w k reached-cells away)
+      λ j f low high hf e. field-markAll R j (suc f) low (omega arith) hf (reachedCells R n w) positive w)
+
+pub collect-made : (n : ℕ) (w w₁ w₂ : List ℕ) (visits kept : ℕ) → wellFormed registerCount n w ≡ true → poolLength registerCount n ≤ length w
+    → _≡_ {A = ℕ × List ℕ} (visits, w₁) (markedOf registerCount n w) → _≡_ {A = ℕ × List ℕ} (kept, w₂) (sweepOf registerCount n w₁)
+    → _≡_ {A = Outcome × List ℕ} (answered (kept ∷ visits ∷ []), w₂) (collectIn n w)
+collect-made n w w₁ w₂ visits kept well room mark sweep =
+    let words : w₁ ≡ markAll registerCount w (reachedCells registerCount n w) = ap (λ (x : ℕ × List ℕ). x .1) mark in
+    let swept : _≡_ {A = ℕ × List ℕ} (kept, w₂) (keptCells registerCount n w, collected registerCount n w) =
+    sweep ∙ (ap (sweepOf registerCount n) words ∙ swept-reached registerCount n w (well-formed-read registerCount n w well) room) in
+    rw well (ap₂ (λ (v : ℕ) (x : ℕ × List ℕ). (answered (x .0 ∷ v ∷ []), x .1)) (ap (λ (x : ℕ × List ℕ). x .0) mark) swept)

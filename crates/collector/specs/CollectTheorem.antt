@@ -1,0 +1,51 @@
+-- Demand 2 for readers: what a collection does to a well-formed pool. `collectOf` is what the contract of `collect` says.
+use Prim.Native.Nat.{ℕ, _*_, _<_, _≤_}
+use mathlib.Core.Path.{_≡_}
+use mathlib.Core.Logic.{_↔_}
+use mathlib.Core.List.{List, [], _∷_, List·Memᴰ}
+use mathlib.Core.Bool.{true}
+use lib.ListN.{length}
+use Rattle.graph.specs.Graph.{Reach}
+use Rattle.graph.specs.Theorems.{Distinct}
+use Rattle.pool.specs.Layout.{registerCount, cellsOf, count, head, register, state, left, right, value, graphOf, rootsOf}
+use Rattle.pool.specs.Validity.{wellFormed}
+use Rattle.pool.specs.Retain.{freeList, freeCells}
+use Rattle.pool.specs.Outcome.{answered}
+use Rattle.collector.specs.Collect.{isReached, collectOf}
+
+-- Cell x can be reached from the registers over left and right.
+abbrev pub Reached : List ℕ → ℕ → Type 0
+Reached w x = Reach (graphOf registerCount w) (rootsOf registerCount w) x
+
+-- Cell x is used, with the links and the value that it has in w.
+pub record SameCell (w w' : List ℕ) (x : ℕ) : Type 0 where
+  pub used : state registerCount w' x ≡ 0
+  pub left : left registerCount w' x ≡ left registerCount w x
+  pub right : right registerCount w' x ≡ right registerCount w x
+  pub value : value registerCount w' x ≡ value registerCount w x
+
+-- The words w' after a collection of the pool w of n cells that kept the cells `kept`.
+pub record Collected (n : ℕ) (w w' kept : List ℕ) : Type 0 where
+  -- The kept cells are those that are reached, each once.
+  pub reached : (x : ℕ) → List·Memᴰ x kept ↔ Reached w x
+  pub once : Distinct kept
+  -- A reached cell is used, its links and its value as before.
+  pub same : (x : ℕ) → Reached w x → SameCell w w' x
+  -- Every other cell is free, and the free list has exactly these, ascending.
+  pub free : (x : ℕ) → 0 < x → x ≤ n → (Reached w x → ⊥) → state registerCount w' x ≡ 4
+  pub chain : freeList registerCount n w' ≡ freeCells (isReached registerCount n w) n 1
+  -- The registers and N are as before.
+  pub registers : (k : ℕ) → k < registerCount → register w' k ≡ register w k
+  pub count : count w' ≡ count w
+  -- The result is a well-formed pool, and collecting it again answers the same and changes nothing.
+  pub cells : cellsOf registerCount w' ≡ n
+  pub well-formed : wellFormed registerCount n w' ≡ true
+  pub again : collectOf w' ≡ (answered (length kept ∷ 3 * length kept ∷ []), w')
+  -- Where all n cells are reached, and the free list was empty, nothing changes at all.
+  pub full : length kept ≡ n → head w ≡ 0 → w' ≡ w
+
+-- "A collection keeps exactly what the registers reach, links and values as before, frees the rest; visits are three a kept cell."
+abbrev pub Collection-keeps-the-reached : Type 0
+Collection-keeps-the-reached =
+    (n : ℕ) (w : List ℕ) → 0 < n → cellsOf registerCount w ≡ n → wellFormed registerCount n w ≡ true
+    → (kept w' : List ℕ) × (collectOf w ≡ (answered (length kept ∷ 3 * length kept ∷ []), w')) × Collected n w w' kept
