@@ -15,15 +15,22 @@ use Rattle.pool.specs.Retain.{lowestFree, freeAbove, keptField, freeFiel
 use Rattle.pool.proofs.Laws.{cell-same, cell-other, length-setCell, length-setHead}
 use Rattle.pool.proofs.Every.{length-tabulate, getD-tabulate, tabulate-list, tabulate-cong}
 
+-- the first of several cells is kept, or is the lowest free one
+lowest-step : (keep : ℕ → Bool) (k i : ℕ) (t : Bool) → keep i ≡ t
+    → _≡_ {A = ℕ} (lowestFree keep (suc k) i) (elim t [ true ↦ lowestFree keep k (suc i) | false ↦ i ])
+unfolding lowestFree
+lowest-step keep k i t e = ap (λ (b : Bool). elim b as (λ x. ℕ) [ true ↦ lowestFree keep k (suc i) | false ↦ i ]) e
+
 -- the lowest free cell above i, where the next cell is kept, and where it is not
 module _ (keep : ℕ → Bool) (n i : ℕ) (here : i < n) where
+  one-more : freeAbove keep n i ≡ lowestFree keep (suc (n - suc i)) (suc i)
+  one-more = ap (λ (k : ℕ). lowestFree keep k (suc i)) (omega arith)
+
   free-kept : keep (suc i) ≡ true → freeAbove keep n i ≡ freeAbove keep n (suc i)
-  unfolding lowestFree
-  free-kept e = let more : n - i ≡ suc (n - suc i) = omega arith in rw more (rw (e, lowestFree))
+  free-kept e = one-more ∙ lowest-step keep (n - suc i) (suc i) true e
 
   free-here : keep (suc i) ≡ false → freeAbove keep n i ≡ suc i
-  unfolding lowestFree
-  free-here e = let more : n - i ≡ suc (n - suc i) = omega arith in rw more (rw (e, lowestFree))
+  free-here e = one-more ∙ lowest-step keep (n - suc i) (suc i) false e
 
 -- a freed cell, field by field, and what freeing it leaves alone
 module _ (R : ℕ) (w : List ℕ) (i next : ℕ) (positive : 0 < i) where

@@ -302,10 +302,10 @@ fn cells_valid(words: &[u32], n: u32) -> bool
     requires { ⌜ poolLength registerCount n ≤ length (now words) ⌝ }
     ensures { λ r. ⌜ r ≡ cellsValid registerCount n (now (words .entry)) ⌝ }
 {
-    let mut i = n;
-    while 0 < i {
-        if valid_cell(words, n, i) {
-            i -= 1;
+    let mut cell = n;
+    while 0 < cell {
+        if valid_cell(words, n, cell) {
+            cell -= 1;
         } else {
             return false;
         }

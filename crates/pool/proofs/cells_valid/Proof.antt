@@ -1,4 +1,4 @@
--- `pool::cells_valid` meets its contract. The cells above i are valid, so what is left to test decides; i falls.
+-- `pool::cells_valid` meets its contract. The cells above the present one are valid, so what is left to test decides; its number falls.
 use Rattle.pool.proofs.cells_valid.Statement.{statement}
 use Rattle.pool.proofs.cells_valid.Tie as tie
 use Prim.Native.Nat.{ℕ, suc, _≤_, _-_}
@@ -17,10 +17,10 @@ abbrev test : ℕ → List ℕ → ℕ → Bool
 test n words k = validCell registerCount n words (suc k)
 
 abbrev Inv-loop : tie.InvT-loop
-Inv-loop words n i₀ i = (i ≤ n) × (cellsValid registerCount n words ≡ every i (test n words))
+Inv-loop words n cell₀ cell = (cell ≤ n) × (cellsValid registerCount n words ≡ every cell (test n words))
 
 abbrev μ-loop : tie.MeasureT-loop
-μ-loop words n i₀ i = i
+μ-loop words n cell₀ cell = cell
 
 loop-holds : tie.Need-loop-holds Inv-loop μ-loop
 loop-holds c = (omega arith, refl)
@@ -28,8 +28,8 @@ loop-holds c = (omega arith, refl)
 valid-cell-requires : tie.Need-valid-cell-requires Inv-loop μ-loop
 valid-cell-requires c κs = omega arith
 
-sub-i : tie.Need-sub-i Inv-loop μ-loop
-sub-i c = omega arith
+sub-cell : tie.Need-sub-cell Inv-loop μ-loop
+sub-cell c = omega arith
 
 loop-less : tie.Need-loop-less Inv-loop μ-loop
 loop-less c = omega arith
@@ -37,15 +37,15 @@ loop-less c = omega arith
 loop-again : tie.Need-loop-again Inv-loop μ-loop
 loop-again c =
     let a = c .before .before .before .before .before .args in
-    let this : suc (c .before .before .before .loop .i - 1) ≡ c .before .before .before .loop .i = omega arith in
-    let tested : test (a .n) (now (a .words)) (c .before .before .before .loop .i - 1) ≡ true = cc in
+    let this : suc (c .before .before .before .loop .cell - 1) ≡ c .before .before .before .loop .cell = omega arith in
+    let tested : test (a .n) (now (a .words)) (c .before .before .before .loop .cell - 1) ≡ true = cc in
     (omega arith, c .before .before .before .loop .inv .1 ∙ every-pass (test _ _) _ (c .before .before .loop-test .taken) tested)
 
 returns : tie.Need-returns Inv-loop μ-loop
 returns c =
     let a = c .before .before .before .before .before .args in
-    let this : suc (c .before .before .before .loop .i - 1) ≡ c .before .before .before .loop .i = omega arith in
-    let tested : test (a .n) (now (a .words)) (c .before .before .before .loop .i - 1) ≡ false = cc in
+    let this : suc (c .before .before .before .loop .cell - 1) ≡ c .before .before .before .loop .cell = omega arith in
+    let tested : test (a .n) (now (a .words)) (c .before .before .before .loop .cell - 1) ≡ false = cc in
     sym (c .before .before .before .loop .inv .1 ∙ every-fail (test _ _) _ (c .before .before .loop-test .taken) tested)
 
 returns-2 : tie.Need-returns-2 Inv-loop μ-loop
@@ -59,7 +59,7 @@ cells-valid-spec =
     μ-loop
     loop-holds
     valid-cell-requires
-    sub-i
+    sub-cell
     loop-less
     loop-again
     returns
