@@ -1,3 +1,4 @@
 pub mod Held
 pub mod Simple
 pub mod Allocate
+pub mod Admission

@@ -218,3 +218,142 @@ pub fn new_in(words: &mut [u32], n: u32, r: u32, a: u32, b: u32, v: u32) -> Answ
         Answer::Refused(Refusal::Malformed)
     }
 }
+
+// copy r a
+pub fn copy(words: &mut [u32], r: u32, a: u32) -> Answer
+    ensures { λ q. ⌜ (answerOutcome q, now (words .exit)) ≡ callOf (Call.Copy r a) (now (words .entry)) ⌝ }
+{
+    match pool::admit(words, r, a, a) {
+        Admitted::Cells(n) => copy_in(words, n, r, a),
+        Admitted::Refused(k) => Answer::Refused(k),
+    }
+}
+
+// clear r
+pub fn clear(words: &mut [u32], r: u32) -> Answer
+    ensures { λ q. ⌜ (answerOutcome q, now (words .exit)) ≡ callOf (Call.Clear r) (now (words .entry)) ⌝ }
+{
+    match pool::admit(words, r, r, r) {
+        Admitted::Cells(_) => clear_in(words, r),
+        Admitted::Refused(k) => Answer::Refused(k),
+    }
+}
+
+// new r a b v
+pub fn new(words: &mut [u32], r: u32, a: u32, b: u32, v: u32) -> Answer
+    ensures { λ q. ⌜ (answerOutcome q, now (words .exit)) ≡ callOf (Call.New r a b v) (now (words .entry)) ⌝ }
+{
+    match pool::admit(words, r, a, b) {
+        Admitted::Cells(n) => new_in(words, n, r, a, b, v),
+        Admitted::Refused(k) => Answer::Refused(k),
+    }
+}
+
+// left r a
+pub fn left(words: &mut [u32], r: u32, a: u32) -> Answer
+    ensures { λ q. ⌜ (answerOutcome q, now (words .exit)) ≡ callOf (Call.Left r a) (now (words .entry)) ⌝ }
+{
+    match pool::admit(words, r, a, a) {
+        Admitted::Cells(n) => follow_in(words, n, Pool::LEFT, r, a),
+        Admitted::Refused(k) => Answer::Refused(k),
+    }
+}
+
+// right r a
+pub fn right(words: &mut [u32], r: u32, a: u32) -> Answer
+    ensures { λ q. ⌜ (answerOutcome q, now (words .exit)) ≡ callOf (Call.Right r a) (now (words .entry)) ⌝ }
+{
+    match pool::admit(words, r, a, a) {
+        Admitted::Cells(n) => follow_in(words, n, Pool::RIGHT, r, a),
+        Admitted::Refused(k) => Answer::Refused(k),
+    }
+}
+
+// setleft a b
+pub fn set_left(words: &mut [u32], a: u32, b: u32) -> Answer
+    ensures { λ q. ⌜ (answerOutcome q, now (words .exit)) ≡ callOf (Call.SetLeft a b) (now (words .entry)) ⌝ }
+{
+    match pool::admit(words, a, b, b) {
+        Admitted::Cells(n) => link_in(words, n, Pool::LEFT, a, b),
+        Admitted::Refused(k) => Answer::Refused(k),
+    }
+}
+
+// setright a b
+pub fn set_right(words: &mut [u32], a: u32, b: u32) -> Answer
+    ensures { λ q. ⌜ (answerOutcome q, now (words .exit)) ≡ callOf (Call.SetRight a b) (now (words .entry)) ⌝ }
+{
+    match pool::admit(words, a, b, b) {
+        Admitted::Cells(n) => link_in(words, n, Pool::RIGHT, a, b),
+        Admitted::Refused(k) => Answer::Refused(k),
+    }
+}
+
+// setvalue a v
+pub fn set_value(words: &mut [u32], a: u32, v: u32) -> Answer
+    ensures { λ q. ⌜ (answerOutcome q, now (words .exit)) ≡ callOf (Call.SetValue a v) (now (words .entry)) ⌝ }
+{
+    match pool::admit(words, a, a, a) {
+        Admitted::Cells(n) => set_value_in(words, n, a, v),
+        Admitted::Refused(k) => Answer::Refused(k),
+    }
+}
+
+// value a
+pub fn value(words: &[u32], a: u32) -> Answer
+    ensures { λ q. ⌜ (answerOutcome q, now (words .entry)) ≡ callOf (Call.Value a) (now (words .entry)) ⌝ }
+{
+    match pool::admit(words, a, a, a) {
+        Admitted::Cells(n) => value_in(words, n, a),
+        Admitted::Refused(k) => Answer::Refused(k),
+    }
+}
+
+// same a b
+pub fn same(words: &[u32], a: u32, b: u32) -> Answer
+    ensures { λ q. ⌜ (answerOutcome q, now (words .entry)) ≡ callOf (Call.Same a b) (now (words .entry)) ⌝ }
+{
+    match pool::admit(words, a, b, b) {
+        Admitted::Cells(n) => same_in(words, n, a, b),
+        Admitted::Refused(k) => Answer::Refused(k),
+    }
+}
+
+// collect
+pub fn collect(words: &mut [u32]) -> Answer
+    ensures { λ q. ⌜ (answerOutcome q, now (words .exit)) ≡ callOf Call.Collect (now (words .entry)) ⌝ }
+{
+    match collector::collect(words) {
+        Collection::Kept { kept, visits } => Answer::Collected { kept, visits },
+        Collection::Refused(k) => Answer::Refused(k),
+    }
+}
+
+impl Call {
+    // Runs the call.
+    pub fn answer(self, words: &mut [u32]) -> Answer
+        ensures { λ q. ⌜ (answerOutcome q, now (words .exit)) ≡ callOf self (now (words .entry)) ⌝ }
+    {
+        match self {
+            Call::Copy { r, a } => copy(words, r, a),
+            Call::Clear { r } => clear(words, r),
+            Call::New { r, a, b, v } => new(words, r, a, b, v),
+            Call::Left { r, a } => left(words, r, a),
+            Call::Right { r, a } => right(words, r, a),
+            Call::SetLeft { a, b } => set_left(words, a, b),
+            Call::SetRight { a, b } => set_right(words, a, b),
+            Call::SetValue { a, v } => set_value(words, a, v),
+            Call::Value { a } => value(words, a),
+            Call::Same { a, b } => same(words, a, b),
+            Call::Collect => collect(words),
+        }
+    }
+}
+
+// One step: runs the call, and gives it back with its answer.
+pub fn perform(words: &mut [u32], call: Call) -> Step
+    ensures { λ s. ⌜ (s .call ≡ call) × ((answerOutcome (s .answer), now (words .exit)) ≡ callOf call (now (words .entry))) ⌝ }
+{
+    let answer = call.answer(words);
+    Step { call, answer }
+}

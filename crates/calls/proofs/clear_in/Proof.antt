@@ -2,9 +2,6 @@
 use borrow.Author.Needs.{needs}
 use Rattle.calls.proofs.clear_in.Statement.{statement}
 use Rattle.calls.proofs.clear_in.Tie as tie
-use Rattle.calls.proofs.clear_in.Reads as reads
-use Rattle.calls.proofs.clear_in.Lts as lts
-use Rattle.pool.proofs.write_register.Reads as write-register-reads
 
 write-register-requires : tie.Need-write-register-requires
 write-register-requires c κs = search needs

@@ -2,10 +2,6 @@
 use borrow.Author.Needs.{needs}
 use Rattle.calls.proofs.copy_in.Statement.{statement}
 use Rattle.calls.proofs.copy_in.Tie as tie
-use Rattle.calls.proofs.copy_in.Reads as reads
-use Rattle.calls.proofs.copy_in.Lts as lts
-use Rattle.pool.proofs.read_link.Reads as read-link-reads
-use Rattle.pool.proofs.write_register.Reads as write-register-reads
 use Rattle.calls.proofs.Held.{holds, holds-none}
 use Rattle.calls.proofs.Simple.{copied}
 

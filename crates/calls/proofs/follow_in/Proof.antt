@@ -2,12 +2,6 @@
 use borrow.Author.Needs.{needs}
 use Rattle.calls.proofs.follow_in.Statement.{statement}
 use Rattle.calls.proofs.follow_in.Tie as tie
-use Rattle.calls.proofs.follow_in.Reads as reads
-use Rattle.calls.proofs.follow_in.Lts as lts
-use Rattle.pool.proofs.read_cell.Reads as read-cell-reads
-use Rattle.pool.proofs.read_link.Reads as read-link-reads
-use Rattle.pool.proofs.valid_link.Reads as valid-link-reads
-use Rattle.pool.proofs.write_register.Reads as write-register-reads
 use native.Mathlib.Omega.{arith}
 use mathlib.Core.Path.{sym, _∙_}
 use Rattle.calls.proofs.Held.{holds, holds-none, holds-cell}

@@ -2,10 +2,6 @@
 use borrow.Author.Needs.{needs}
 use Rattle.calls.proofs.good_head.Statement.{statement}
 use Rattle.calls.proofs.good_head.Tie as tie
-use Rattle.calls.proofs.good_head.Reads as reads
-use Rattle.calls.proofs.good_head.Lts as lts
-use Rattle.pool.proofs.read_cell.Reads as read-cell-reads
-use Rattle.pool.proofs.read_head.Reads as read-head-reads
 use borrow.Author.Tests.{le-leb, lt-leb, eq-eqb, ne-eqb}
 
 read-head-requires : tie.Need-read-head-requires

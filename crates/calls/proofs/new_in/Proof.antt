@@ -2,13 +2,6 @@
 use borrow.Author.Needs.{needs}
 use Rattle.calls.proofs.new_in.Statement.{statement}
 use Rattle.calls.proofs.new_in.Tie as tie
-use Rattle.calls.proofs.new_in.Reads as reads
-use Rattle.calls.proofs.new_in.Lts as lts
-use Rattle.calls.proofs.good_head.Reads as good-head-reads
-use Rattle.calls.proofs.take_collected.Reads as take-collected-reads
-use Rattle.calls.proofs.take_head.Reads as take-head-reads
-use Rattle.pool.proofs.read_head.Reads as read-head-reads
-use Rattle.pool.proofs.read_link.Reads as read-link-reads
 use native.Mathlib.Omega.{arith}
 use mathlib.Core.Path.{sym, _∙_}
 use Rattle.calls.proofs.Held.{holds, holds-none}

@@ -2,9 +2,6 @@
 use borrow.Author.Needs.{needs}
 use Rattle.calls.proofs.same_in.Statement.{statement}
 use Rattle.calls.proofs.same_in.Tie as tie
-use Rattle.calls.proofs.same_in.Reads as reads
-use Rattle.calls.proofs.same_in.Lts as lts
-use Rattle.pool.proofs.read_link.Reads as read-link-reads
 use Rattle.calls.proofs.Held.{holds, holds-none}
 use Rattle.calls.proofs.Simple.{same-malformed, compared-same, compared-other}
 

@@ -2,10 +2,6 @@
 use borrow.Author.Needs.{needs}
 use Rattle.calls.proofs.set_value_in.Statement.{statement}
 use Rattle.calls.proofs.set_value_in.Tie as tie
-use Rattle.calls.proofs.set_value_in.Reads as reads
-use Rattle.calls.proofs.set_value_in.Lts as lts
-use Rattle.pool.proofs.read_link.Reads as read-link-reads
-use Rattle.pool.proofs.write_cell.Reads as write-cell-reads
 use native.Mathlib.Omega.{arith}
 use Rattle.calls.proofs.Held.{holds, holds-none, holds-cell}
 use Rattle.calls.proofs.Simple.{set-value-nil, value-set}

@@ -2,11 +2,6 @@
 use borrow.Author.Needs.{needs}
 use Rattle.calls.proofs.take_collected.Statement.{statement}
 use Rattle.calls.proofs.take_collected.Tie as tie
-use Rattle.calls.proofs.take_collected.Reads as reads
-use Rattle.calls.proofs.take_collected.Lts as lts
-use Rattle.calls.proofs.take_head.Reads as take-head-reads
-use Rattle.collector.proofs.collect_in.Reads as collect-in-reads
-use Rattle.pool.proofs.read_head.Reads as read-head-reads
 use native.Mathlib.Omega.{arith}
 use Rattle.calls.proofs.Allocate.{swept, swept-head, take-refused, take-full, take-done}
 

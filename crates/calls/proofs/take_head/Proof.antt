@@ -2,13 +2,6 @@
 use borrow.Author.Needs.{needs}
 use Rattle.calls.proofs.take_head.Statement.{statement}
 use Rattle.calls.proofs.take_head.Tie as tie
-use Rattle.calls.proofs.take_head.Reads as reads
-use Rattle.calls.proofs.take_head.Lts as lts
-use Rattle.pool.proofs.read_cell.Reads as read-cell-reads
-use Rattle.pool.proofs.read_head.Reads as read-head-reads
-use Rattle.pool.proofs.write_cell.Reads as write-cell-reads
-use Rattle.pool.proofs.write_head.Reads as write-head-reads
-use Rattle.pool.proofs.write_register.Reads as write-register-reads
 
 read-head-requires : tie.Need-read-head-requires
 read-head-requires c κs = search needs
