@@ -1,5 +1,17 @@
-// The eleven calls on a pool.
+// The eleven calls on a pool. A function whose name ends in `_in` is a call behind its first two questions: it takes the number of cells, n, of words
+// that hold them, and registers that there are. The others ask these questions first, and run on any words and any numbers.
+use collector::Collection;
+use pool::Admitted;
+use pool::Held;
+use pool::Pool;
 use pool::Refusal;
+ghost use mathlib.Core.Path.{_≡_};
+ghost use Prim.Native.Nat.{_+_, _<_, _≤_};
+ghost use lib.ListN.{length};
+ghost use Rattle.pool.specs.Layout.{cellLimit, registerCount, poolLength, head};
+ghost use Rattle.calls.specs.Answers.{answerOutcome};
+ghost use Rattle.calls.specs.Calls.{copyIn, clearIn, followIn, linkIn, setValueIn, valueIn, sameIn, newIn, goodHead, take, callOf};
+ghost use Rattle.calls.specs.Allocate.{takeCollected};
 
 // A call: r, a and b are register numbers, v is a value.
 pub enum Call {
@@ -31,4 +43,317 @@ pub enum Answer {
 pub struct Step {
     pub call: Call,
     pub answer: Answer,
+}
+
+// r gets what a holds.
+pub fn copy_in(words: &mut [u32], n: u32, r: u32, a: u32) -> Answer
+    requires { ⌜ (poolLength registerCount n ≤ length (now words)) × (r < registerCount) × (a < registerCount) ⌝ }
+    ensures { λ q. ⌜ (answerOutcome q, now (words .exit)) ≡ copyIn n (now (words .entry)) r a ⌝ }
+{
+    let Held::Link(x) = pool::read_link(words, n, a) else {
+        return Answer::Refused(Refusal::Malformed);
+    };
+    pool::write_register(words, r, x);
+    Answer::Done
+}
+
+// r becomes nil.
+pub fn clear_in(words: &mut [u32], r: u32) -> Answer
+    requires { ⌜ (poolLength registerCount 0 ≤ length (now words)) × (r < registerCount) ⌝ }
+    ensures { λ q. ⌜ (answerOutcome q, now (words .exit)) ≡ clearIn (now (words .entry)) r ⌝ }
+{
+    pool::write_register(words, r, 0);
+    Answer::Done
+}
+
+// r gets a link of a's cell: field 1 is left, 2 is right.
+pub fn follow_in(words: &mut [u32], n: u32, field: usize, r: u32, a: u32) -> Answer
+    requires { ⌜ (poolLength registerCount n ≤ length (now words)) × (field < 4) × (r < registerCount) × (a < registerCount) ⌝ }
+    ensures { λ q. ⌜ (answerOutcome q, now (words .exit)) ≡ followIn n (now (words .entry)) field r a ⌝ }
+{
+    let Held::Link(x) = pool::read_link(words, n, a) else {
+        return Answer::Refused(Refusal::Malformed);
+    };
+    if x == 0 {
+        return Answer::Refused(Refusal::Nil);
+    }
+    let link = pool::read_cell(words, x, field);
+    if pool::valid_link(words, n, link) {
+        pool::write_register(words, r, link);
+        Answer::Done
+    } else {
+        Answer::Refused(Refusal::Malformed)
+    }
+}
+
+// A link of a's cell becomes what b holds.
+pub fn link_in(words: &mut [u32], n: u32, field: usize, a: u32, b: u32) -> Answer
+    requires { ⌜ (poolLength registerCount n ≤ length (now words)) × (field < 4) × (a < registerCount) × (b < registerCount) ⌝ }
+    ensures { λ q. ⌜ (answerOutcome q, now (words .exit)) ≡ linkIn n (now (words .entry)) field a b ⌝ }
+{
+    let Held::Link(y) = pool::read_link(words, n, b) else {
+        return Answer::Refused(Refusal::Malformed);
+    };
+    let Held::Link(x) = pool::read_link(words, n, a) else {
+        return Answer::Refused(Refusal::Malformed);
+    };
+    if x == 0 {
+        return Answer::Refused(Refusal::Nil);
+    }
+    pool::write_cell(words, x, field, y);
+    Answer::Done
+}
+
+// The value of a's cell becomes v.
+pub fn set_value_in(words: &mut [u32], n: u32, a: u32, v: u32) -> Answer
+    requires { ⌜ (poolLength registerCount n ≤ length (now words)) × (a < registerCount) ⌝ }
+    ensures { λ q. ⌜ (answerOutcome q, now (words .exit)) ≡ setValueIn n (now (words .entry)) a v ⌝ }
+{
+    let Held::Link(x) = pool::read_link(words, n, a) else {
+        return Answer::Refused(Refusal::Malformed);
+    };
+    if x == 0 {
+        return Answer::Refused(Refusal::Nil);
+    }
+    pool::write_cell(words, x, Pool::VALUE, v);
+    Answer::Done
+}
+
+// The value of a's cell.
+pub fn value_in(words: &[u32], n: u32, a: u32) -> Answer
+    requires { ⌜ (poolLength registerCount n ≤ length (now words)) × (a < registerCount) ⌝ }
+    ensures { λ q. ⌜ (answerOutcome q, now (words .entry)) ≡ valueIn n (now (words .entry)) a ⌝ }
+{
+    let Held::Link(x) = pool::read_link(words, n, a) else {
+        return Answer::Refused(Refusal::Malformed);
+    };
+    if x == 0 {
+        return Answer::Refused(Refusal::Nil);
+    }
+    Answer::Number(pool::read_cell(words, x, Pool::VALUE))
+}
+
+// Do a and b hold the same link?
+pub fn same_in(words: &[u32], n: u32, a: u32, b: u32) -> Answer
+    requires { ⌜ (poolLength registerCount n ≤ length (now words)) × (a < registerCount) × (b < registerCount) ⌝ }
+    ensures { λ q. ⌜ (answerOutcome q, now (words .entry)) ≡ sameIn n (now (words .entry)) a b ⌝ }
+{
+    let Held::Link(x) = pool::read_link(words, n, a) else {
+        return Answer::Refused(Refusal::Malformed);
+    };
+    let Held::Link(y) = pool::read_link(words, n, b) else {
+        return Answer::Refused(Refusal::Malformed);
+    };
+    if x == y {
+        Answer::Number(1)
+    } else {
+        Answer::Number(0)
+    }
+}
+
+// Takes the head cell: it becomes a used cell with these links and this value, its left becomes the head, and r gets it, last of all.
+fn take_head(words: &mut [u32], r: u32, x: u32, y: u32, v: u32)
+    requires { ⌜ (0 < head (now words)) × (poolLength registerCount (head (now words)) ≤ length (now words)) × (r < registerCount) ⌝ }
+    ensures { λ _. ⌜ now (words .exit) ≡ take (now (words .entry)) r x y v ⌝ }
+{
+    let i = pool::read_head(words);
+    let next = pool::read_cell(words, i, Pool::LEFT);
+    pool::write_cell(words, i, Pool::STATE, Pool::USED);
+    pool::write_cell(words, i, Pool::LEFT, x);
+    pool::write_cell(words, i, Pool::RIGHT, y);
+    pool::write_cell(words, i, Pool::VALUE, v);
+    pool::write_head(words, next);
+    pool::write_register(words, r, i);
+}
+
+// Is the head a free cell whose left is nil or a cell?
+fn good_head(words: &[u32], n: u32) -> bool
+    requires { ⌜ (poolLength registerCount n ≤ length (now words)) × (0 < head (now words)) ⌝ }
+    ensures { λ q. ⌜ q ≡ goodHead n (now (words .entry)) ⌝ }
+{
+    let i = pool::read_head(words);
+    if n < i {
+        return false;
+    }
+    if pool::read_cell(words, i, Pool::STATE) == Pool::FREE {
+        pool::read_cell(words, i, Pool::LEFT) <= n
+    } else {
+        false
+    }
+}
+
+// Collects, and takes the head cell if one is free then. The registers are as the caller left them, so all they hold is kept.
+fn take_collected(words: &mut [u32], n: u32, r: u32, x: u32, y: u32, v: u32) -> Answer
+    requires { ⌜ (poolLength registerCount n ≤ length (now words)) × (0 < n) × (n ≤ cellLimit) × (r < registerCount) × (head (now words) ≡ 0) ⌝ }
+    ensures { λ q. ⌜ (answerOutcome q, now (words .exit)) ≡ takeCollected n (now (words .entry)) r x y v ⌝ }
+{
+    let Collection::Kept { kept: _, visits } = collector::collect_in(words, n) else {
+        return Answer::Refused(Refusal::Malformed);
+    };
+    if pool::read_head(words) == 0 {
+        return Answer::Refused(Refusal::Full);
+    }
+    take_head(words, r, x, y, v);
+    Answer::Allocated { visits }
+}
+
+// r gets a new cell with left from a, right from b, and value v.
+pub fn new_in(words: &mut [u32], n: u32, r: u32, a: u32, b: u32, v: u32) -> Answer
+    requires { ⌜ (poolLength registerCount n ≤ length (now words)) × (0 < n) × (n ≤ cellLimit) × (r < registerCount) × (a < registerCount) × (b < registerCount) ⌝ }
+    ensures { λ q. ⌜ (answerOutcome q, now (words .exit)) ≡ newIn n (now (words .entry)) r a b v ⌝ }
+{
+    let Held::Link(x) = pool::read_link(words, n, a) else {
+        return Answer::Refused(Refusal::Malformed);
+    };
+    let Held::Link(y) = pool::read_link(words, n, b) else {
+        return Answer::Refused(Refusal::Malformed);
+    };
+    if pool::read_head(words) == 0 {
+        return take_collected(words, n, r, x, y, v);
+    }
+    if good_head(words, n) {
+        take_head(words, r, x, y, v);
+        Answer::Allocated { visits: 0 }
+    } else {
+        Answer::Refused(Refusal::Malformed)
+    }
+}
+
+// copy r a
+pub fn copy(words: &mut [u32], r: u32, a: u32) -> Answer
+    ensures { λ q. ⌜ (answerOutcome q, now (words .exit)) ≡ callOf (Call.Copy r a) (now (words .entry)) ⌝ }
+{
+    match pool::admit(words, r, a, a) {
+        Admitted::Cells(n) => copy_in(words, n, r, a),
+        Admitted::Refused(k) => Answer::Refused(k),
+    }
+}
+
+// clear r
+pub fn clear(words: &mut [u32], r: u32) -> Answer
+    ensures { λ q. ⌜ (answerOutcome q, now (words .exit)) ≡ callOf (Call.Clear r) (now (words .entry)) ⌝ }
+{
+    match pool::admit(words, r, r, r) {
+        Admitted::Cells(_) => clear_in(words, r),
+        Admitted::Refused(k) => Answer::Refused(k),
+    }
+}
+
+// new r a b v
+pub fn new(words: &mut [u32], r: u32, a: u32, b: u32, v: u32) -> Answer
+    ensures { λ q. ⌜ (answerOutcome q, now (words .exit)) ≡ callOf (Call.New r a b v) (now (words .entry)) ⌝ }
+{
+    match pool::admit(words, r, a, b) {
+        Admitted::Cells(n) => new_in(words, n, r, a, b, v),
+        Admitted::Refused(k) => Answer::Refused(k),
+    }
+}
+
+// left r a
+pub fn left(words: &mut [u32], r: u32, a: u32) -> Answer
+    ensures { λ q. ⌜ (answerOutcome q, now (words .exit)) ≡ callOf (Call.Left r a) (now (words .entry)) ⌝ }
+{
+    match pool::admit(words, r, a, a) {
+        Admitted::Cells(n) => follow_in(words, n, Pool::LEFT, r, a),
+        Admitted::Refused(k) => Answer::Refused(k),
+    }
+}
+
+// right r a
+pub fn right(words: &mut [u32], r: u32, a: u32) -> Answer
+    ensures { λ q. ⌜ (answerOutcome q, now (words .exit)) ≡ callOf (Call.Right r a) (now (words .entry)) ⌝ }
+{
+    match pool::admit(words, r, a, a) {
+        Admitted::Cells(n) => follow_in(words, n, Pool::RIGHT, r, a),
+        Admitted::Refused(k) => Answer::Refused(k),
+    }
+}
+
+// setleft a b
+pub fn set_left(words: &mut [u32], a: u32, b: u32) -> Answer
+    ensures { λ q. ⌜ (answerOutcome q, now (words .exit)) ≡ callOf (Call.SetLeft a b) (now (words .entry)) ⌝ }
+{
+    match pool::admit(words, a, b, b) {
+        Admitted::Cells(n) => link_in(words, n, Pool::LEFT, a, b),
+        Admitted::Refused(k) => Answer::Refused(k),
+    }
+}
+
+// setright a b
+pub fn set_right(words: &mut [u32], a: u32, b: u32) -> Answer
+    ensures { λ q. ⌜ (answerOutcome q, now (words .exit)) ≡ callOf (Call.SetRight a b) (now (words .entry)) ⌝ }
+{
+    match pool::admit(words, a, b, b) {
+        Admitted::Cells(n) => link_in(words, n, Pool::RIGHT, a, b),
+        Admitted::Refused(k) => Answer::Refused(k),
+    }
+}
+
+// setvalue a v
+pub fn set_value(words: &mut [u32], a: u32, v: u32) -> Answer
+    ensures { λ q. ⌜ (answerOutcome q, now (words .exit)) ≡ callOf (Call.SetValue a v) (now (words .entry)) ⌝ }
+{
+    match pool::admit(words, a, a, a) {
+        Admitted::Cells(n) => set_value_in(words, n, a, v),
+        Admitted::Refused(k) => Answer::Refused(k),
+    }
+}
+
+// value a
+pub fn value(words: &[u32], a: u32) -> Answer
+    ensures { λ q. ⌜ (answerOutcome q, now (words .entry)) ≡ callOf (Call.Value a) (now (words .entry)) ⌝ }
+{
+    match pool::admit(words, a, a, a) {
+        Admitted::Cells(n) => value_in(words, n, a),
+        Admitted::Refused(k) => Answer::Refused(k),
+    }
+}
+
+// same a b
+pub fn same(words: &[u32], a: u32, b: u32) -> Answer
+    ensures { λ q. ⌜ (answerOutcome q, now (words .entry)) ≡ callOf (Call.Same a b) (now (words .entry)) ⌝ }
+{
+    match pool::admit(words, a, b, b) {
+        Admitted::Cells(n) => same_in(words, n, a, b),
+        Admitted::Refused(k) => Answer::Refused(k),
+    }
+}
+
+// collect
+pub fn collect(words: &mut [u32]) -> Answer
+    ensures { λ q. ⌜ (answerOutcome q, now (words .exit)) ≡ callOf Call.Collect (now (words .entry)) ⌝ }
+{
+    match collector::collect(words) {
+        Collection::Kept { kept, visits } => Answer::Collected { kept, visits },
+        Collection::Refused(k) => Answer::Refused(k),
+    }
+}
+
+impl Call {
+    // Runs the call.
+    pub fn answer(self, words: &mut [u32]) -> Answer
+        ensures { λ q. ⌜ (answerOutcome q, now (words .exit)) ≡ callOf self (now (words .entry)) ⌝ }
+    {
+        match self {
+            Call::Copy { r, a } => copy(words, r, a),
+            Call::Clear { r } => clear(words, r),
+            Call::New { r, a, b, v } => new(words, r, a, b, v),
+            Call::Left { r, a } => left(words, r, a),
+            Call::Right { r, a } => right(words, r, a),
+            Call::SetLeft { a, b } => set_left(words, a, b),
+            Call::SetRight { a, b } => set_right(words, a, b),
+            Call::SetValue { a, v } => set_value(words, a, v),
+            Call::Value { a } => value(words, a),
+            Call::Same { a, b } => same(words, a, b),
+            Call::Collect => collect(words),
+        }
+    }
+}
+
+// One step: runs the call, and gives it back with its answer.
+pub fn perform(words: &mut [u32], call: Call) -> Step
+    ensures { λ s. ⌜ (s .call ≡ call) × ((answerOutcome (s .answer), now (words .exit)) ≡ callOf call (now (words .entry))) ⌝ }
+{
+    let answer = call.answer(words);
+    Step { call, answer }
 }

@@ -1,0 +1,104 @@
+-- The call `new`: what its steps leave, where they went as the equations say, is what its definition leaves.
+use Prim.Native.Nat.{ℕ, zero, suc, _+_, _-_, _*_, _<_, _≤_}
+use native.Mathlib.Omega.{arith}
+use mathlib.Core.Path.{_≡_, refl, sym, ap, _∙_}
+use mathlib.Core.List.{List, [], _∷_}
+use mathlib.Core.Bool.{Bool, true, false, cond, _&&_}
+use lib.ListN.{length}
+use lib.Dec.{eqb, leb}
+use borrow.Author.Tests.{eq-eqb, ne-eqb, leb-true}
+use Rattle.pool.specs.Layout.{registerCount, poolLength, head, setHead, setRegister, state, left, setCell}
+use Rattle.pool.specs.Validity.{isFree, wellFormed}
+use Rattle.pool.specs.Retain.{lowestFree}
+use Rattle.pool.specs.Outcome.{Outcome, answered, refused, refusalNumber}
+use Rattle.pool.specs.declared.Refusal.{Refusal}
+use Rattle.pool.proofs.Questions.{both}
+use Rattle.pool.proofs.WellFormed.{well-formed-read}
+use Rattle.pool.proofs.Retained.{length-retain, retain-head}
+use Rattle.collector.specs.Collect.{isReached, keptCells, collected, collectionOutcome, collectIn}
+use Rattle.collector.specs.declared.Collection.{Collection}
+use Rattle.collector.specs.declared.Collection.the-variants as collection
+use Rattle.collector.proofs.Collected.{collected-full, head-nil-full}
+use Rattle.calls.specs.Calls.{take, goodHead, holdsLink, newIn}
+use Rattle.calls.specs.Allocate.{takeCollected}
+use Rattle.calls.proofs.Held.{Holds}
+
+-- the lowest free cell is one of the cells
+lowest-below : (keep : ℕ → Bool) (k i : ℕ) → 0 < i → lowestFree keep k i < k + i
+unfolding lowestFree
+lowest-below keep zero i low = omega arith
+lowest-below keep (suc k) i low = go (keep i) (lowest-below keep k (suc i) (omega arith))
+  where
+    go : (b : Bool) → lowestFree keep k (suc i) < k + suc i → elim b [ true ↦ lowestFree keep k (suc i) | false ↦ i ] < suc k + i
+    go true h = omega arith
+    go false h = omega arith
+
+-- a collection that was not refused: its words and its visits
+pub record Swept (n : ℕ) (w w' : List ℕ) (v : ℕ) : Type 0 where
+  pub well : wellFormed registerCount n w ≡ true
+  pub words : w' ≡ collected registerCount n w
+  pub visits : v ≡ 3 * keptCells registerCount n w
+
+module _ (n : ℕ) (w w' : List ℕ) {q : Collection} (did : (collectionOutcome q, w') ≡ collectIn n w) where
+  pub swept : {kept visits : ℕ} → q ≡ collection.Kept kept visits → Swept n w w' visits
+  swept {kept} {visits} told = go (wellFormed registerCount n w) refl (sym (ap (λ (p : Collection). (collectionOutcome p, w')) told) ∙ did)
+    where
+      go : (t : Bool) → wellFormed registerCount n w ≡ t
+          → _≡_ {A = Outcome × List ℕ} (answered (kept ∷ visits ∷ []), w')
+          (cond t (answered (keptCells registerCount n w ∷ 3 * keptCells registerCount n w ∷ []), collected registerCount n w) (refused 3, w))
+          → Swept n w w' visits
+      go true e same = record { well = e; words = ap (λ (p : Outcome × List ℕ). p .1) same; visits = cc (ap (λ (p : Outcome × List ℕ). p .0) same) }
+      go false e same = let z : _≡_ {A = ℕ} 0 1 = cc (ap (λ (p : Outcome × List ℕ). p .0) same) in absurd (omega arith)
+
+  pub refused-words : {k : Refusal} → q ≡ collection.Refused k → (wellFormed registerCount n w ≡ false) × (w' ≡ w)
+  refused-words {k} told = go (wellFormed registerCount n w) refl (sym (ap (λ (p : Collection). (collectionOutcome p, w')) told) ∙ did)
+    where
+      go : (t : Bool) → wellFormed registerCount n w ≡ t
+          → _≡_ {A = Outcome × List ℕ} (refused (refusalNumber k), w')
+          (cond t (answered (keptCells registerCount n w ∷ 3 * keptCells registerCount n w ∷ []), collected registerCount n w) (refused 3, w))
+          → (wellFormed registerCount n w ≡ false) × (w' ≡ w)
+      go true e same = let z : _≡_ {A = ℕ} 0 1 = cc (ap (λ (p : Outcome × List ℕ). p .0) same) in absurd (omega arith)
+      go false e same = (e, ap (λ (p : Outcome × List ℕ). p .1) same)
+
+  pub take-refused : (r x y v : ℕ) {k : Refusal} → q ≡ collection.Refused k → (refused 3, w') ≡ takeCollected n w r x y v
+  take-refused r x y v told = let h = refused-words told in simp (h .0, h .1)
+
+module _ (n : ℕ) (w : List ℕ) {w' : List ℕ} {visits : ℕ} (s : Swept n w w' visits) where
+  -- the head after it is one of the cells, or nil where every cell is kept; and then nothing has changed
+  pub swept-head : 0 < n → poolLength registerCount n ≤ length w → head w' ≤ n
+  swept-head some room =
+      rw (s .words, retain-head registerCount n (isReached registerCount n w) w room some)
+      (omega (arith, lowest-below (isReached registerCount n w) (n - 0) 1 (omega arith)))
+
+  pub take-full : (r x y v : ℕ) → 0 < n → poolLength registerCount n ≤ length w → head w ≡ 0 → {i : ℕ} → i ≡ head w' → i ≡ 0
+      → (refused 5, w') ≡ takeCollected n w r x y v
+  take-full r x y v some room nil read none =
+      let well = well-formed-read registerCount n w (s .well) in
+      let h : head (collected registerCount n w) ≡ 0 = cc in
+      simp (s .well, h, s .words) (simp (collected-full registerCount n w well room (head-nil-full registerCount n w well room some h) nil))
+
+  pub take-done : (r x y v : ℕ) {i : ℕ} {w'' : List ℕ} → i ≡ head w' → (i ≡ 0 → ⊥) → w'' ≡ take w' r x y v
+      → (answered (visits ∷ []), w'') ≡ takeCollected n w r x y v
+  take-done r x y v read free e =
+      simp (s .well, ne-eqb (head (collected registerCount n w)) 0 λ z. free (read ∙ ap head (s .words) ∙ z), e, s .words, s .visits)
+
+-- a head that may be taken is one of the cells
+pub good-bound : (n : ℕ) (w : List ℕ) → goodHead n w ≡ true → head w ≤ n
+good-bound n w h =
+    leb-true (head w) n
+    (both (leb (head w) n) (isFree (state registerCount w (head w)))
+    (both (leb (head w) n && isFree (state registerCount w (head w))) (leb (left registerCount w (head w)) n) h .0) .0)
+
+module _ (n : ℕ) (w : List ℕ) {a x : ℕ} (h : Holds n w a x) (r v : ℕ) where
+  pub new-malformed : (b : ℕ) → holdsLink n w b ≡ false → (refused 3, w) ≡ newIn n w r a b v
+  new-malformed b not = simp (not, h .link, h .valid)
+
+  module _ {b y : ℕ} (k : Holds n w b y) {i : ℕ} (read : i ≡ head w) where
+    pub new-collected : i ≡ 0 → {p : Outcome × List ℕ} → p ≡ takeCollected n w r x y v → p ≡ newIn n w r a b v
+    new-collected nil e = simp (h .link, h .valid, k .link, k .valid, ← read, eq-eqb i 0 nil) e
+
+    pub new-taken : (i ≡ 0 → ⊥) → goodHead n w ≡ true → {w' : List ℕ} → w' ≡ take w r x y v → (answered (0 ∷ []), w') ≡ newIn n w r a b v
+    new-taken some good e = simp (h .link, h .valid, k .link, k .valid) (simp (good, e, ne-eqb (head w) 0 λ z. some (read ∙ z)))
+
+    pub new-refused : (i ≡ 0 → ⊥) → goodHead n w ≡ false → (refused 3, w) ≡ newIn n w r a b v
+    new-refused some bad = simp (h .link, h .valid, k .link, k .valid) (simp (bad, ne-eqb (head w) 0 λ z. some (read ∙ z)))

@@ -1,0 +1,4 @@
+pub mod Held
+pub mod Simple
+pub mod Allocate
+pub mod Admission

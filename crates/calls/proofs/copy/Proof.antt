@@ -1,0 +1,45 @@
+-- `calls::copy` meets its contract: the first two questions, then the call.
+use borrow.Author.Needs.{needs}
+use Rattle.calls.proofs.copy.Statement.{statement}
+use Rattle.calls.proofs.copy.Tie as tie
+use native.Mathlib.Omega.{arith}
+use denote.Ref.{now}
+use Rattle.calls.specs.Calls.{copyIn}
+use Rattle.calls.proofs.Admission.{admits, asked-cells, asked-refused}
+
+admit-requires : tie.Need-admit-requires
+admit-requires c κs = search needs
+
+enum-known-n : tie.Need-enum-known-n
+enum-known-n c = search needs
+
+copy-in-requires : tie.Need-copy-in-requires
+copy-in-requires c κs = let p = c .before .before .before .before .before .before .before .args in omega (arith, admits _ (p .r) (p .a) (p .a) (c .before .before .before .before .admit .ensures) (c .before .before .n .given .1))
+
+enum-known-k : tie.Need-enum-known-k
+enum-known-k c = search needs
+
+same-length : tie.Need-same-length
+same-length c = search needs
+
+returns : tie.Need-returns
+returns c = let p = c .before .before .before .before .before .before .before .before .before .before .args in asked-cells _ (p .r) (p .a) (p .a) (c .before .before .before .before .before .before .before .admit .ensures) (λ n. copyIn n (now (p .words)) (p .r) (p .a)) (c .before .before .before .before .before .n .given .1) (c .before .before .copy-in .ensures)
+
+same-length-2 : tie.Need-same-length-2
+same-length-2 c = search needs
+
+returns-2 : tie.Need-returns-2
+returns-2 c = let p = c .before .before .before .before .before .before .args in asked-refused _ (p .r) (p .a) (p .a) (c .before .before .before .admit .ensures) (λ n. copyIn n (now (p .words)) (p .r) (p .a)) (c .before .k .given .1)
+
+pub copy-spec : {M : Type 1} → statement M
+copy-spec =
+    tie.close
+    (tie.spec
+    admit-requires
+    enum-known-n
+    copy-in-requires
+    enum-known-k
+    same-length
+    returns
+    same-length-2
+    returns-2)

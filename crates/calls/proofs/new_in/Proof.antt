@@ -1,0 +1,93 @@
+-- `calls::new_in` meets its contract: both registers are read first, and r is written last.
+use borrow.Author.Needs.{needs}
+use Rattle.calls.proofs.new_in.Statement.{statement}
+use Rattle.calls.proofs.new_in.Tie as tie
+use native.Mathlib.Omega.{arith}
+use mathlib.Core.Path.{sym, _∙_}
+use Rattle.calls.proofs.Held.{holds, holds-none}
+use Rattle.calls.proofs.Allocate.{good-bound, new-malformed, new-collected, new-taken, new-refused}
+
+read-link-requires : tie.Need-read-link-requires
+read-link-requires c κs = search needs
+
+enum-known-x : tie.Need-enum-known-x
+enum-known-x c = search needs
+
+enum-told : tie.Need-enum-told
+enum-told c = search needs
+
+same-length : tie.Need-same-length
+same-length c = search needs
+
+returns : tie.Need-returns
+returns c = simp (holds-none _ _ _ (c .before .before .read-link .ensures) (c .enum-told .given .1))
+
+read-link-requires-2 : tie.Need-read-link-requires-2
+read-link-requires-2 c κs = search needs
+
+enum-known-y : tie.Need-enum-known-y
+enum-known-y c = search needs
+
+enum-told-2 : tie.Need-enum-told-2
+enum-told-2 c = search needs
+
+same-length-2 : tie.Need-same-length-2
+same-length-2 c = search needs
+
+returns-2 : tie.Need-returns-2
+returns-2 c = new-malformed _ _ (holds _ _ _ (c .before .before .before .before .before .before .before .read-link .ensures) (c .before .before .before .before .before .x .given .1)) _ _ _ (holds-none _ _ _ (c .before .before .read-link2 .ensures) (c .enum-told2 .given .1))
+
+read-head-requires : tie.Need-read-head-requires
+read-head-requires c κs = search needs
+
+take-collected-requires : tie.Need-take-collected-requires
+take-collected-requires c κs = search needs
+
+same-length-3 : tie.Need-same-length-3
+same-length-3 c = search needs
+
+returns-3 : tie.Need-returns-3
+returns-3 c = new-collected _ _ (holds _ _ _ (c .before .before .before .before .before .before .before .before .before .before .before .before .before .before .before .read-link .ensures) (c .before .before .before .before .before .before .before .before .before .before .before .before .before .x .given .1)) _ _ (holds _ _ _ (c .before .before .before .before .before .before .before .before .before .before .read-link2 .ensures) (c .before .before .before .before .before .before .before .before .y .given .1)) (c .before .before .before .before .before .read-head .ensures) (c .before .before .before .before .if1 .taken) (c .before .before .take-collected .ensures)
+
+good-head-requires : tie.Need-good-head-requires
+good-head-requires c κs = search needs
+
+take-head-requires : tie.Need-take-head-requires
+take-head-requires c κs = omega (arith, c .before .before .before .before .before .read-head .ensures, good-bound _ _ (sym (c .before .before .good-head .ensures) ∙ c .before .if2 .taken))
+
+same-length-4 : tie.Need-same-length-4
+same-length-4 c = search needs
+
+returns-4 : tie.Need-returns-4
+returns-4 c = new-taken _ _ (holds _ _ _ (c .before .before .before .before .before .before .before .before .before .before .before .before .before .before .before .before .before .before .read-link .ensures) (c .before .before .before .before .before .before .before .before .before .before .before .before .before .before .before .before .x .given .1)) _ _ (holds _ _ _ (c .before .before .before .before .before .before .before .before .before .before .before .before .before .read-link2 .ensures) (c .before .before .before .before .before .before .before .before .before .before .before .y .given .1)) (c .before .before .before .before .before .before .before .before .read-head .ensures) (c .before .before .before .before .before .before .before .if1 .left) (sym (c .before .before .before .before .before .good-head .ensures) ∙ c .before .before .before .before .if2 .taken) (c .before .before .take-head .ensures)
+
+same-length-5 : tie.Need-same-length-5
+same-length-5 c = search needs
+
+returns-5 : tie.Need-returns-5
+returns-5 c = new-refused _ _ (holds _ _ _ (c .before .before .before .before .before .before .before .before .before .before .before .before .before .before .read-link .ensures) (c .before .before .before .before .before .before .before .before .before .before .before .before .x .given .1)) _ _ (holds _ _ _ (c .before .before .before .before .before .before .before .before .before .read-link2 .ensures) (c .before .before .before .before .before .before .before .y .given .1)) (c .before .before .before .before .read-head .ensures) (c .before .before .before .if1 .left) (sym (c .before .good-head .ensures) ∙ c .if2 .left)
+
+pub new-in-spec : {M : Type 1} → statement M
+new-in-spec =
+    tie.close
+    (tie.spec
+    read-link-requires
+    enum-known-x
+    enum-told
+    same-length
+    returns
+    read-link-requires-2
+    enum-known-y
+    enum-told-2
+    same-length-2
+    returns-2
+    read-head-requires
+    take-collected-requires
+    same-length-3
+    returns-3
+    good-head-requires
+    take-head-requires
+    same-length-4
+    returns-4
+    same-length-5
+    returns-5)

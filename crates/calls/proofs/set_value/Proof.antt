@@ -1,0 +1,45 @@
+-- `calls::set_value` meets its contract: the first two questions, then the call.
+use borrow.Author.Needs.{needs}
+use Rattle.calls.proofs.set_value.Statement.{statement}
+use Rattle.calls.proofs.set_value.Tie as tie
+use native.Mathlib.Omega.{arith}
+use denote.Ref.{now}
+use Rattle.calls.specs.Calls.{setValueIn}
+use Rattle.calls.proofs.Admission.{admits, asked-cells, asked-refused}
+
+admit-requires : tie.Need-admit-requires
+admit-requires c κs = search needs
+
+enum-known-n : tie.Need-enum-known-n
+enum-known-n c = search needs
+
+set-value-in-requires : tie.Need-set-value-in-requires
+set-value-in-requires c κs = let p = c .before .before .before .before .before .before .before .args in omega (arith, admits _ (p .a) (p .a) (p .a) (c .before .before .before .before .admit .ensures) (c .before .before .n .given .1))
+
+enum-known-k : tie.Need-enum-known-k
+enum-known-k c = search needs
+
+same-length : tie.Need-same-length
+same-length c = search needs
+
+returns : tie.Need-returns
+returns c = let p = c .before .before .before .before .before .before .before .before .before .before .args in asked-cells _ (p .a) (p .a) (p .a) (c .before .before .before .before .before .before .before .admit .ensures) (λ n. setValueIn n (now (p .words)) (p .a) (p .v)) (c .before .before .before .before .before .n .given .1) (c .before .before .set-value-in .ensures)
+
+same-length-2 : tie.Need-same-length-2
+same-length-2 c = search needs
+
+returns-2 : tie.Need-returns-2
+returns-2 c = let p = c .before .before .before .before .before .before .args in asked-refused _ (p .a) (p .a) (p .a) (c .before .before .before .admit .ensures) (λ n. setValueIn n (now (p .words)) (p .a) (p .v)) (c .before .k .given .1)
+
+pub set-value-spec : {M : Type 1} → statement M
+set-value-spec =
+    tie.close
+    (tie.spec
+    admit-requires
+    enum-known-n
+    set-value-in-requires
+    enum-known-k
+    same-length
+    returns
+    same-length-2
+    returns-2)
