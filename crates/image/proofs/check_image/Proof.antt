@@ -1,0 +1,49 @@
+-- `image::check_image` meets its contract: N is within the limits, and the scan decides.
+use borrow.Author.Needs.{needs}
+use Rattle.image.proofs.check_image.Statement.{statement}
+use Rattle.image.proofs.check_image.Tie as tie
+use mathlib.Core.Path.{_∙_}
+use borrow.Author.Tests.{le-leb, lt-leb}
+use Rattle.image.proofs.Scanning.{check-whole, check-refused}
+
+returns : tie.Need-returns
+returns c = simp (lt-leb _ _ (c .if1 .taken))
+
+returns-2 : tie.Need-returns-2
+returns-2 c = simp (le-leb _ _ (c .before .if1 .left), lt-leb _ _ (c .if2 .taken))
+
+scan-image-requires : tie.Need-scan-image-requires
+scan-image-requires c κs = search needs
+
+enum-told : tie.Need-enum-told
+enum-told c = search needs
+
+enum-known-why : tie.Need-enum-known-why
+enum-known-why c = search needs
+
+number-requires : tie.Need-number-requires
+number-requires c κs = search needs
+
+returns-3 : tie.Need-returns-3
+returns-3 c =
+    check-whole _ _ (c .before .before .before .before .if1 .left) (c .before .before .before .if2 .left) _ (c .before .before .scan-image .ensures) _ _ _
+    (c .enum-told .given .1)
+
+returns-4 : tie.Need-returns-4
+returns-4 c =
+    c .number .ensures
+    ∙ check-refused _ _ (c .before .before .before .before .before .before .if1 .left) (c .before .before .before .before .before .if2 .left) _
+    (c .before .before .before .before .scan-image .ensures) _ (c .before .before .why .given .1)
+
+pub check-image-spec : {M : Type 1} → statement M
+check-image-spec =
+    tie.close
+    (tie.spec
+    returns
+    returns-2
+    scan-image-requires
+    enum-told
+    enum-known-why
+    number-requires
+    returns-3
+    returns-4)

@@ -1,0 +1,222 @@
+// Saved images of a pool: load, and the check of an image.
+use leb128::Number;
+use pool::Pool;
+use pool::Refusal;
+ghost use mathlib.Core.Path.{_≡_};
+ghost use Prim.Native.Nat.{_+_, _<_, _≤_};
+ghost use lib.ListN.{length};
+ghost use Rattle.pool.specs.Layout.{cellLimit, registerCount, poolLength};
+ghost use Rattle.image.specs.Image.{isValue, bounded, fieldAt, fieldCount, readFields, withFields, readImage};
+ghost use Rattle.image.specs.Load.{scanOf, fieldPlace, numbersOf, Filled, sweepState, markStates, loadOf, checkOf, Handed};
+
+// A number of an image, and the place behind it, or why it is refused.
+pub enum Field {
+    Value { value: u32, next: usize },
+    Refused(Refusal),
+}
+
+// What stands at the start of the bytes.
+pub enum Scan {
+    // An image of so many cells; the place behind that number, and the one behind the image.
+    Whole {
+        cells: u32,
+        start: usize,
+        end: usize,
+    },
+    Refused(Refusal),
+}
+
+// What load answers: 0 or the refusal's number, and where the bytes behind the image start.
+pub struct Loaded {
+    pub verdict: u32,
+    pub end: usize,
+}
+
+// A number that was read, if it may have any value or is at most `most`.
+fn bounded(number: Number, free: bool, most: u32, over: Refusal) -> Field
+    ensures { λ r. ⌜ r ≡ bounded free most over number ⌝ }
+{
+    match number {
+        Number::Value { value, next } => {
+            if free {
+                return Field::Value { value, next };
+            }
+            if most < value {
+                return Field::Refused(over);
+            }
+            Field::Value { value, next }
+        },
+        Number::Missing => Field::Refused(Refusal::Truncated),
+        Number::OutOfRange => Field::Refused(Refusal::OutOfRange),
+    }
+}
+
+// Is number j behind the number of cells a value, and no link?
+fn is_value(j: u32) -> bool
+    ensures { λ r. ⌜ r ≡ isValue registerCount j ⌝ }
+{
+    if j < Pool::REGISTERS {
+        return false;
+    }
+    (j - Pool::REGISTERS) % 3 == 2
+}
+
+// Number j behind the number of cells, which is k.
+fn read_field(bytes: &[u8], at: usize, k: u32, j: u32) -> Field
+    ensures { λ r. ⌜ r ≡ fieldAt registerCount k (now (bytes .entry)) j at ⌝ }
+{
+    bounded(
+        leb128::read_number(bytes, at),
+        is_value(j),
+        k,
+        Refusal::LinkRange,
+    )
+}
+
+// Reads all numbers behind the number of cells, without a write.
+fn scan_fields(bytes: &[u8], start: usize, k: u32) -> Scan
+    requires { ⌜ k ≤ cellLimit ⌝ }
+    ensures { λ r. ⌜ r ≡ scanOf (withFields k start (readFields registerCount k (now (bytes .entry)) (fieldCount registerCount k) 0 start)) ⌝ }
+{
+    let count = Pool::REGISTERS + 3 * k;
+    let mut j = 0;
+    let mut at = start;
+    while j < count {
+        match read_field(bytes, at, k, j) {
+            Field::Value { value: _, next } => {
+                at = next;
+                j += 1;
+            },
+            Field::Refused(why) => {
+                return Scan::Refused(why);
+            },
+        }
+    }
+    Scan::Whole {
+        cells: k,
+        start,
+        end: at,
+    }
+}
+
+// The image at the start of the bytes, for a pool of n cells.
+fn scan_image(bytes: &[u8], n: u32) -> Scan
+    requires { ⌜ n ≤ cellLimit ⌝ }
+    ensures { λ r. ⌜ r ≡ scanOf (readImage registerCount n (now (bytes .entry))) ⌝ }
+{
+    match bounded(
+        leb128::read_number(bytes, 0),
+        false,
+        n,
+        Refusal::TooManyCells,
+    ) {
+        Field::Value { value, next } => scan_fields(bytes, next, value),
+        Field::Refused(why) => Scan::Refused(why),
+    }
+}
+
+// Would these bytes be loaded into a pool of n cells? 0, or the number of the refusal.
+#[no_mangle]
+pub extern "C" fn check_image(bytes: &[u8], n: u32) -> u32
+    ensures { λ r. ⌜ r ≡ checkOf (now (bytes .entry)) n ⌝ }
+{
+    if n < 1 {
+        return 1;
+    }
+    if Pool::CELLS < n {
+        return 1;
+    }
+    match scan_image(bytes, n) {
+        Scan::Whole {
+            cells: _,
+            start: _,
+            end: _,
+        } => 0,
+        Scan::Refused(why) => why.number(),
+    }
+}
+
+// The word of a pool for number j of an image behind its number of cells.
+fn field_place(j: u32) -> usize
+    ensures { λ r. ⌜ r ≡ fieldPlace registerCount j ⌝ }
+{
+    if j < Pool::REGISTERS {
+        return Pool::FIRST_REGISTER + j as usize;
+    }
+    let i = (j - Pool::REGISTERS) as usize;
+    Pool::FIRST_CELL + Pool::CELL_WORDS * (i / 3) + (i % 3 + 1)
+}
+
+// Writes the numbers behind the number of cells to their words.
+fn fill(words: &mut [u32], bytes: &[u8], start: usize, k: u32)
+    requires { ⌜ (k ≤ cellLimit) × (poolLength registerCount k ≤ length (now words)) ⌝ }
+    ensures { λ _. ⌜ Filled registerCount (numbersOf (readFields registerCount k (now (bytes .entry)) (fieldCount registerCount k) 0 start)) (now (words .exit)) ⌝ }
+{
+    let count = Pool::REGISTERS + 3 * k;
+    let mut j = 0;
+    let mut at = start;
+    while j < count {
+        let Field::Value { value, next } = read_field(bytes, at, k, j) else {
+            return;
+        };
+        let place = field_place(j);
+        words[place] = value;
+        at = next;
+        j += 1;
+    }
+}
+
+// The state by which the sweep keeps the first k cells and frees the others.
+fn state_of(i: u32, k: u32) -> u32
+    ensures { λ r. ⌜ r ≡ sweepState k i ⌝ }
+{
+    if i <= k { Pool::MARKED } else { Pool::FREE }
+}
+
+// Marks the first k of n cells for the sweep.
+fn mark_first(words: &mut [u32], n: u32, k: u32)
+    requires { ⌜ poolLength registerCount n ≤ length (now words) ⌝ }
+    ensures { λ _. ⌜ now (words .exit) ≡ markStates registerCount k n (now (words .entry)) ⌝ }
+{
+    let mut i = n;
+    while 0 < i {
+        pool::write_cell(words, i, Pool::STATE, state_of(i, k));
+        i -= 1;
+    }
+}
+
+// Loads the image at the start of the bytes, whole or not at all.
+pub fn load_at(words: &mut [u32], bytes: &[u8]) -> Loaded
+    ensures { λ r. ⌜ (r, now (words .exit)) ≡ loadOf (now (words .entry)) (now (bytes .entry)) ⌝ }
+{
+    let n = pool::cells_of_length(words.len());
+    if n == 0 {
+        return Loaded {
+            verdict: Refusal::Size.number(),
+            end: bytes.len(),
+        };
+    }
+    match scan_image(bytes, n) {
+        Scan::Refused(why) => Loaded {
+            verdict: why.number(),
+            end: bytes.len(),
+        },
+        Scan::Whole { cells, start, end } => {
+            fill(words, bytes, start, cells);
+            words[Pool::COUNT] = n;
+            mark_first(words, n, cells);
+            pool::sweep(words, n);
+            Loaded { verdict: 0, end }
+        },
+    }
+}
+
+// Loads the image at the start of the bytes. Gives the bytes behind it, and 0; or the empty part at their end, and the refusal's number.
+pub fn load<'a>(words: &mut [u32], bytes: &'a [u8], verdict: &mut u32) -> &'a [u8]
+    ensures { λ r. ⌜ Handed (loadOf (now (words .entry)) (now (bytes .entry))) (now (bytes .entry)) (now (words .exit)) (now (verdict .exit)) (now r) (bytes .entry .ptr .1) (r .ptr .1) ⌝ }
+{
+    let loaded = load_at(words, bytes);
+    let end = loaded.end;
+    *verdict = loaded.verdict;
+    &bytes[end..]
+}

@@ -1,0 +1,70 @@
+-- The numbers of an image, read from the pool and the scratch.
+use Prim.Native.Nat.{ℕ, zero, suc, _+_, _-_, _*_, _/_, _%_, _<_, _≤_}
+use native.Mathlib.Omega.{arith}
+use native.Mathlib.Numerals.{add-one}
+use mathlib.Core.Path.{_≡_, refl, sym, ap, _∙_}
+use mathlib.Core.List.{List, List·Memᴰ}
+use lib.ListN.{length, getD}
+use borrow.Author.Tests.{lt-ltb, le-ltb, eq-eqb, ne-eqb}
+use Rattle.graph.proofs.Lists.{getD-member}
+use Rattle.graph.proofs.Theorems.{order-reached, order-length}
+use Rattle.pool.specs.Layout.{poolLength, register, cell, left, right, graphOf, rootsOf}
+use Rattle.pool.proofs.WellFormed.{Link, WellFormed, well-formed-read}
+use Rattle.pool.proofs.PoolGraph.{Used, link-bound, used-links, reached-used, pool-within}
+use Rattle.collector.specs.Collect.{reachedCells, keptCells}
+use Rattle.image.specs.Image.{numberIn, fieldCount, savedField}
+use Rattle.save.specs.Steps.{Savable, numberAt, Ordered}
+use Rattle.save.proofs.Numbering.{place-none}
+
+module _ (R n : ℕ) (w s : List ℕ) (savable : Savable R n w (length s)) where
+  well : WellFormed R n w
+  well = well-formed-read R n w (savable .well-formed)
+
+  -- What is reached is a used cell, so nil is not.
+  pub order-used : (x : ℕ) → List·Memᴰ x (reachedCells R n w) → Used R n w x
+  order-used x m = reached-used well (order-reached n (graphOf R w) (rootsOf R w) (pool-within well) x .0 m)
+
+  pub few-kept : keptCells R n w ≤ n
+  few-kept = order-length n (graphOf R w) (rootsOf R w) (pool-within well)
+
+  pub register-bound : (j : ℕ) → j < R → register w j ≤ n
+  register-bound j low = link-bound (well .registers j low)
+
+  module _ (ordered : Ordered R n w s) where
+    link-numbered : (x : ℕ) → Link R n w x → numberAt s x ≡ numberIn (reachedCells R n w) x
+    link-numbered x (Link.nil e) =
+        simp (eq-eqb x 0 e) (sym (place-none 1 (reachedCells R n w) x (λ m. omega (arith, order-used x m .positive))))
+    link-numbered x (Link.used low high used) = simp (ne-eqb x 0 (λ e. omega arith)) (ordered .numbers x low high)
+
+    pub saved-register : (j v : ℕ) → j < R → v ≡ numberAt s (register w j) → v ≡ savedField R w (reachedCells R n w) j
+    saved-register j v low e = e ∙ (link-numbered (register w j) (well .registers j low) ∙ simp (lt-ltb j R low))
+
+    module _ (j : ℕ) (high : R ≤ j) (below : j < fieldCount R (keptCells R n w)) where
+      -- The cell whose fields stand there.
+      abbrev cellHere : ℕ
+      cellHere = getD s (n + (j - R) / 3) 0
+
+      cell-order : cellHere ≡ getD (reachedCells R n w) ((j - R) / 3) 0
+      cell-order = ordered .cells ((j - R) / 3) (omega arith)
+
+      pub cell-used : Used R n w cellHere
+      cell-used = rw cell-order (order-used _ (getD-member (reachedCells R n w) ((j - R) / 3) (omega arith)))
+
+      link-here : (f : ℕ) → f < 2 → Link R n w (cell R w cellHere (suc f))
+      link-here zero h = used-links well cell-used .0
+      link-here (suc zero) h = used-links well cell-used .1
+      link-here (suc (suc f)) h = absurd (omega arith)
+
+      pub saved-value : (v : ℕ) → (j - R) % 3 ≡ 2 → v ≡ cell R w cellHere 3 → v ≡ savedField R w (reachedCells R n w) j
+      saved-value v last e = e ∙ simp (cell-order, le-ltb j R high, eq-eqb ((j - R) % 3) 2 last)
+
+      module _ (other : (j - R) % 3 ≡ 2 → ⊥) where
+        here : Link R n w (cell R w cellHere ((j - R) % 3 + 1))
+        here = rw (add-one ((j - R) % 3)) (link-here ((j - R) % 3) (omega (arith, other)))
+
+        pub link-here-bound : cell R w cellHere ((j - R) % 3 + 1) ≤ n
+        link-here-bound = link-bound here
+
+        pub saved-link : (v : ℕ) → v ≡ numberAt s (cell R w cellHere ((j - R) % 3 + 1)) → v ≡ savedField R w (reachedCells R n w) j
+        saved-link v e =
+            e ∙ (link-numbered _ here ∙ simp (add-one ((j - R) % 3), cell-order, le-ltb j R high, ne-eqb ((j - R) % 3) 2 other))

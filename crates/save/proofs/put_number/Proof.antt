@@ -1,0 +1,39 @@
+-- `save::put_number` meets its contract: there is room, so the number is written.
+use borrow.Author.Needs.{needs}
+use Rattle.save.proofs.put_number.Statement.{statement}
+use Rattle.save.proofs.put_number.Tie as tie
+use native.Mathlib.Omega.{arith}
+use Rattle.save.proofs.ImageBytes.{put-next, put-none}
+
+write-number-requires : tie.Need-write-number-requires
+write-number-requires c κs = search needs
+
+enum-known-next : tie.Need-enum-known-next
+enum-known-next c = search needs
+
+enum-told : tie.Need-enum-told
+enum-told c = search needs
+
+same-length : tie.Need-same-length
+same-length c = search needs
+
+returns : tie.Need-returns
+returns c = put-next _ _ _ _ _ (c .before .before .before .before .before .before .before .before .pre) _ (c .before .before .before .before .before .write-number .ensures) (c .before .next .given .1)
+
+same-length-2 : tie.Need-same-length-2
+same-length-2 c = search needs
+
+returns-2 : tie.Need-returns-2
+returns-2 c = absurd (put-none _ _ _ _ _ (c .before .before .before .before .before .before .before .pre) (c .before .before .before .before .write-number .ensures) (c .enum-told .given .1))
+
+pub put-number-spec : {M : Type 1} → statement M
+put-number-spec =
+    tie.close
+    (tie.spec
+    write-number-requires
+    enum-known-next
+    enum-told
+    same-length
+    returns
+    same-length-2
+    returns-2)

@@ -1,0 +1,35 @@
+-- Save (01, "Images" and "Questions, in order"): what it answers and leaves, for every pool, scratch and output.
+use Prim.Native.Nat.{ℕ, _*_}
+use mathlib.Core.List.{List, [], _∷_, _++_}
+use mathlib.Core.Bool.{cond}
+use lib.ListN.{length, drop, replicate}
+use lib.Dec.{leb, ltb}
+use Rattle.pool.specs.Layout.{registerCount, cellsOf}
+use Rattle.pool.specs.Validity.{wellFormed}
+use Rattle.pool.specs.Outcome.{Outcome, answered, refused, refusalNumber}
+use Rattle.image.specs.Image.{imageOf}
+use Rattle.save.specs.declared.Saved.{Saved}
+use Rattle.save.specs.declared.Saved.the-variants as saved
+
+-- What `save` says: the byte count.
+abbrev pub savedOutcome : Saved → Outcome
+savedOutcome (saved.Bytes size) = answered (size ∷ [])
+savedOutcome (saved.Refused why) = refused (refusalNumber why)
+
+-- The answer, the scratch and the output afterwards, for a well-formed pool: "does the output hold the image? No: 10." "Once save has found
+-- the pool whole all its scratch is 0, refused or not"; "output past the image stays".
+abbrev pub saveImage : List ℕ → List ℕ → List ℕ → Outcome × List ℕ × List ℕ
+saveImage image s out =
+    cond (leb (length image) (length out)) (answered (length image ∷ []), replicate (length s) 0, image ++ drop (length image) out)
+    (refused 10, replicate (length s) 0, out)
+
+-- Save of the pool w: "length .. and word 0" (1), "scratch 2 × N words or more? No: 10", "is the pool whole?" (3), then the output. The pool
+-- is only read: "Save changes no pool word".
+abbrev pub saveOf : List ℕ → List ℕ → List ℕ → Outcome × List ℕ × List ℕ
+saveOf w s out =
+    let n = cellsOf registerCount w in
+    cond (ltb 0 n)
+    (cond (leb (2 * n) (length s))
+    (cond (wellFormed registerCount n w) (saveImage (imageOf registerCount n w) s out) (refused 3, s, out))
+    (refused 10, s, out))
+    (refused 1, s, out)
