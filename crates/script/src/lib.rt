@@ -1,0 +1,239 @@
+// The text of scripts: what a line says, read a byte at a time, and the text of a reply.
+use calls::Answer;
+use calls::Call;
+use pool::Fresh;
+use pool::Refusal;
+ghost use mathlib.Core.Path.{_≡_};
+ghost use mathlib.Core.List.{[], _∷_};
+ghost use Rattle.script.specs.Lines.{command};
+ghost use Rattle.script.specs.Reader.{newReader, badReader, spaceOf, letterOf, digitOf, feedOf, endOf, begunOf};
+
+// What a line says.
+pub enum Line {
+    Bad,
+    // Make the pool anew, of that many cells.
+    Fresh(u32),
+    Run(Call),
+}
+
+// How far a line is read.
+pub struct LineReader {
+    // No line that starts so is good.
+    pub bad: bool,
+    // The line may end here: its letter is there, and its last number has a digit.
+    pub complete: bool,
+    pub letter: u8,
+    // How many numbers have begun, and the last four of them, the latest last.
+    pub count: u32,
+    pub first: u32,
+    pub second: u32,
+    pub third: u32,
+    pub fourth: u32,
+}
+
+impl LineReader {
+    // Nothing is read.
+    pub fn new() -> LineReader
+        ensures { λ r. ⌜ r ≡ newReader ⌝ }
+    {
+        LineReader {
+            bad: false,
+            complete: false,
+            letter: 0,
+            count: 0,
+            first: 0,
+            second: 0,
+            third: 0,
+            fourth: 0,
+        }
+    }
+
+    // Whatever follows, the line is bad.
+    fn spoilt() -> LineReader
+        ensures { λ r. ⌜ r ≡ badReader ⌝ }
+    {
+        LineReader {
+            bad: true,
+            complete: false,
+            letter: 0,
+            count: 0,
+            first: 0,
+            second: 0,
+            third: 0,
+            fourth: 0,
+        }
+    }
+
+    // After a space.
+    fn space(self) -> LineReader
+        ensures { λ r. ⌜ r ≡ spaceOf self ⌝ }
+    {
+        if !self.complete {
+            return LineReader::spoilt();
+        }
+        if 4 <= self.count {
+            return LineReader::spoilt();
+        }
+        LineReader {
+            bad: false,
+            complete: false,
+            letter: self.letter,
+            count: self.count + 1,
+            first: self.second,
+            second: self.third,
+            third: self.fourth,
+            fourth: 0,
+        }
+    }
+
+    // After a byte of the line's first word.
+    fn named(self, b: u8) -> LineReader
+        ensures { λ r. ⌜ r ≡ letterOf self b ⌝ }
+    {
+        if self.complete {
+            return LineReader::spoilt();
+        }
+        LineReader {
+            bad: false,
+            complete: true,
+            letter: b,
+            count: 0,
+            first: 0,
+            second: 0,
+            third: 0,
+            fourth: 0,
+        }
+    }
+
+    // After a byte of a number.
+    fn digit(self, b: u8) -> LineReader
+        ensures { λ r. ⌜ r ≡ digitOf self b ⌝ }
+    {
+        if b < b'0' {
+            return LineReader::spoilt();
+        }
+        if b'9' < b {
+            return LineReader::spoilt();
+        }
+        let v = 10 * (self.fourth as u64) + ((b - b'0') as u64);
+        if v < 4294967296 {
+            LineReader {
+                bad: false,
+                complete: true,
+                letter: self.letter,
+                count: self.count,
+                first: self.first,
+                second: self.second,
+                third: self.third,
+                fourth: v as u32,
+            }
+        } else {
+            LineReader::spoilt()
+        }
+    }
+
+    // One more byte of the line, no line feed.
+    pub fn feed(self, b: u8) -> LineReader
+        ensures { λ r. ⌜ r ≡ feedOf self b ⌝ }
+    {
+        if self.bad {
+            return self;
+        }
+        if b == b' ' {
+            return self.space();
+        }
+        if self.count == 0 {
+            return self.named(b);
+        }
+        self.digit(b)
+    }
+
+    // Has the line a byte?
+    pub fn begun(self) -> bool
+        ensures { λ r. ⌜ r ≡ begunOf self ⌝ }
+    {
+        if self.bad {
+            return true;
+        }
+        if self.complete {
+            return true;
+        }
+        self.count != 0
+    }
+
+    // The line ends here: what it says.
+    pub fn end(self) -> Line
+        ensures { λ r. ⌜ r ≡ endOf self ⌝ }
+    {
+        if !self.complete {
+            return Line::Bad;
+        }
+        let count = self.count;
+        match count {
+            0 => none(self.letter),
+            1 => one(self.letter, self.fourth),
+            2 => two(self.letter, self.third, self.fourth),
+            3 => Line::Bad,
+            _ => four(
+                self.letter,
+                self.first,
+                self.second,
+                self.third,
+                self.fourth,
+            ),
+        }
+    }
+}
+
+// What a letter with no number says.
+fn none(letter: u8) -> Line
+    ensures { λ r. ⌜ r ≡ command letter [] ⌝ }
+{
+    match letter {
+        b'g' => Line::Run(Call::Collect),
+        _ => Line::Bad,
+    }
+}
+
+// What a letter with a number says.
+fn one(letter: u8, x: u32) -> Line
+    ensures { λ r. ⌜ r ≡ command letter (x ∷ []) ⌝ }
+{
+    match letter {
+        b'f' => Line::Fresh(x),
+        b'z' => Line::Run(Call::Clear { r: x }),
+        b'v' => Line::Run(Call::Value { a: x }),
+        _ => Line::Bad,
+    }
+}
+
+// What a letter with two numbers says.
+fn two(letter: u8, x: u32, y: u32) -> Line
+    ensures { λ r. ⌜ r ≡ command letter (x ∷ y ∷ []) ⌝ }
+{
+    match letter {
+        b'c' => Line::Run(Call::Copy { r: x, a: y }),
+        b'l' => Line::Run(Call::Left { r: x, a: y }),
+        b'r' => Line::Run(Call::Right { r: x, a: y }),
+        b'L' => Line::Run(Call::SetLeft { a: x, b: y }),
+        b'R' => Line::Run(Call::SetRight { a: x, b: y }),
+        b'V' => Line::Run(Call::SetValue { a: x, v: y }),
+        b's' => Line::Run(Call::Same { a: x, b: y }),
+        _ => Line::Bad,
+    }
+}
+
+// What a letter with four numbers says.
+fn four(letter: u8, x: u32, y: u32, z: u32, v: u32) -> Line
+    ensures { λ r. ⌜ r ≡ command letter (x ∷ y ∷ z ∷ v ∷ []) ⌝ }
+{
+    match letter {
+        b'n' => Line::Run(Call::New {
+            r: x,
+            a: y,
+            b: z,
+            v,
+        }),
+        _ => Line::Bad,
+    }
+}
