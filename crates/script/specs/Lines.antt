@@ -1,6 +1,7 @@
 -- What a line of a script says (01, "Strips flown on paper"): "one call a line: a letter, then decimals below 2^32 after single spaces
--- (leading zeros allowed, ..)". Bytes are numbers, as in ASCII.
+-- (leading zeros allowed, ..)". A byte is its character's code.
 use Prim.Native.Nat.{ℕ, _+_, _-_, _*_, _^_}
+use Prim.Native.Char.{code}
 use mathlib.Core.List.{List, [], _∷_, map, foldl}
 use mathlib.Core.Bool.{Bool, true, false, cond, _&&_}
 use lib.Dec.{eqb, leb, ltb}
@@ -8,23 +9,22 @@ use Rattle.calls.specs.declared.Call.the-variants as call
 use Rattle.script.specs.declared.Line.{Line}
 use Rattle.script.specs.declared.Line.the-variants as line
 
--- A line is words with single spaces (32) between them. The first word: what stands before the first space.
+-- A line is words with single spaces between them. The first word: what stands before the first space.
 unfoldable pub firstWord : List ℕ → List ℕ
 firstWord [] = []
-firstWord (b ∷ bytes) = elim (eqb b 32) [ true ↦ [] | false ↦ b ∷ firstWord bytes ]
+firstWord (b ∷ bytes) = elim (eqb b (code " ")) [ true ↦ [] | false ↦ b ∷ firstWord bytes ]
 
 -- The words behind the first, one for each space: an empty one where two spaces stand together or the last byte is one.
 unfoldable pub laterWords : List ℕ → List (List ℕ)
 laterWords [] = []
-laterWords (b ∷ bytes) = elim (eqb b 32) [ true ↦ firstWord bytes ∷ laterWords bytes | false ↦ laterWords bytes ]
+laterWords (b ∷ bytes) = elim (eqb b (code " ")) [ true ↦ firstWord bytes ∷ laterWords bytes | false ↦ laterWords bytes ]
 
--- 0 to 9 are 48 to 57.
 abbrev pub isDigit : ℕ → Bool
-isDigit b = leb 48 b && leb b 57
+isDigit b = leb (code "0") b && leb b (code "9")
 
 -- Ten times the value of the digits before, and this one.
 abbrev pub withDigit : ℕ → ℕ → ℕ
-withDigit v b = 10 * v + (b - 48)
+withDigit v b = 10 * v + (b - code "0")
 
 -- The value of a decimal.
 abbrev pub decimalValue : List ℕ → ℕ
@@ -40,23 +40,23 @@ isNumber [] = false
 isNumber (b ∷ word) = all isDigit (b ∷ word) && ltb (decimalValue (b ∷ word)) (2 ^ 32)
 
 -- What a letter with its numbers says: "f N is fresh, n new, c copy, z clear, l left, r right, L setleft, R setright, v value, V setvalue,
--- s same, g collect, arguments as above". The letters, in this order: g; f, z, v; c, l, r, L, R, V, s; n.
+-- s same, g collect, arguments as above".
 unfoldable pub command : ℕ → List ℕ → Line
-command letter [] = cond (eqb letter 103) (line.Run call.Collect) line.Bad
+command letter [] = cond (eqb letter (code "g")) (line.Run call.Collect) line.Bad
 command letter (x ∷ []) =
-    cond (eqb letter 102) (line.Fresh x)
-    (cond (eqb letter 122) (line.Run (call.Clear x))
-    (cond (eqb letter 118) (line.Run (call.Value x)) line.Bad))
+    cond (eqb letter (code "f")) (line.Fresh x)
+    (cond (eqb letter (code "z")) (line.Run (call.Clear x))
+    (cond (eqb letter (code "v")) (line.Run (call.Value x)) line.Bad))
 command letter (x ∷ y ∷ []) =
-    cond (eqb letter 99) (line.Run (call.Copy x y))
-    (cond (eqb letter 108) (line.Run (call.Left x y))
-    (cond (eqb letter 114) (line.Run (call.Right x y))
-    (cond (eqb letter 76) (line.Run (call.SetLeft x y))
-    (cond (eqb letter 82) (line.Run (call.SetRight x y))
-    (cond (eqb letter 86) (line.Run (call.SetValue x y))
-    (cond (eqb letter 115) (line.Run (call.Same x y)) line.Bad))))))
+    cond (eqb letter (code "c")) (line.Run (call.Copy x y))
+    (cond (eqb letter (code "l")) (line.Run (call.Left x y))
+    (cond (eqb letter (code "r")) (line.Run (call.Right x y))
+    (cond (eqb letter (code "L")) (line.Run (call.SetLeft x y))
+    (cond (eqb letter (code "R")) (line.Run (call.SetRight x y))
+    (cond (eqb letter (code "V")) (line.Run (call.SetValue x y))
+    (cond (eqb letter (code "s")) (line.Run (call.Same x y)) line.Bad))))))
 command letter (x ∷ y ∷ z ∷ []) = line.Bad
-command letter (x ∷ y ∷ z ∷ v ∷ []) = cond (eqb letter 110) (line.Run (call.New x y z v)) line.Bad
+command letter (x ∷ y ∷ z ∷ v ∷ []) = cond (eqb letter (code "n")) (line.Run (call.New x y z v)) line.Bad
 command letter (x ∷ y ∷ z ∷ v ∷ more ∷ numbers) = line.Bad
 
 -- What words say: the first is a letter, the others are its numbers.

@@ -1,5 +1,6 @@
 -- The line reader: how it goes on at each byte, and that in the end it says what `parseLine` says of the whole line.
 use Prim.Native.Nat.{ℕ, _+_, _-_, _^_}
+use Prim.Native.Char.{code}
 use mathlib.Core.Path.{_≡_}
 use mathlib.Core.List.{List, [], _∷_, foldl}
 use mathlib.Core.Bool.{Bool, true, false, cond, not, _&&_, _||_}
@@ -58,7 +59,7 @@ digitOf s b =
 
 -- After a byte.
 unfoldable pub feedOf : LineReader → ℕ → LineReader
-feedOf s b = cond (s .bad) s (cond (eqb b 32) (spaceOf s) (cond (eqb (s .count) 0) (letterOf s b) (digitOf s b)))
+feedOf s b = cond (s .bad) s (cond (eqb b (code " ")) (spaceOf s) (cond (eqb (s .count) 0) (letterOf s b) (digitOf s b)))
 
 -- The numbers read: the last of the four, as many as have begun.
 abbrev pub numbersOf : LineReader → List ℕ
