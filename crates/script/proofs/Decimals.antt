@@ -65,3 +65,62 @@ digits-most (suc more) v less =
 
 pub decimal-most : (v : ℕ) → v < 2 ^ 32 → length (decimal v) ≤ 10
 decimal-most v fits = digits-most 9 v (omega arith)
+
+decimal-some : (v : ℕ) → 0 < length (decimal v)
+decimal-some v =
+    elim (decLt v 10) [
+      | yes small ↦ omega (arith, ap length (decimal-last v small))
+      | no large ↦ omega (arith, length-more v (omega arith))
+    ]
+
+all-append : (test : ℕ → Bool) (xs ys : List ℕ) → all test xs ≡ true → all test ys ≡ true → all test (xs ++ ys) ≡ true
+unfolding all
+all-append test [] ys left right = right
+all-append test (x ∷ xs) ys left right = go (test x) left (all-append test xs ys)
+  where
+    go : (t : Bool) → (t && all test xs) ≡ true → (all test xs ≡ true → all test ys ≡ true → all test (xs ++ ys) ≡ true)
+        → (t && all test (xs ++ ys)) ≡ true
+    go true h more = more h right
+    go false h more = h
+
+-- The code of a digit is a digit, and the last of a decimal counts its value.
+one-digit : (d : ℕ) → d < 10 → all isDigit ((code "0" + d) ∷ []) ≡ true
+unfolding all
+one-digit d small = rw (le-leb (code "0") (code "0" + d) (omega arith), le-leb (code "0" + d) (code "9") (omega arith))
+
+-- The decimal of a number is digits, and their value is the number.
+record Back (v : ℕ) : Type 0 where
+  value : decimalValue (decimal v) ≡ v
+  alike : all isDigit (decimal v) ≡ true
+
+back-last : (v : ℕ) → v < 10 → Back v
+back-last v small =
+    let e = decimal-last v small in
+    record { value = ap decimalValue e ∙ omega arith; alike = rw e (one-digit v small) }
+
+back-more : (v : ℕ) → 10 ≤ v → Back (v / 10) → Back v
+back-more v large above =
+    let e = decimal-more v large in
+    record {
+      value = ap decimalValue e ∙ foldl-append withDigit 0 (decimal (v / 10)) ((code "0" + v % 10) ∷ []) ∙ omega (arith, above .value);
+      alike = rw e (all-append isDigit (decimal (v / 10)) _ (above .alike) (one-digit (v % 10) (omega arith)));
+    }
+
+back : (most v : ℕ) → v ≤ most → Back v
+back zero v h = back-last v (omega arith)
+back (suc most) v h =
+    elim (decLt v 10) [
+      | yes small ↦ back-last v small
+      | no large ↦ back-more v (omega arith) (back most (v / 10) (omega arith))
+    ]
+
+-- Digits are a number if there are some and the value is in range.
+some-number : (word : List ℕ) → 0 < length word → all isDigit word ≡ true → decimalValue word < 2 ^ 32 → isNumber word ≡ true
+unfolding isNumber
+some-number [] some alike fits = absurd (omega arith)
+some-number (b ∷ word) some alike fits = rw (alike, lt-ltb (decimalValue (b ∷ word)) (2 ^ 32) fits)
+
+pub decimals-read-back : DecimalsReadBack
+decimals-read-back v fits =
+    let b = back v v (omega arith) in
+    record { number = some-number (decimal v) (decimal-some v) (b .alike) (omega (arith, b .value)); value = b .value }
