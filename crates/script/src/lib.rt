@@ -6,9 +6,10 @@ use pool::Refusal;
 ghost use Prim.Native.Nat.{_+_, _<_, _≤_};
 ghost use mathlib.Core.Path.{_≡_};
 ghost use mathlib.Core.List.{[], _∷_};
-ghost use lib.ListN.{length};
+ghost use lib.ListN.{length, drop};
 ghost use Rattle.script.specs.Lines.{command};
 ghost use Rattle.script.specs.Reader.{newReader, badReader, spaceOf, letterOf, digitOf, feedOf, endOf, begunOf};
+ghost use Rattle.script.specs.Scripts.{nextLine};
 ghost use Rattle.script.specs.Replies.{decimal, afterSpace, spaced, freshReply, answerReply, replyText, replyRoom, Put, writeAt};
 
 // What a line says.
@@ -32,6 +33,14 @@ pub struct LineReader {
     pub second: u32,
     pub third: u32,
     pub fourth: u32,
+}
+
+// What a part of a script gives next.
+pub enum Found {
+    // A line ends: what it says, and the place behind its line feed.
+    Line { line: Line, next: usize },
+    // The part ends, and the line goes on behind it.
+    More(LineReader),
 }
 
 impl LineReader {
@@ -185,6 +194,26 @@ impl LineReader {
                 self.fourth,
             ),
         }
+    }
+
+    // Reads on in a part of the script, from a place on, up to the next line feed.
+    pub fn next_line(self, bytes: &[u8], at: usize) -> Found
+        ensures { λ r. ⌜ r ≡ nextLine self (drop at (now (bytes .entry))) at ⌝ }
+    {
+        let mut reader = self;
+        let mut i = at;
+        while i < bytes.len() {
+            let b = bytes[i];
+            if b == b'\n' {
+                return Found::Line {
+                    line: reader.end(),
+                    next: i + 1,
+                };
+            }
+            reader = reader.feed(b);
+            i += 1;
+        }
+        Found::More(reader)
     }
 }
 
