@@ -1,0 +1,5 @@
+pub mod Words
+pub mod Reading
+pub mod Decimals
+pub mod Putting
+pub mod Scanning

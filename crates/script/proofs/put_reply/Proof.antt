@@ -1,0 +1,118 @@
+-- `script::put_reply` meets its contract: in each arm the text is put together of its parts, and none is longer than the room.
+use native.Mathlib.Omega.{arith}
+use Rattle.script.specs.Replies.{spaced}
+use Rattle.script.proofs.Putting.{puts, one-most, two-most}
+use borrow.Author.Needs.{needs}
+use Rattle.script.proofs.put_reply.Statement.{statement}
+use Rattle.script.proofs.put_reply.Tie as tie
+
+enum-told : tie.Need-enum-told
+enum-told c = search needs
+
+put-two-requires : tie.Need-put-two-requires
+put-two-requires c κs = search needs
+
+put-two-requires-2 : tie.Need-put-two-requires-2
+put-two-requires-2 c κs = search needs
+
+enum-told-2 : tie.Need-enum-told-2
+enum-told-2 c = search needs
+
+put-two-requires-3 : tie.Need-put-two-requires-3
+put-two-requires-3 c κs = search needs
+
+put-requires : tie.Need-put-requires
+put-requires c κs = search needs
+
+enum-known-reply : tie.Need-enum-known-reply
+enum-known-reply c = search needs
+
+put-two-requires-4 : tie.Need-put-two-requires-4
+put-two-requires-4 c κs = search needs
+
+put-number-requires : tie.Need-put-number-requires
+put-number-requires c κs = omega (arith, one-most (c .before .before .before .before .before .before .reply .given .0 .0) (search needs))
+
+enum-known-reply-2 : tie.Need-enum-known-reply-2
+enum-known-reply-2 c = search needs
+
+put-two-requires-5 : tie.Need-put-two-requires-5
+put-two-requires-5 c κs = search needs
+
+put-numbers-requires : tie.Need-put-numbers-requires
+put-numbers-requires c κs = omega (arith, two-most (c .before .before .before .before .before .before .reply2 .given .0 .0) (c .before .before .before .before .before .before .reply2 .given .0 .1 .0) (search needs) (search needs))
+
+enum-known-reply-3 : tie.Need-enum-known-reply-3
+enum-known-reply-3 c = search needs
+
+put-two-requires-6 : tie.Need-put-two-requires-6
+put-two-requires-6 c κs = search needs
+
+number-requires : tie.Need-number-requires
+number-requires c κs = search needs
+
+put-number-requires-2 : tie.Need-put-number-requires-2
+put-number-requires-2 c κs = omega (arith, one-most (c .number .result) (search needs))
+
+same-length : tie.Need-same-length
+same-length c = search needs
+
+returns : tie.Need-returns
+unfolding spaced
+returns c = rw (c .before .before .before .before .before .before .before .before .enum-told .given .1) (puts (c .before .before .before .before .before .before .put-two .ensures) (c .before .before .put-two2 .ensures), omega arith)
+
+same-length-2 : tie.Need-same-length-2
+same-length-2 c = search needs
+
+returns-2 : tie.Need-returns-2
+unfolding spaced
+returns-2 c = rw (c .before .before .before .before .before .before .before .before .enum-told2 .given .1) (puts (c .before .before .before .before .before .before .put-two3 .ensures) (c .before .before .put .ensures), omega arith)
+
+same-length-3 : tie.Need-same-length-3
+same-length-3 c = search needs
+
+returns-3 : tie.Need-returns-3
+returns-3 c = rw (c .before .before .before .before .before .before .before .before .before .reply .given .1) (puts (c .before .before .before .before .before .before .put-two4 .ensures) (c .before .before .put-number .ensures), omega (arith, one-most (c .before .before .before .before .before .before .before .before .before .reply .given .0 .0) (search needs)))
+
+same-length-4 : tie.Need-same-length-4
+same-length-4 c = search needs
+
+returns-4 : tie.Need-returns-4
+returns-4 c = rw (c .before .before .before .before .before .before .before .before .before .reply2 .given .1) (puts (c .before .before .before .before .before .before .put-two5 .ensures) (c .before .before .put-numbers .ensures), omega (arith, two-most (c .before .before .before .before .before .before .before .before .before .reply2 .given .0 .0) (c .before .before .before .before .before .before .before .before .before .reply2 .given .0 .1 .0) (search needs) (search needs)))
+
+same-length-5 : tie.Need-same-length-5
+same-length-5 c = search needs
+
+returns-5 : tie.Need-returns-5
+returns-5 c = rw (c .before .before .before .before .before .before .before .before .before .before .reply3 .given .1) (puts (c .before .before .before .before .before .before .before .put-two6 .ensures) (rw (c .before .before .before .number .ensures) at (c .before .before .put-number2 .ensures)), omega (arith, rw (c .before .before .before .number .ensures) at (one-most (c .before .before .before .number .result) (search needs))))
+
+pub put-reply-spec : {M : Type 1} → statement M
+put-reply-spec =
+    tie.close
+    (tie.spec
+    enum-told
+    put-two-requires
+    put-two-requires-2
+    enum-told-2
+    put-two-requires-3
+    put-requires
+    enum-known-reply
+    put-two-requires-4
+    put-number-requires
+    enum-known-reply-2
+    put-two-requires-5
+    put-numbers-requires
+    enum-known-reply-3
+    put-two-requires-6
+    number-requires
+    put-number-requires-2
+    same-length
+    returns
+    same-length-2
+    returns-2
+    same-length-3
+    returns-3
+    same-length-4
+    returns-4
+    same-length-5
+    returns-5)

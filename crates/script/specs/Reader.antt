@@ -1,0 +1,86 @@
+-- The line reader: how it goes on at each byte, and that in the end it says what `parseLine` says of the whole line.
+use Prim.Native.Nat.{ℕ, _+_, _-_, _^_}
+use Prim.Native.Char.{code}
+use mathlib.Core.Path.{_≡_}
+use mathlib.Core.List.{List, [], _∷_, foldl}
+use mathlib.Core.Bool.{Bool, true, false, cond, not, _&&_, _||_}
+use lib.ListN.{drop}
+use lib.Dec.{eqb, ltb}
+use Rattle.script.specs.Lines.{isDigit, withDigit, command, parseLine}
+use Rattle.script.specs.declared.Line.{Line}
+use Rattle.script.specs.declared.Line.the-variants as line
+use Rattle.script.specs.declared.LineReader.{LineReader}
+
+-- Nothing is read.
+abbrev pub newReader : LineReader
+newReader = record { bad = false; complete = false; letter = 0; count = 0; first = 0; second = 0; third = 0; fourth = 0 }
+
+-- Whatever follows, the line is bad.
+abbrev pub badReader : LineReader
+badReader = record { bad = true; complete = false; letter = 0; count = 0; first = 0; second = 0; third = 0; fourth = 0 }
+
+-- After a space: a complete word ends, and the next number begins; the fifth spoils the line.
+unfoldable pub spaceOf : LineReader → LineReader
+spaceOf s =
+    cond (s .complete && ltb (s .count) 4)
+    (record {
+      bad = false;
+      complete = false;
+      letter = s .letter;
+      count = s .count + 1;
+      first = s .second;
+      second = s .third;
+      third = s .fourth;
+      fourth = 0;
+    })
+    badReader
+
+-- After a byte of the first word: the letter, if it is the word's first byte.
+unfoldable pub letterOf : LineReader → ℕ → LineReader
+letterOf s b =
+    cond (s .complete) badReader
+    (record { bad = false; complete = true; letter = b; count = 0; first = 0; second = 0; third = 0; fourth = 0 })
+
+-- After a byte of a number: a digit that keeps it below 2^32.
+unfoldable pub digitOf : LineReader → ℕ → LineReader
+digitOf s b =
+    cond (isDigit b && ltb (withDigit (s .fourth) b) (2 ^ 32))
+    (record {
+      bad = false;
+      complete = true;
+      letter = s .letter;
+      count = s .count;
+      first = s .first;
+      second = s .second;
+      third = s .third;
+      fourth = withDigit (s .fourth) b;
+    })
+    badReader
+
+-- After a byte.
+unfoldable pub feedOf : LineReader → ℕ → LineReader
+feedOf s b = cond (s .bad) s (cond (eqb b (code " ")) (spaceOf s) (cond (eqb (s .count) 0) (letterOf s b) (digitOf s b)))
+
+-- The numbers read: the last of the four, as many as have begun.
+abbrev pub numbersOf : LineReader → List ℕ
+numbersOf s = drop (4 - s .count) (s .first ∷ s .second ∷ s .third ∷ s .fourth ∷ [])
+
+-- What the line says if it ends here.
+unfoldable pub endOf : LineReader → Line
+endOf s = cond (s .complete) (command (s .letter) (numbersOf s)) line.Bad
+
+-- Has the line a byte?
+unfoldable pub begunOf : LineReader → Bool
+begunOf s = s .bad || s .complete || not (eqb (s .count) 0)
+
+-- The reader that is fed the bytes of a line, one after the other, says in the end what the whole line says.
+abbrev pub ReadsLines : Type 0
+ReadsLines = (bytes : List ℕ) → endOf (foldl feedOf newReader bytes) ≡ parseLine bytes
+
+-- It has begun exactly if it was fed a byte.
+abbrev pub isEmpty : List ℕ → Bool
+isEmpty [] = true
+isEmpty (b ∷ bytes) = false
+
+abbrev pub KnowsBegun : Type 0
+KnowsBegun = (bytes : List ℕ) → begunOf (foldl feedOf newReader bytes) ≡ not (isEmpty bytes)

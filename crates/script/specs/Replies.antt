@@ -1,0 +1,85 @@
+-- The text of a reply (01, "Strips flown on paper"), and what is proved of it.
+use Prim.Native.Nat.{ℕ, zero, suc, _+_, _/_, _%_, _^_, _<_, _≤_}
+use Prim.Native.Char.{code}
+use mathlib.Core.Path.{_≡_}
+use mathlib.Core.List.{List, [], _∷_, _++_}
+use mathlib.Core.Bool.{true, false, cond}
+use lib.ListN.{length, take, drop}
+use lib.Seq.{sets}
+use lib.Dec.{ltb, leb}
+use Rattle.pool.specs.declared.Fresh.{Fresh}
+use Rattle.pool.specs.declared.Fresh.the-variants as fresh
+use Rattle.pool.specs.Outcome.{refusalNumber}
+use Rattle.calls.specs.declared.Answer.{Answer}
+use Rattle.calls.specs.declared.Answer.the-variants as answer
+use Rattle.script.specs.Lines.{isNumber, decimalValue}
+use Rattle.script.specs.declared.Reply.{Reply}
+use Rattle.script.specs.declared.Reply.the-variants as reply
+use Rattle.script.specs.declared.Written.{Written}
+use Rattle.script.specs.declared.Written.the-variants.{Next, NoRoom}
+
+-- The decimal of a number, where up to `more` digits may stand before the last.
+unfoldable pub digits : ℕ → ℕ → List ℕ
+digits zero v = (code "0" + v) ∷ []
+digits (suc more) v =
+    elim (ltb v 10) [
+      | true ↦ (code "0" + v) ∷ []
+      | false ↦ digits more (v / 10) ++ (code "0" + v % 10) ∷ []
+    ]
+
+-- The decimal of a number, the highest digit first, with no zero in front; 0 is one digit. (A number has no more digits than its value and one.)
+unfoldable pub decimal : ℕ → List ℕ
+decimal v = digits v v
+
+-- A number after a space.
+abbrev pub afterSpace : ℕ → List ℕ
+afterSpace x = code " " ∷ decimal x
+
+-- Numbers, each after a space, and the line end.
+unfoldable pub spaced : List ℕ → List ℕ
+spaced [] = code "\n" ∷ []
+spaced (x ∷ numbers) = afterSpace x ++ spaced numbers
+
+-- "It prints "ok" and the answer's numbers .., or "no" and the refusal. A line of another form prints "bad".", and the line end.
+abbrev pub replyText : Reply → List ℕ
+replyText reply.Bad = code "b" ∷ code "a" ∷ code "d" ∷ code "\n" ∷ []
+replyText reply.Done = code "o" ∷ code "k" ∷ spaced []
+replyText (reply.Number x) = code "o" ∷ code "k" ∷ spaced (x ∷ [])
+replyText (reply.Collected kept visits) = code "o" ∷ code "k" ∷ spaced (kept ∷ visits ∷ [])
+replyText (reply.Refused k) = code "n" ∷ code "o" ∷ spaced (refusalNumber k ∷ [])
+
+-- The reply to a call; "visits only for g": those of an allocation are left out.
+abbrev pub answerReply : Answer → Reply
+answerReply answer.Done = reply.Done
+answerReply (answer.Allocated visits) = reply.Done
+answerReply (answer.Number x) = reply.Number x
+answerReply (answer.Collected kept visits) = reply.Collected kept visits
+answerReply (answer.Refused k) = reply.Refused k
+
+-- The reply to a new pool.
+abbrev pub freshReply : Fresh → Reply
+freshReply (fresh.Made n) = reply.Done
+freshReply (fresh.Refused k) = reply.Refused k
+
+-- A text is put at a place of the bytes: the place behind it, and the bytes afterwards.
+pub record Put (out : List ℕ) (at : ℕ) (text : List ℕ) (next : ℕ) (after : List ℕ) : Type 0 where
+  pub behind : next ≡ at + length text
+  pub bytes : after ≡ sets out at text
+
+-- The room that is asked for, whatever the text.
+abbrev pub replyRoom : ℕ
+replyRoom = 25
+
+-- Writes a text at a place: the answer and the bytes afterwards. Without room nothing changes.
+unfoldable pub writeAt : List ℕ → ℕ → List ℕ → Written × List ℕ
+writeAt out at text =
+    let next = at + length text in
+    cond (leb (at + replyRoom) (length out)) (Next next, take at out ++ text ++ drop next out) (NoRoom, out)
+
+-- A decimal is read as its number.
+pub record ReadBack (v : ℕ) : Type 0 where
+  pub number : isNumber (decimal v) ≡ true
+  pub value : decimalValue (decimal v) ≡ v
+
+abbrev pub DecimalsReadBack : Type 0
+DecimalsReadBack = (v : ℕ) → v < 2 ^ 32 → ReadBack v

@@ -1,0 +1,412 @@
+// The text of scripts: what a line says, read a byte at a time, and the text of a reply.
+use calls::Answer;
+use calls::Call;
+use pool::Fresh;
+use pool::Refusal;
+ghost use Prim.Native.Nat.{_+_, _<_, _≤_};
+ghost use mathlib.Core.Path.{_≡_};
+ghost use mathlib.Core.List.{[], _∷_};
+ghost use lib.ListN.{length, drop};
+ghost use Rattle.script.specs.Lines.{command};
+ghost use Rattle.script.specs.Reader.{newReader, badReader, spaceOf, letterOf, digitOf, feedOf, endOf, begunOf};
+ghost use Rattle.script.specs.Scripts.{nextLine};
+ghost use Rattle.script.specs.Replies.{decimal, afterSpace, spaced, freshReply, answerReply, replyText, replyRoom, Put, writeAt};
+
+// What a line says.
+pub enum Line {
+    Bad,
+    // Make the pool anew, of that many cells.
+    Fresh(u32),
+    Run(Call),
+}
+
+// How far a line is read.
+pub struct LineReader {
+    // No line that starts so is good.
+    pub bad: bool,
+    // The line may end here: its letter is there, and its last number has a digit.
+    pub complete: bool,
+    pub letter: u8,
+    // How many numbers have begun, and the last four of them, the latest last.
+    pub count: u32,
+    pub first: u32,
+    pub second: u32,
+    pub third: u32,
+    pub fourth: u32,
+}
+
+// What a part of a script gives next.
+pub enum Found {
+    // A line ends: what it says, and the place behind its line feed.
+    Line { line: Line, next: usize },
+    // The part ends, and the line goes on behind it.
+    More(LineReader),
+}
+
+impl LineReader {
+    // Nothing is read.
+    pub fn new() -> LineReader
+        ensures { λ r. ⌜ r ≡ newReader ⌝ }
+    {
+        LineReader {
+            bad: false,
+            complete: false,
+            letter: 0,
+            count: 0,
+            first: 0,
+            second: 0,
+            third: 0,
+            fourth: 0,
+        }
+    }
+
+    // Whatever follows, the line is bad.
+    fn spoilt() -> LineReader
+        ensures { λ r. ⌜ r ≡ badReader ⌝ }
+    {
+        LineReader {
+            bad: true,
+            complete: false,
+            letter: 0,
+            count: 0,
+            first: 0,
+            second: 0,
+            third: 0,
+            fourth: 0,
+        }
+    }
+
+    // After a space.
+    fn space(self) -> LineReader
+        ensures { λ r. ⌜ r ≡ spaceOf self ⌝ }
+    {
+        if !self.complete {
+            return LineReader::spoilt();
+        }
+        if 4 <= self.count {
+            return LineReader::spoilt();
+        }
+        LineReader {
+            bad: false,
+            complete: false,
+            letter: self.letter,
+            count: self.count + 1,
+            first: self.second,
+            second: self.third,
+            third: self.fourth,
+            fourth: 0,
+        }
+    }
+
+    // After a byte of the line's first word.
+    fn named(self, b: u8) -> LineReader
+        ensures { λ r. ⌜ r ≡ letterOf self b ⌝ }
+    {
+        if self.complete {
+            return LineReader::spoilt();
+        }
+        LineReader {
+            bad: false,
+            complete: true,
+            letter: b,
+            count: 0,
+            first: 0,
+            second: 0,
+            third: 0,
+            fourth: 0,
+        }
+    }
+
+    // After a byte of a number.
+    fn digit(self, b: u8) -> LineReader
+        ensures { λ r. ⌜ r ≡ digitOf self b ⌝ }
+    {
+        if b < b'0' {
+            return LineReader::spoilt();
+        }
+        if b'9' < b {
+            return LineReader::spoilt();
+        }
+        let v = 10 * (self.fourth as u64) + ((b - b'0') as u64);
+        if v < 4294967296 {
+            LineReader {
+                bad: false,
+                complete: true,
+                letter: self.letter,
+                count: self.count,
+                first: self.first,
+                second: self.second,
+                third: self.third,
+                fourth: v as u32,
+            }
+        } else {
+            LineReader::spoilt()
+        }
+    }
+
+    // One more byte of the line, no line feed.
+    pub fn feed(self, b: u8) -> LineReader
+        ensures { λ r. ⌜ r ≡ feedOf self b ⌝ }
+    {
+        if self.bad {
+            return self;
+        }
+        if b == b' ' {
+            return self.space();
+        }
+        if self.count == 0 {
+            return self.named(b);
+        }
+        self.digit(b)
+    }
+
+    // Has the line a byte?
+    pub fn begun(self) -> bool
+        ensures { λ r. ⌜ r ≡ begunOf self ⌝ }
+    {
+        if self.bad {
+            return true;
+        }
+        if self.complete {
+            return true;
+        }
+        self.count != 0
+    }
+
+    // The line ends here: what it says.
+    pub fn end(self) -> Line
+        ensures { λ r. ⌜ r ≡ endOf self ⌝ }
+    {
+        if !self.complete {
+            return Line::Bad;
+        }
+        let count = self.count;
+        match count {
+            0 => none(self.letter),
+            1 => one(self.letter, self.fourth),
+            2 => two(self.letter, self.third, self.fourth),
+            3 => Line::Bad,
+            _ => four(
+                self.letter,
+                self.first,
+                self.second,
+                self.third,
+                self.fourth,
+            ),
+        }
+    }
+
+    // Reads on in a part of the script, from a place on, up to the next line feed.
+    pub fn next_line(self, bytes: &[u8], at: usize) -> Found
+        ensures { λ r. ⌜ r ≡ nextLine self (drop at (now (bytes .entry))) at ⌝ }
+    {
+        let mut reader = self;
+        let mut i = at;
+        while i < bytes.len() {
+            let b = bytes[i];
+            if b == b'\n' {
+                return Found::Line {
+                    line: reader.end(),
+                    next: i + 1,
+                };
+            }
+            reader = reader.feed(b);
+            i += 1;
+        }
+        Found::More(reader)
+    }
+}
+
+// What a letter with no number says.
+fn none(letter: u8) -> Line
+    ensures { λ r. ⌜ r ≡ command letter [] ⌝ }
+{
+    match letter {
+        b'g' => Line::Run(Call::Collect),
+        _ => Line::Bad,
+    }
+}
+
+// What a letter with a number says.
+fn one(letter: u8, x: u32) -> Line
+    ensures { λ r. ⌜ r ≡ command letter (x ∷ []) ⌝ }
+{
+    match letter {
+        b'f' => Line::Fresh(x),
+        b'z' => Line::Run(Call::Clear { r: x }),
+        b'v' => Line::Run(Call::Value { a: x }),
+        _ => Line::Bad,
+    }
+}
+
+// What a letter with two numbers says.
+fn two(letter: u8, x: u32, y: u32) -> Line
+    ensures { λ r. ⌜ r ≡ command letter (x ∷ y ∷ []) ⌝ }
+{
+    match letter {
+        b'c' => Line::Run(Call::Copy { r: x, a: y }),
+        b'l' => Line::Run(Call::Left { r: x, a: y }),
+        b'r' => Line::Run(Call::Right { r: x, a: y }),
+        b'L' => Line::Run(Call::SetLeft { a: x, b: y }),
+        b'R' => Line::Run(Call::SetRight { a: x, b: y }),
+        b'V' => Line::Run(Call::SetValue { a: x, v: y }),
+        b's' => Line::Run(Call::Same { a: x, b: y }),
+        _ => Line::Bad,
+    }
+}
+
+// What a letter with four numbers says.
+fn four(letter: u8, x: u32, y: u32, z: u32, v: u32) -> Line
+    ensures { λ r. ⌜ r ≡ command letter (x ∷ y ∷ z ∷ v ∷ []) ⌝ }
+{
+    match letter {
+        b'n' => Line::Run(Call::New {
+            r: x,
+            a: y,
+            b: z,
+            v,
+        }),
+        _ => Line::Bad,
+    }
+}
+
+// What is printed for a line.
+pub enum Reply {
+    Bad,
+    Done,
+    Number(u32),
+    Collected { kept: u32, visits: u32 },
+    Refused(Refusal),
+}
+
+// What a writer did.
+pub enum Written {
+    // It wrote the text; the place behind its last byte.
+    Next(usize),
+    // Too little room is left, and nothing was written.
+    NoRoom,
+}
+
+impl Reply {
+    // No text is longer: "ok", two numbers of ten digits, each after a space, and the line end.
+    pub const ROOM: usize = 25;
+
+    pub fn of_fresh(fresh: Fresh) -> Reply
+        ensures { λ r. ⌜ r ≡ freshReply fresh ⌝ }
+    {
+        match fresh {
+            Fresh::Made(_) => Reply::Done,
+            Fresh::Refused(refusal) => Reply::Refused(refusal),
+        }
+    }
+
+    pub fn of_answer(answer: Answer) -> Reply
+        ensures { λ r. ⌜ r ≡ answerReply answer ⌝ }
+    {
+        match answer {
+            Answer::Done => Reply::Done,
+            Answer::Allocated { visits: _ } => Reply::Done,
+            Answer::Number(x) => Reply::Number(x),
+            Answer::Collected { kept, visits } => Reply::Collected { kept, visits },
+            Answer::Refused(refusal) => Reply::Refused(refusal),
+        }
+    }
+}
+
+// Writes the text of a reply at a place of `out`, if there is room for any.
+pub fn write_reply(out: &mut [u8], at: usize, reply: Reply) -> Written
+    ensures { λ r. ⌜ (r, now (out .exit)) ≡ writeAt (now (out .entry)) at (replyText reply) ⌝ }
+{
+    if out.len() < at {
+        return Written::NoRoom;
+    }
+    if out.len() - at < Reply::ROOM {
+        return Written::NoRoom;
+    }
+    Written::Next(put_reply(out, at, reply))
+}
+
+fn put_reply(out: &mut [u8], at: usize, reply: Reply) -> usize
+    requires { ⌜ at + replyRoom ≤ length (now out) ⌝ }
+    ensures { λ r. ⌜ Put (now (out .entry)) at (replyText reply) r (now (out .exit)) ⌝ }
+    ensures { λ _. ⌜ length (replyText reply) ≤ replyRoom ⌝ }
+{
+    match reply {
+        Reply::Bad => {
+            let next = put_two(out, at, b'b', b'a');
+            put_two(out, next, b'd', b'\n')
+        }
+        Reply::Done => {
+            let next = put_two(out, at, b'o', b'k');
+            put(out, next, b'\n')
+        }
+        Reply::Number(x) => {
+            let next = put_two(out, at, b'o', b'k');
+            put_number(out, next, x)
+        }
+        Reply::Collected { kept, visits } => {
+            let next = put_two(out, at, b'o', b'k');
+            put_numbers(out, next, kept, visits)
+        }
+        Reply::Refused(refusal) => {
+            let next = put_two(out, at, b'n', b'o');
+            put_number(out, next, refusal.number())
+        }
+    }
+}
+
+// Two numbers, each after a space, and the line end.
+fn put_numbers(out: &mut [u8], at: usize, x: u32, y: u32) -> usize
+    requires { ⌜ at + length (spaced (x ∷ y ∷ [])) ≤ length (now out) ⌝ }
+    ensures { λ r. ⌜ Put (now (out .entry)) at (spaced (x ∷ y ∷ [])) r (now (out .exit)) ⌝ }
+{
+    let next = put_spaced(out, at, x);
+    put_number(out, next, y)
+}
+
+// A number after a space, and the line end.
+fn put_number(out: &mut [u8], at: usize, x: u32) -> usize
+    requires { ⌜ at + length (spaced (x ∷ [])) ≤ length (now out) ⌝ }
+    ensures { λ r. ⌜ Put (now (out .entry)) at (spaced (x ∷ [])) r (now (out .exit)) ⌝ }
+{
+    let next = put_spaced(out, at, x);
+    put(out, next, b'\n')
+}
+
+// A number after a space.
+fn put_spaced(out: &mut [u8], at: usize, x: u32) -> usize
+    requires { ⌜ at + length (afterSpace x) ≤ length (now out) ⌝ }
+    ensures { λ r. ⌜ Put (now (out .entry)) at (afterSpace x) r (now (out .exit)) ⌝ }
+{
+    let next = put(out, at, b' ');
+    put_decimal(out, next, x)
+}
+
+// The digits of a number, the highest first.
+fn put_decimal(out: &mut [u8], at: usize, v: u32) -> usize
+    requires { ⌜ at + length (decimal v) ≤ length (now out) ⌝ }
+    ensures { λ r. ⌜ Put (now (out .entry)) at (decimal v) r (now (out .exit)) ⌝ }
+{
+    if v < 10 {
+        return put(out, at, b'0' + v as u8);
+    }
+    let next = put_decimal(out, at, v / 10);
+    put(out, next, b'0' + (v % 10) as u8)
+}
+
+fn put_two(out: &mut [u8], at: usize, a: u8, b: u8) -> usize
+    requires { ⌜ at + 2 ≤ length (now out) ⌝ }
+    ensures { λ r. ⌜ Put (now (out .entry)) at (a ∷ b ∷ []) r (now (out .exit)) ⌝ }
+{
+    out[at] = a;
+    out[at + 1] = b;
+    at + 2
+}
+
+fn put(out: &mut [u8], at: usize, b: u8) -> usize
+    requires { ⌜ at < length (now out) ⌝ }
+    ensures { λ r. ⌜ Put (now (out .entry)) at (b ∷ []) r (now (out .exit)) ⌝ }
+{
+    out[at] = b;
+    at + 1
+}
