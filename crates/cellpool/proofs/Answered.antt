@@ -1,0 +1,22 @@
+-- From the contract of a call to that of its C function.
+use Prim.Native.Nat.{ℕ}
+use mathlib.Core.Path.{_≡_, ap, _∙_}
+use Rattle.pool.specs.Outcome.{Outcome}
+use mathlib.Core.List.{List}
+use Rattle.cellpool.specs.Interface.{status, lent, silent, giving, givingTwo, saving}
+
+module _ {A : Type 0} (o : Outcome) (left : A) (x : Outcome × A) (call : _≡_ {A = Outcome × A} (o, left) x) (q : ℕ) (said : q ≡ status o) where
+  pub silent-made : _≡_ {A = ℕ × A} (q, left) (silent x)
+  silent-made = ap (λ (n : ℕ). (n, left)) said ∙ ap silent call
+
+  pub giving-made : (v old : ℕ) → v ≡ lent o 0 old → _≡_ {A = ℕ × A × ℕ} (q, left, v) (giving x old)
+  giving-made v old first = rw (said, first) (ap (λ (y : Outcome × A). giving y old) call)
+
+  pub giving-two-made : (v w old₀ old₁ : ℕ) → v ≡ lent o 0 old₀ → w ≡ lent o 1 old₁ → _≡_ {A = ℕ × A × ℕ × ℕ} (q, left, v, w) (givingTwo x old₀ old₁)
+  giving-two-made v w old₀ old₁ first second = rw (said, first, second) (ap (λ (y : Outcome × A). givingTwo y old₀ old₁) call)
+
+-- the same of save
+pub saving-made : (w scratch out : List ℕ) (o : Outcome) (x : Outcome × List ℕ × List ℕ)
+    → _≡_ {A = Outcome × List ℕ × List ℕ} (o, scratch, out) x → (q v old : ℕ) → q ≡ status o → v ≡ lent o 0 old
+    → _≡_ {A = ℕ × List ℕ × List ℕ × List ℕ × ℕ} (q, w, scratch, out, v) (saving w x old)
+saving-made w scratch out o x save q v old said given = rw (said, given) (ap (λ (y : Outcome × List ℕ × List ℕ). saving w y old) save)

@@ -1,0 +1,20 @@
+-- `cellpool::cellpool_left` meets its contract: the call's answer, as a status.
+use borrow.Author.Needs.{needs}
+use Rattle.cellpool.proofs.cellpool_left.Statement.{statement}
+use Rattle.cellpool.proofs.cellpool_left.Tie as tie
+use Rattle.cellpool.proofs.Answered.{silent-made}
+
+left-requires : tie.Need-left-requires
+left-requires c κs = search needs
+
+status-of-requires : tie.Need-status-of-requires
+status-of-requires c κs = search needs
+
+same-length : tie.Need-same-length
+same-length c = search needs
+
+returns : tie.Need-returns
+returns c = silent-made _ _ _ (c .before .before .before .left .ensures) _ (c .status-of .ensures)
+
+pub cellpool-left-spec : {M : Type 1} → statement M
+cellpool-left-spec = tie.close (tie.spec left-requires status-of-requires same-length returns)

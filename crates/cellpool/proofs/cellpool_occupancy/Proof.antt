@@ -1,0 +1,25 @@
+-- `cellpool::cellpool_occupancy` meets its contract: what occupancy answers, as a status and a lent number.
+use borrow.Author.Needs.{needs}
+use Rattle.cellpool.proofs.cellpool_occupancy.Statement.{statement}
+use Rattle.cellpool.proofs.cellpool_occupancy.Tie as tie
+use mathlib.Core.Path.{_∙_}
+
+occupancy-requires : tie.Need-occupancy-requires
+occupancy-requires c κs = search needs
+
+of-occupied-requires : tie.Need-of-occupied-requires
+of-occupied-requires c κs = search needs
+
+first-of-requires : tie.Need-first-of-requires
+first-of-requires c κs = search needs
+
+status-of-requires : tie.Need-status-of-requires
+status-of-requires c κs = search needs
+
+returns : tie.Need-returns
+returns c = simp (c .status-of .ensures, c .before .first-of .ensures, c .before .before .before .of-occupied .ensures ∙ c .before .before .before .before .occupancy .ensures)
+
+pub cellpool-occupancy-spec : {M : Type 1} → statement M
+cellpool-occupancy-spec =
+    tie.close
+    (tie.spec occupancy-requires of-occupied-requires first-of-requires status-of-requires returns)

@@ -1,0 +1,69 @@
+-- `cellpool::cellpool_save` meets its contract, case by case.
+use borrow.Author.Needs.{needs}
+use Rattle.cellpool.proofs.cellpool_save.Statement.{statement}
+use Rattle.cellpool.proofs.cellpool_save.Tie as tie
+use Rattle.cellpool.proofs.Answered.{saving-made}
+use mathlib.Core.Path.{sym, ap, _∙_}
+use denote.Ref.{now}
+use Rattle.save.specs.declared.Saved.{Saved}
+use Rattle.save.specs.Save.{savedOutcome}
+use Rattle.cellpool.specs.Interface.{status, lent}
+
+save-requires : tie.Need-save-requires
+save-requires c κs = search needs
+
+enum-known-n : tie.Need-enum-known-n
+enum-known-n c = search needs
+
+enum-known-refusal : tie.Need-enum-known-refusal
+enum-known-refusal c = search needs
+
+number-requires : tie.Need-number-requires
+number-requires c κs = search needs
+
+same-length : tie.Need-same-length
+same-length c = search needs
+
+same-length-2 : tie.Need-same-length-2
+same-length-2 c = search needs
+
+same-length-3 : tie.Need-same-length-3
+same-length-3 c = search needs
+
+returns : tie.Need-returns
+returns c =
+    let was = c .before .n .given .1 in
+    saving-made _ _ _ _ _ (c .before .before .before .before .before .before .before .save .ensures) _ _ _ (sym (ap (λ (s : Saved). status (savedOutcome s)) was))
+    (sym (ap (λ (s : Saved). lent (savedOutcome s) 0 (now (c .before .before .before .before .before .before .before .before .before .before .before .before .before .before .args .bytes))) was))
+
+same-length-4 : tie.Need-same-length-4
+same-length-4 c = search needs
+
+same-length-5 : tie.Need-same-length-5
+same-length-5 c = search needs
+
+same-length-6 : tie.Need-same-length-6
+same-length-6 c = search needs
+
+returns-2 : tie.Need-returns-2
+returns-2 c =
+    let was = c .before .before .refusal .given .1 in
+    saving-made _ _ _ _ _ (c .before .before .before .before .before .before .before .before .save .ensures) _ _ _ (c .number .ensures ∙ sym (ap (λ (s : Saved). status (savedOutcome s)) was))
+    (sym (ap (λ (s : Saved). lent (savedOutcome s) 0 (now (c .before .before .before .before .before .before .before .before .before .before .before .before .before .before .before .args .bytes))) was))
+
+pub cellpool-save-spec : {M : Type 1} → statement M
+cellpool-save-spec =
+    tie.close
+    (tie.spec
+    save-requires
+    enum-known-n
+    enum-known-refusal
+    number-requires
+    same-length
+    same-length-2
+    same-length-3
+    returns
+    same-length-4
+    same-length-5
+    same-length-6
+    returns-2)

@@ -1,0 +1,21 @@
+-- `cellpool::cellpool_setvalue` meets its contract: the call's answer, as a status.
+use borrow.Author.Needs.{needs}
+use Rattle.cellpool.proofs.cellpool_setvalue.Statement.{statement}
+use Rattle.cellpool.proofs.cellpool_setvalue.Tie as tie
+use Rattle.cellpool.proofs.Answered.{silent-made}
+
+set-value-requires : tie.Need-set-value-requires
+set-value-requires c κs = search needs
+
+status-of-requires : tie.Need-status-of-requires
+status-of-requires c κs = search needs
+
+same-length : tie.Need-same-length
+same-length c = search needs
+
+returns : tie.Need-returns
+returns c = silent-made _ _ _ (c .before .before .before .set-value .ensures) _ (c .status-of .ensures)
+
+pub cellpool-setvalue-spec : {M : Type 1} → statement M
+cellpool-setvalue-spec =
+    tie.close (tie.spec set-value-requires status-of-requires same-length returns)

@@ -1,0 +1,24 @@
+-- `cellpool::cellpool_value` meets its contract: the call's answer, as a status and a lent number.
+use borrow.Author.Needs.{needs}
+use Rattle.cellpool.proofs.cellpool_value.Statement.{statement}
+use Rattle.cellpool.proofs.cellpool_value.Tie as tie
+use Rattle.cellpool.proofs.Answered.{giving-made}
+
+value-requires : tie.Need-value-requires
+value-requires c κs = search needs
+
+first-of-requires : tie.Need-first-of-requires
+first-of-requires c κs = search needs
+
+status-of-requires : tie.Need-status-of-requires
+status-of-requires c κs = search needs
+
+same-length : tie.Need-same-length
+same-length c = search needs
+
+returns : tie.Need-returns
+returns c = giving-made _ _ _ (c .before .before .before .value .ensures) _ (c .status-of .ensures) _ _ (c .before .first-of .ensures)
+
+pub cellpool-value-spec : {M : Type 1} → statement M
+cellpool-value-spec =
+    tie.close (tie.spec value-requires first-of-requires status-of-requires same-length returns)

@@ -1,0 +1,220 @@
+// The pool as the firmware calls it: every operation as a C function. Each answers 0 or the number of its refusal, asks nothing of its arguments, and
+// writes the numbers that it gives to lent places, which a refusal leaves as they were.
+use calls::Answer;
+use pool::Fresh;
+use pool::Occupied;
+use pool::Pool;
+use save::Saved;
+ghost use mathlib.Core.Path.{_≡_};
+ghost use Rattle.pool.specs.Outcome.{freshOutcome, occupiedOutcome};
+ghost use Rattle.pool.specs.Calls.{freshOf, occupancyOf};
+ghost use Rattle.calls.specs.declared.Call.{Call};
+ghost use Rattle.calls.specs.Answers.{answerOutcome};
+ghost use Rattle.calls.specs.Calls.{callOf};
+ghost use Rattle.image.specs.Load.{loadOf, checkOf};
+ghost use Rattle.save.specs.Save.{savedOutcome, saveOf};
+ghost use Rattle.cellpool.specs.Interface.{status, lent, silent, giving, givingTwo, number, saving, loading};
+
+// 0, or the number of the refusal.
+fn status_of(answer: Answer) -> u32
+    ensures { λ r. ⌜ r ≡ status (answerOutcome answer) ⌝ }
+{
+    match answer {
+        Answer::Done => 0,
+        Answer::Allocated { visits: _ } => 0,
+        Answer::Number(_) => 0,
+        Answer::Collected { kept: _, visits: _ } => 0,
+        Answer::Refused(refusal) => refusal.number(),
+    }
+}
+
+// The first number that an answer gives, or what is there.
+fn first_of(answer: Answer, old: u32) -> u32
+    ensures { λ r. ⌜ r ≡ lent (answerOutcome answer) 0 old ⌝ }
+{
+    match answer {
+        Answer::Done => old,
+        Answer::Allocated { visits } => visits,
+        Answer::Number(x) => x,
+        Answer::Collected { kept, visits: _ } => kept,
+        Answer::Refused(_) => old,
+    }
+}
+
+// The second number that an answer gives, or what is there.
+fn second_of(answer: Answer, old: u32) -> u32
+    ensures { λ r. ⌜ r ≡ lent (answerOutcome answer) 1 old ⌝ }
+{
+    match answer {
+        Answer::Done => old,
+        Answer::Allocated { visits: _ } => old,
+        Answer::Number(_) => old,
+        Answer::Collected { kept: _, visits } => visits,
+        Answer::Refused(_) => old,
+    }
+}
+
+// The answers of the operations that are no calls, as a call would answer.
+fn of_fresh(fresh: Fresh) -> Answer
+    ensures { λ r. ⌜ answerOutcome r ≡ freshOutcome fresh ⌝ }
+{
+    match fresh {
+        Fresh::Made(n) => Answer::Number(n),
+        Fresh::Refused(refusal) => Answer::Refused(refusal),
+    }
+}
+
+fn of_occupied(occupied: Occupied) -> Answer
+    ensures { λ r. ⌜ answerOutcome r ≡ occupiedOutcome occupied ⌝ }
+{
+    match occupied {
+        Occupied::Percent(percent) => Answer::Number(percent),
+        Occupied::Refused(refusal) => Answer::Refused(refusal),
+    }
+}
+
+#[no_mangle]
+pub extern "C" fn cellpool_fresh(words: &mut [u32], cells: &mut u32) -> u32
+    ensures { λ q. ⌜ (q, now (words .exit), now (cells .exit)) ≡ giving (freshOf (now (words .entry))) (now (cells .entry)) ⌝ }
+{
+    let answer = of_fresh(Pool::fresh(words));
+    *cells = first_of(answer, *cells);
+    status_of(answer)
+}
+
+#[no_mangle]
+pub extern "C" fn cellpool_copy(words: &mut [u32], r: u32, a: u32) -> u32
+    ensures { λ q. ⌜ (q, now (words .exit)) ≡ silent (callOf (Call.Copy r a) (now (words .entry))) ⌝ }
+{
+    status_of(calls::copy(words, r, a))
+}
+
+#[no_mangle]
+pub extern "C" fn cellpool_clear(words: &mut [u32], r: u32) -> u32
+    ensures { λ q. ⌜ (q, now (words .exit)) ≡ silent (callOf (Call.Clear r) (now (words .entry))) ⌝ }
+{
+    status_of(calls::clear(words, r))
+}
+
+#[no_mangle]
+pub extern "C" fn cellpool_new(
+    words: &mut [u32],
+    r: u32,
+    a: u32,
+    b: u32,
+    v: u32,
+    visits: &mut u32,
+) -> u32
+    ensures { λ q. ⌜ (q, now (words .exit), now (visits .exit)) ≡ giving (callOf (Call.New r a b v) (now (words .entry))) (now (visits .entry)) ⌝ }
+{
+    let answer = calls::new(words, r, a, b, v);
+    *visits = first_of(answer, *visits);
+    status_of(answer)
+}
+
+#[no_mangle]
+pub extern "C" fn cellpool_left(words: &mut [u32], r: u32, a: u32) -> u32
+    ensures { λ q. ⌜ (q, now (words .exit)) ≡ silent (callOf (Call.Left r a) (now (words .entry))) ⌝ }
+{
+    status_of(calls::left(words, r, a))
+}
+
+#[no_mangle]
+pub extern "C" fn cellpool_right(words: &mut [u32], r: u32, a: u32) -> u32
+    ensures { λ q. ⌜ (q, now (words .exit)) ≡ silent (callOf (Call.Right r a) (now (words .entry))) ⌝ }
+{
+    status_of(calls::right(words, r, a))
+}
+
+#[no_mangle]
+pub extern "C" fn cellpool_setleft(words: &mut [u32], a: u32, b: u32) -> u32
+    ensures { λ q. ⌜ (q, now (words .exit)) ≡ silent (callOf (Call.SetLeft a b) (now (words .entry))) ⌝ }
+{
+    status_of(calls::set_left(words, a, b))
+}
+
+#[no_mangle]
+pub extern "C" fn cellpool_setright(words: &mut [u32], a: u32, b: u32) -> u32
+    ensures { λ q. ⌜ (q, now (words .exit)) ≡ silent (callOf (Call.SetRight a b) (now (words .entry))) ⌝ }
+{
+    status_of(calls::set_right(words, a, b))
+}
+
+#[no_mangle]
+pub extern "C" fn cellpool_setvalue(words: &mut [u32], a: u32, v: u32) -> u32
+    ensures { λ q. ⌜ (q, now (words .exit)) ≡ silent (callOf (Call.SetValue a v) (now (words .entry))) ⌝ }
+{
+    status_of(calls::set_value(words, a, v))
+}
+
+#[no_mangle]
+pub extern "C" fn cellpool_value(words: &mut [u32], a: u32, value: &mut u32) -> u32
+    ensures { λ q. ⌜ (q, now (words .exit), now (value .exit)) ≡ giving (callOf (Call.Value a) (now (words .entry))) (now (value .entry)) ⌝ }
+{
+    let answer = calls::value(words, a);
+    *value = first_of(answer, *value);
+    status_of(answer)
+}
+
+#[no_mangle]
+pub extern "C" fn cellpool_same(words: &mut [u32], a: u32, b: u32, same: &mut u32) -> u32
+    ensures { λ q. ⌜ (q, now (words .exit), now (same .exit)) ≡ giving (callOf (Call.Same a b) (now (words .entry))) (now (same .entry)) ⌝ }
+{
+    let answer = calls::same(words, a, b);
+    *same = first_of(answer, *same);
+    status_of(answer)
+}
+
+#[no_mangle]
+pub extern "C" fn cellpool_collect(words: &mut [u32], kept: &mut u32, visits: &mut u32) -> u32
+    ensures { λ q. ⌜ (q, now (words .exit), now (kept .exit), now (visits .exit)) ≡ givingTwo (callOf Call.Collect (now (words .entry))) (now (kept .entry)) (now (visits .entry)) ⌝ }
+{
+    let answer = calls::collect(words);
+    *kept = first_of(answer, *kept);
+    *visits = second_of(answer, *visits);
+    status_of(answer)
+}
+
+#[no_mangle]
+pub extern "C" fn cellpool_save(
+    words: &mut [u32],
+    scratch: &mut [u32],
+    out: &mut [u8],
+    bytes: &mut usize,
+) -> u32
+    ensures { λ q. ⌜ (q, now (words .exit), now (scratch .exit), now (out .exit), now (bytes .exit)) ≡ saving (now (words .entry)) (saveOf (now (words .entry)) (now (scratch .entry)) (now (out .entry))) (now (bytes .entry)) ⌝ }
+{
+    match save::save(words, scratch, out) {
+        Saved::Bytes(n) => {
+            *bytes = n;
+            0
+        }
+        Saved::Refused(refusal) => refusal.number(),
+    }
+}
+
+// `rest` becomes the place behind the image, or the end of the bytes where they are refused.
+#[no_mangle]
+pub extern "C" fn cellpool_load(words: &mut [u32], bytes: &[u8], rest: &mut usize) -> u32
+    ensures { λ q. ⌜ (q, now (words .exit), now (rest .exit)) ≡ loading (loadOf (now (words .entry)) (now (bytes .entry))) ⌝ }
+{
+    let loaded = image::load_at(words, bytes);
+    *rest = loaded.end;
+    loaded.verdict
+}
+
+#[no_mangle]
+pub extern "C" fn cellpool_check_image(bytes: &[u8], n: u32) -> u32
+    ensures { λ q. ⌜ q ≡ checkOf (now (bytes .entry)) n ⌝ }
+{
+    image::check_image(bytes, n)
+}
+
+#[no_mangle]
+pub extern "C" fn cellpool_occupancy(kept: u32, n: u32, percent: &mut u32) -> u32
+    ensures { λ q. ⌜ (q, now (percent .exit)) ≡ number (occupancyOf kept n) (now (percent .entry)) ⌝ }
+{
+    let answer = of_occupied(pool::occupancy(kept, n));
+    *percent = first_of(answer, *percent);
+    status_of(answer)
+}
