@@ -1,0 +1,1 @@
+// Theory only: the table of worked examples.
