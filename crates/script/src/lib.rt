@@ -205,10 +205,9 @@ impl LineReader {
         while i < bytes.len() {
             let b = bytes[i];
             if b == b'\n' {
-                return Found::Line {
-                    line: reader.end(),
-                    next: i + 1,
-                };
+                let line = reader.end();
+                let next = i + 1;
+                return Found::Line { line, next };
             }
             reader = reader.feed(b);
             i += 1;
