@@ -1,17 +1,16 @@
 -- Decimals, a digit at a time; how long they are; and that they are read back.
-use Prim.Native.Nat.{ℕ, zero, suc, _+_, _*_, _-_, _/_, _%_, _^_, _<_, _≤_}
+use Prim.Native.Nat.{ℕ, zero, suc, _+_, _/_, _%_, _^_, _<_, _≤_}
 use Prim.Native.Char.{code}
 use mathlib.Core.Path.{_≡_, refl, ap, sym, _∙_}
-use mathlib.Core.List.{List, [], _∷_, _++_, foldl, foldl-append}
+use mathlib.Core.List.{List, [], _∷_, _++_, foldl-append}
 use mathlib.Core.Bool.{Bool, true, false, _&&_}
 use native.Mathlib.Nat.{pow-suc}
 use native.Mathlib.Decide.{decLt}
 use native.Mathlib.Omega.{arith}
 use lib.ListN.{length, length-append}
-use lib.Dec.{ltb}
 use borrow.Author.Tests.{lt-ltb, le-ltb, le-leb}
 use Rattle.script.specs.Lines.{isDigit, withDigit, decimalValue, all, isNumber}
-use Rattle.script.specs.Replies.{digits, decimal, ReadBack, DecimalsReadBack}
+use Rattle.script.specs.Replies.{digits, decimal, DecimalsReadBack}
 
 digits-last : (more v : ℕ) → v < 10 → digits more v ≡ (code "0" + v) ∷ []
 unfolding digits

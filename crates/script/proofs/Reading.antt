@@ -1,19 +1,19 @@
 -- The line reader says in the end what the whole line says.
-use Prim.Native.Nat.{ℕ, zero, suc, _+_, _-_, _<_, _≤_}
+use Prim.Native.Nat.{ℕ, suc, _+_, _-_, _<_, _≤_}
 use mathlib.Core.Path.{_≡_, refl, ap, sym, _∙_}
-use mathlib.Core.List.{List, [], _∷_, _++_, map, foldl}
-use mathlib.Core.Bool.{Bool, true, false, cond, _&&_, not}
+use mathlib.Core.List.{List, [], _∷_, _++_, foldl}
+use mathlib.Core.Bool.{Bool, true, false, cond, _&&_}
 use native.Mathlib.Omega.{arith}
 use lib.ListN.{drop}
 use lib.Seq.{drop-append-le}
 use lib.Dec.{eqb, ltb}
-use borrow.Author.Tests.{lt-ltb, le-ltb, ltb-true, ltb-false, ne-eqb}
+use borrow.Author.Tests.{ltb-true, ltb-false, ne-eqb}
 use Rattle.script.specs.declared.Line.{Line}
 use Rattle.script.specs.declared.Line.the-variants as line
 use Rattle.script.specs.declared.LineReader.{LineReader}
-use Rattle.script.specs.Lines.{isSpace, firstWord, laterWords, isDigit, withDigit, decimalValue, all, isNumber, command, lineOf, parseLine}
+use Rattle.script.specs.Lines.{isSpace, firstWord, laterWords, withDigit, all, lineOf, parseLine}
 use Rattle.script.specs.Reader.{newReader, badReader, nextNumber, withLast, spaceOf, letterOf, digitOf, feedOf, endOf, numbersOf, begunOf, ReadsLines, KnowsBegun}
-use Rattle.script.proofs.Words.{restOf, isNext, number-rest, rest-end, rest-space, rest-none, rest-byte, rest-fifth, parse-space, parse-letter, line-space, line-longer}
+use Rattle.script.proofs.Words.{restOf, isNext, rest-end, rest-space, rest-none, rest-byte, rest-fifth, parse-space, parse-letter, line-space, line-longer}
 
 -- A bad line stays bad.
 stays-bad : (bytes : List ℕ) → foldl feedOf badReader bytes ≡ badReader

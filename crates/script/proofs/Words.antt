@@ -1,10 +1,10 @@
 -- The words of a line, a byte at a time: what is left of a line whose letter and first numbers are read.
-use Prim.Native.Nat.{ℕ, _+_, _*_, _-_, _^_, _<_, _≤_}
-use mathlib.Core.Path.{_≡_, refl, ap, sym, _∙_}
+use Prim.Native.Nat.{ℕ, _^_, _<_, _≤_}
+use mathlib.Core.Path.{_≡_, refl, sym, _∙_}
 use mathlib.Core.List.{List, [], _∷_, _++_, map, foldl, append-assoc}
 use mathlib.Core.Bool.{Bool, true, false, cond, _&&_, _||_}
 use native.Mathlib.Omega.{arith}
-use lib.Dec.{eqb, ltb}
+use lib.Dec.{ltb}
 use borrow.Author.Tests.{lt-ltb, le-ltb, ltb-true, ltb-false}
 use Rattle.script.specs.declared.Line.{Line}
 use Rattle.script.specs.declared.Line.the-variants as line
@@ -23,25 +23,25 @@ when-false true t r true f e small = simp (e, small)
 when-false true t r false f e small = simp e
 when-false false t r a f e small = refl
 
-pub same-either : {A : Type 0} (t : Bool) (x : A) → cond t x x ≡ x
+same-either : {A : Type 0} (t : Bool) (x : A) → cond t x x ≡ x
 same-either true x = refl
 same-either false x = refl
 
 -- The first byte of a line: a space ends the first word, another byte belongs to it.
 module _ (b : ℕ) (bytes : List ℕ) where
-  pub first-ends : isSpace b ≡ true → firstWord (b ∷ bytes) ≡ []
+  first-ends : isSpace b ≡ true → firstWord (b ∷ bytes) ≡ []
   unfolding firstWord
   first-ends e = rw (firstWord, e)
 
-  pub first-longer : isSpace b ≡ false → firstWord (b ∷ bytes) ≡ b ∷ firstWord bytes
+  first-longer : isSpace b ≡ false → firstWord (b ∷ bytes) ≡ b ∷ firstWord bytes
   unfolding firstWord
   first-longer e = rw (firstWord, e)
 
-  pub later-more : isSpace b ≡ true → laterWords (b ∷ bytes) ≡ firstWord bytes ∷ laterWords bytes
+  later-more : isSpace b ≡ true → laterWords (b ∷ bytes) ≡ firstWord bytes ∷ laterWords bytes
   unfolding laterWords
   later-more e = rw (laterWords, e)
 
-  pub later-same : isSpace b ≡ false → laterWords (b ∷ bytes) ≡ laterWords bytes
+  later-same : isSpace b ≡ false → laterWords (b ∷ bytes) ≡ laterWords bytes
   unfolding laterWords
   later-same e = rw (laterWords, e)
 
@@ -74,7 +74,7 @@ rest-all v (b ∷ word) small = go (ltb (withDigit v b) (2 ^ 32)) refl (rest-all
         (le-ltb (foldl withDigit (withDigit v b) word) (2 ^ 32) (omega (arith, ltb-false (withDigit v b) (2 ^ 32) e, grows (withDigit v b) word)))
 
 -- A number is the rest of one with no digit yet.
-pub number-rest : (word : List ℕ) → isNumber word ≡ isRest false 0 word
+number-rest : (word : List ℕ) → isNumber word ≡ isRest false 0 word
 unfolding isNumber isRest all
 number-rest [] = refl
 number-rest (b ∷ word) = sym (rest-all 0 (b ∷ word) (omega arith))

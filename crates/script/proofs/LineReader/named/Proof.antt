@@ -4,8 +4,6 @@ use mathlib.Core.Path.{_∙_}
 use Rattle.script.specs.Reader.{letterOf}
 use Rattle.script.proofs.LineReader.named.Statement.{statement}
 use Rattle.script.proofs.LineReader.named.Tie as tie
-use Rattle.script.proofs.LineReader.named.Reads as reads
-use Rattle.script.proofs.LineReader.named.Lts as lts
 
 spoilt-requires : tie.Need-spoilt-requires
 spoilt-requires c κs = search needs

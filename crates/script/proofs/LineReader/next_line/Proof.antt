@@ -1,7 +1,7 @@
 -- `script::LineReader::next_line` meets its contract. The loop's invariant: from where it stands, the reader finds what it finds from the start.
 -- The measure is what is left of the bytes.
 use Prim.Native.Nat.{_-_}
-use mathlib.Core.Path.{_≡_, refl, ap, sym, _∙_}
+use mathlib.Core.Path.{_≡_, refl, sym, _∙_}
 use native.Mathlib.Omega.{arith}
 use borrow.Author.Needs.{needs}
 use lib.ListN.{length, drop}
