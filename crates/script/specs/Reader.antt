@@ -10,13 +10,18 @@ use Rattle.script.specs.declared.Line.{Line}
 use Rattle.script.specs.declared.Line.the-variants as line
 use Rattle.script.specs.declared.LineReader.{LineReader}
 
+-- No number has begun.
+abbrev pub withoutNumbers : Bool → Bool → ℕ → LineReader
+withoutNumbers isBad isComplete c =
+    record { bad = isBad; complete = isComplete; letter = c; count = 0; first = 0; second = 0; third = 0; fourth = 0 }
+
 -- Nothing is read.
 abbrev pub newReader : LineReader
-newReader = record { bad = false; complete = false; letter = 0; count = 0; first = 0; second = 0; third = 0; fourth = 0 }
+newReader = withoutNumbers false false 0
 
 -- Whatever follows, the line is bad.
 abbrev pub badReader : LineReader
-badReader = record { bad = true; complete = false; letter = 0; count = 0; first = 0; second = 0; third = 0; fourth = 0 }
+badReader = withoutNumbers true false 0
 
 -- The next number begins, with no digit yet.
 abbrev pub nextNumber : LineReader → LineReader
@@ -54,7 +59,7 @@ spaceOf s = cond (s .complete && ltb (s .count) 4) (nextNumber s) badReader
 unfoldable pub letterOf : LineReader → ℕ → LineReader
 letterOf s b =
     cond (s .complete) badReader
-    (record { bad = false; complete = true; letter = b; count = 0; first = 0; second = 0; third = 0; fourth = 0 })
+    (withoutNumbers false true b)
 
 -- After a byte of a number: a digit that keeps it below 2^32.
 unfoldable pub digitOf : LineReader → ℕ → LineReader

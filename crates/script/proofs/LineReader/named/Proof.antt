@@ -12,9 +12,12 @@ returns : tie.Need-returns
 unfolding letterOf
 returns c = c .spoilt .ensures ∙ simp (c .before .if1 .taken)
 
+without-numbers-requires : tie.Need-without-numbers-requires
+without-numbers-requires c κs = search needs
+
 returns-2 : tie.Need-returns-2
 unfolding letterOf
-returns-2 c = simp (c .if1 .left)
+returns-2 c = c .without-numbers .ensures ∙ simp (c .before .if1 .left)
 
 pub named-spec : {M : Type 1} → statement M
-named-spec = tie.close (tie.spec spoilt-requires returns returns-2)
+named-spec = tie.close (tie.spec spoilt-requires returns without-numbers-requires returns-2)
