@@ -1,17 +1,17 @@
 -- Decimals, a digit at a time; how long they are; and that they are read back.
-use Prim.Native.Nat.{ℕ, zero, suc, _+_, _*_, _-_, _/_, _%_, _^_, _<_, _≤_}
+use Prim.Native.Nat.{ℕ, zero, suc, _+_, _*_, _/_, _%_, _^_, _<_, _≤_}
 use Prim.Native.Char.{code}
 use mathlib.Core.Path.{_≡_, refl, ap, sym, _∙_}
 use mathlib.Core.List.{List, [], _∷_, _++_, foldl, foldl-append}
-use mathlib.Core.Bool.{Bool, true, false, _&&_}
-use native.Mathlib.Nat.{pow-suc}
+use mathlib.Core.Bool.{Bool, true, and-eq-true-iff}
+use lib.Dec.{leb}
+use native.Mathlib.Nat.{pow-suc, pow-succ', mul-assoc, mul-le-mul-right, lt-of-lt-of-le}
 use native.Mathlib.Decide.{decLt}
 use native.Mathlib.Omega.{arith}
 use lib.ListN.{length, length-append}
-use lib.Dec.{ltb}
-use borrow.Author.Tests.{lt-ltb, le-ltb, le-leb}
+use borrow.Author.Tests.{lt-ltb, le-ltb, le-leb, leb-true}
 use Rattle.script.specs.Lines.{isDigit, withDigit, decimalValue, all, isNumber}
-use Rattle.script.specs.Replies.{digits, decimal, ReadBack, DecimalsReadBack}
+use Rattle.script.specs.Replies.{digits, decimal, DecimalsReadBack, FewestDigits}
 
 digits-last : (more v : ℕ) → v < 10 → digits more v ≡ (code "0" + v) ∷ []
 unfolding digits
@@ -76,14 +76,11 @@ decimal-some v =
 all-append : (test : ℕ → Bool) (xs ys : List ℕ) → all test xs ≡ true → all test ys ≡ true → all test (xs ++ ys) ≡ true
 unfolding all
 all-append test [] ys left right = right
-all-append test (x ∷ xs) ys left right = go (test x) left (all-append test xs ys)
-  where
-    go : (t : Bool) → (t && all test xs) ≡ true → (all test xs ≡ true → all test ys ≡ true → all test (xs ++ ys) ≡ true)
-        → (t && all test (xs ++ ys)) ≡ true
-    go true h more = more h right
-    go false h more = h
+all-append test (x ∷ xs) ys left right =
+    let apart = and-eq-true-iff (test x) (all test xs) .0 left in
+    and-eq-true-iff (test x) (all test (xs ++ ys)) .1 (apart .0, all-append test xs ys (apart .1) right)
 
--- The code of a digit is a digit, and the last of a decimal counts its value.
+-- The code of a digit is a digit.
 one-digit : (d : ℕ) → d < 10 → all isDigit ((code "0" + d) ∷ []) ≡ true
 unfolding all
 one-digit d small = rw (le-leb (code "0") (code "0" + d) (omega arith), le-leb (code "0" + d) (code "9") (omega arith))
@@ -124,3 +121,19 @@ pub decimals-read-back : DecimalsReadBack
 decimals-read-back v fits =
     let b = back v v (omega arith) in
     record { number = some-number (decimal v) (decimal-some v) (b .alike) (omega (arith, b .value)); value = b .value }
+
+-- Behind a value v each digit multiplies by ten: the value stays below that power of ten, v + 1 times.
+below-power : (v : ℕ) (word : List ℕ) → all isDigit word ≡ true → foldl withDigit v word < (v + 1) * 10 ^ length word
+unfolding all
+below-power v [] alike = omega arith
+below-power v (b ∷ word) alike =
+    let apart = and-eq-true-iff (isDigit b) (all isDigit word) .0 alike in
+    let digit = leb-true b (code "9") (and-eq-true-iff (leb (code "0") b) (leb b (code "9")) .0 (apart .0) .1) in
+    let less = below-power (withDigit v b) word (apart .1) in
+    let power = pow-succ' 10 (length word) in
+    let most = mul-le-mul-right {m = withDigit v b + 1} {n = (v + 1) * 10} (10 ^ length word) (omega arith) in
+    lt-of-lt-of-le less (rw power (rw mul-assoc at most))
+
+pub fewest-digits : FewestDigits
+fewest-digits [] some alike = absurd (omega arith)
+fewest-digits (b ∷ word) some alike = digits-most (length word) (decimalValue (b ∷ word)) (omega (arith, below-power 0 (b ∷ word) alike))

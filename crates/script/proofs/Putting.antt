@@ -1,6 +1,6 @@
 -- Putting texts one behind the other.
 use Prim.Native.Nat.{ℕ, suc, _+_, _^_, _<_, _≤_}
-use mathlib.Core.Path.{_≡_, refl, ap, sym, _∙_}
+use mathlib.Core.Path.{_≡_, ap, sym, _∙_}
 use mathlib.Core.List.{List, [], _∷_, _++_}
 use native.Mathlib.Omega.{arith}
 use lib.ListN.{length, set, length-append}
@@ -8,7 +8,7 @@ use lib.Seq.{sets, sets-eq}
 use borrow.Author.Tests.{le-leb, lt-leb}
 use Rattle.script.specs.declared.Written.the-variants.{Next, NoRoom}
 use Rattle.script.proofs.Decimals.{decimal-most}
-use Rattle.script.specs.Replies.{decimal, afterSpace, spaced, Put, replyRoom, writeAt}
+use Rattle.script.specs.Replies.{afterSpace, spaced, Put, replyRoom, writeAt}
 
 sets-append : (out : List ℕ) (at : ℕ) (text more : List ℕ) → sets out at (text ++ more) ≡ sets (sets out at text) (at + length text) more
 sets-append out at [] more = ap (λ i. sets out i more) (omega arith)

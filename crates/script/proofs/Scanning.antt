@@ -8,14 +8,13 @@ use native.Mathlib.Numerals.{add-one}
 use native.Mathlib.Omega.{arith}
 use lib.ListN.{length, getD, drop, drop-of-length-le}
 use lib.Seq.{drop-cons, drop-drop}
-use lib.Dec.{eqb}
 use borrow.Author.Tests.{eq-eqb, ne-eqb}
 use Rattle.script.specs.declared.Line.{Line}
 use Rattle.script.specs.declared.LineReader.{LineReader}
 use Rattle.script.specs.declared.Found.the-variants as found
-use Rattle.script.specs.Reader.{newReader, feedOf, endOf, begunOf, isEmpty}
+use Rattle.script.specs.Reader.{newReader, feedOf, endOf, isEmpty}
 use Rattle.script.specs.Lines.{parseLine}
-use Rattle.script.specs.Scripts.{nextLine, startLine, linesOf, readScript, ReadsScripts, ReadsInParts, PartsRead}
+use Rattle.script.specs.Scripts.{isLineFeed, nextLine, startLine, linesOf, readScript, ReadsScripts, PartsRead}
 use Rattle.script.proofs.Reading.{reads-lines, knows-begun}
 
 module _ (s : LineReader) (bytes : List ℕ) (i : ℕ) where
@@ -58,28 +57,28 @@ reads-end start = rw (knows-begun start, reads-lines start) (go start)
     go (b ∷ bytes) = refl
 
 module _ (b : ℕ) (bytes : List ℕ) where
-  lines-end : eqb b (code "\n") ≡ true → linesOf (b ∷ bytes) ≡ [] ∷ linesOf bytes
+  lines-end : isLineFeed b ≡ true → linesOf (b ∷ bytes) ≡ [] ∷ linesOf bytes
   unfolding linesOf
   lines-end e = rw (linesOf, e)
 
-  lines-longer : eqb b (code "\n") ≡ false → linesOf (b ∷ bytes) ≡ startLine b (linesOf bytes)
+  lines-longer : isLineFeed b ≡ false → linesOf (b ∷ bytes) ≡ startLine b (linesOf bytes)
   unfolding linesOf
   lines-longer e = rw (linesOf, e)
 
-  script-end : (s : LineReader) → eqb b (code "\n") ≡ true → readScript s (b ∷ bytes) ≡ endOf s ∷ readScript newReader bytes
+  script-end : (s : LineReader) → isLineFeed b ≡ true → readScript s (b ∷ bytes) ≡ endOf s ∷ readScript newReader bytes
   unfolding readScript
   script-end s e = rw (readScript, e)
 
-  script-longer : (s : LineReader) → eqb b (code "\n") ≡ false → readScript s (b ∷ bytes) ≡ readScript (feedOf s b) bytes
+  script-longer : (s : LineReader) → isLineFeed b ≡ false → readScript s (b ∷ bytes) ≡ readScript (feedOf s b) bytes
   unfolding readScript
   script-longer s e = rw (readScript, e)
 
 reads-from : (bytes start : List ℕ) → readScript (foldl feedOf newReader start) bytes ≡ map parseLine (startWith start (linesOf bytes))
 unfolding linesOf
 reads-from [] start = reads-end start
-reads-from (b ∷ bytes) start = go (eqb b (code "\n")) refl (reads-from bytes)
+reads-from (b ∷ bytes) start = go (isLineFeed b) refl (reads-from bytes)
   where
-    go : (t : Bool) → eqb b (code "\n") ≡ t
+    go : (t : Bool) → isLineFeed b ≡ t
         → ((start : List ℕ) → readScript (foldl feedOf newReader start) bytes ≡ map parseLine (startWith start (linesOf bytes)))
         → readScript (foldl feedOf newReader start) (b ∷ bytes) ≡ map parseLine (startWith start (linesOf (b ∷ bytes)))
     go true e reads =
@@ -98,11 +97,11 @@ pub reads-scripts : ReadsScripts
 reads-scripts bytes = reads-from bytes [] ∙ ap (map parseLine) (start-none (linesOf bytes))
 
 module _ (s : LineReader) (b : ℕ) (bytes : List ℕ) (at : ℕ) where
-  next-end : eqb b (code "\n") ≡ true → nextLine s (b ∷ bytes) at ≡ found.Line (endOf s) (at + 1)
+  next-end : isLineFeed b ≡ true → nextLine s (b ∷ bytes) at ≡ found.Line (endOf s) (at + 1)
   unfolding nextLine
   next-end e = rw (nextLine, e)
 
-  next-longer : eqb b (code "\n") ≡ false → nextLine s (b ∷ bytes) at ≡ nextLine (feedOf s b) bytes (at + 1)
+  next-longer : isLineFeed b ≡ false → nextLine s (b ∷ bytes) at ≡ nextLine (feedOf s b) bytes (at + 1)
   unfolding nextLine
   next-longer e = rw (nextLine, e)
 
@@ -115,9 +114,9 @@ finds : (bytes rest : List ℕ) (s : LineReader) (at : ℕ) (l : Line) (next : �
     → nextLine s bytes at ≡ found.Line l next → Finds s bytes rest at l next
 unfolding nextLine
 finds [] rest s at l next h = let z : _≡_ {A = ℕ} 0 1 = cc in absurd (omega arith)
-finds (b ∷ bytes) rest s at l next h = go (eqb b (code "\n")) refl (finds bytes rest)
+finds (b ∷ bytes) rest s at l next h = go (isLineFeed b) refl (finds bytes rest)
   where
-    go : (t : Bool) → eqb b (code "\n") ≡ t
+    go : (t : Bool) → isLineFeed b ≡ t
         → ((s : LineReader) (at : ℕ) (l : Line) (next : ℕ) → nextLine s bytes at ≡ found.Line l next → Finds s bytes rest at l next)
         → Finds s (b ∷ bytes) rest at l next
     go true e more =
@@ -136,9 +135,9 @@ unfolding nextLine
 finds-more [] rest s t at h =
     let same : s ≡ t = cc in
     ap (λ r. readScript r rest) same
-finds-more (b ∷ bytes) rest s t at h = go (eqb b (code "\n")) refl (finds-more bytes rest (feedOf s b) t (at + 1))
+finds-more (b ∷ bytes) rest s t at h = go (isLineFeed b) refl (finds-more bytes rest (feedOf s b) t (at + 1))
   where
-    go : (test : Bool) → eqb b (code "\n") ≡ test
+    go : (test : Bool) → isLineFeed b ≡ test
         → (nextLine (feedOf s b) bytes (at + 1) ≡ found.More t → readScript (feedOf s b) (bytes ++ rest) ≡ readScript t rest)
         → readScript s (b ∷ bytes ++ rest) ≡ readScript t rest
     go true e more =

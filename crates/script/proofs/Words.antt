@@ -1,14 +1,14 @@
 -- The words of a line, a byte at a time: what is left of a line whose letter and first numbers are read.
-use Prim.Native.Nat.{ℕ, _+_, _*_, _-_, _^_, _<_, _≤_}
-use mathlib.Core.Path.{_≡_, refl, ap, sym, _∙_}
+use Prim.Native.Nat.{ℕ, _^_, _<_, _≤_}
+use mathlib.Core.Path.{_≡_, refl, sym, _∙_}
 use mathlib.Core.List.{List, [], _∷_, _++_, map, foldl, append-assoc}
 use mathlib.Core.Bool.{Bool, true, false, cond, _&&_, _||_}
 use native.Mathlib.Omega.{arith}
-use lib.Dec.{eqb, ltb}
+use lib.Dec.{ltb}
 use borrow.Author.Tests.{lt-ltb, le-ltb, ltb-true, ltb-false}
 use Rattle.script.specs.declared.Line.{Line}
 use Rattle.script.specs.declared.Line.the-variants as line
-use Rattle.script.specs.Lines.{firstWord, laterWords, isDigit, withDigit, decimalValue, all, isNumber, command, lineOf, parseLine}
+use Rattle.script.specs.Lines.{isSpace, firstWord, laterWords, isDigit, withDigit, decimalValue, all, isNumber, command, lineOf, parseLine}
 
 pub neither : {x y : Bool} (z : Bool) → x ≡ false → y ≡ false → z ≡ (x || y || z)
 neither z p q = simp (p, q)
@@ -23,25 +23,25 @@ when-false true t r true f e small = simp (e, small)
 when-false true t r false f e small = simp e
 when-false false t r a f e small = refl
 
-pub same-either : {A : Type 0} (t : Bool) (x : A) → cond t x x ≡ x
+same-either : {A : Type 0} (t : Bool) (x : A) → cond t x x ≡ x
 same-either true x = refl
 same-either false x = refl
 
 -- The first byte of a line: a space ends the first word, another byte belongs to it.
 module _ (b : ℕ) (bytes : List ℕ) where
-  pub first-ends : eqb b 32 ≡ true → firstWord (b ∷ bytes) ≡ []
+  first-ends : isSpace b ≡ true → firstWord (b ∷ bytes) ≡ []
   unfolding firstWord
   first-ends e = rw (firstWord, e)
 
-  pub first-longer : eqb b 32 ≡ false → firstWord (b ∷ bytes) ≡ b ∷ firstWord bytes
+  first-longer : isSpace b ≡ false → firstWord (b ∷ bytes) ≡ b ∷ firstWord bytes
   unfolding firstWord
   first-longer e = rw (firstWord, e)
 
-  pub later-more : eqb b 32 ≡ true → laterWords (b ∷ bytes) ≡ firstWord bytes ∷ laterWords bytes
+  later-more : isSpace b ≡ true → laterWords (b ∷ bytes) ≡ firstWord bytes ∷ laterWords bytes
   unfolding laterWords
   later-more e = rw (laterWords, e)
 
-  pub later-same : eqb b 32 ≡ false → laterWords (b ∷ bytes) ≡ laterWords bytes
+  later-same : isSpace b ≡ false → laterWords (b ∷ bytes) ≡ laterWords bytes
   unfolding laterWords
   later-same e = rw (laterWords, e)
 
@@ -74,7 +74,7 @@ rest-all v (b ∷ word) small = go (ltb (withDigit v b) (2 ^ 32)) refl (rest-all
         (le-ltb (foldl withDigit (withDigit v b) word) (2 ^ 32) (omega (arith, ltb-false (withDigit v b) (2 ^ 32) e, grows (withDigit v b) word)))
 
 -- A number is the rest of one with no digit yet.
-pub number-rest : (word : List ℕ) → isNumber word ≡ isRest false 0 word
+number-rest : (word : List ℕ) → isNumber word ≡ isRest false 0 word
 unfolding isNumber isRest all
 number-rest [] = refl
 number-rest (b ∷ word) = sym (rest-all 0 (b ∷ word) (omega arith))
@@ -94,19 +94,19 @@ module _ (letter : ℕ) (numbers : List ℕ) where
   rest-end false v = refl
 
   -- A space comes: the next number begins.
-  pub rest-space : (v b : ℕ) (bytes : List ℕ) → eqb b 32 ≡ true
+  pub rest-space : (v b : ℕ) (bytes : List ℕ) → isSpace b ≡ true
       → restOf letter numbers true v (b ∷ bytes) ≡ restOf letter (numbers ++ v ∷ []) false 0 bytes
   unfolding restOf isRest all
   rest-space v b bytes e =
       rw (first-ends b bytes e, later-more b bytes e, number-rest (firstWord bytes), append-assoc numbers (v ∷ []) _)
 
   -- A space where a number has no digit.
-  pub rest-none : (v b : ℕ) (bytes : List ℕ) → eqb b 32 ≡ true → restOf letter numbers false v (b ∷ bytes) ≡ line.Bad
+  pub rest-none : (v b : ℕ) (bytes : List ℕ) → isSpace b ≡ true → restOf letter numbers false v (b ∷ bytes) ≡ line.Bad
   unfolding restOf isRest
   rest-none v b bytes e = rw (first-ends b bytes e)
 
   -- Another byte comes.
-  pub rest-byte : (complete : Bool) (v b : ℕ) (bytes : List ℕ) → eqb b 32 ≡ false
+  pub rest-byte : (complete : Bool) (v b : ℕ) (bytes : List ℕ) → isSpace b ≡ false
       → restOf letter numbers complete v (b ∷ bytes) ≡ cond (isNext v b) (restOf letter numbers true (withDigit v b) bytes) line.Bad
   unfolding restOf isRest
   rest-byte complete v b bytes e = rw (first-longer b bytes e, later-same b bytes e) (go (isNext v b))
@@ -120,7 +120,7 @@ module _ (letter : ℕ) (numbers : List ℕ) where
       go false = refl
 
 -- A fifth number spoils the line.
-pub rest-fifth : (letter x y z v b : ℕ) (bytes : List ℕ) → eqb b 32 ≡ true
+pub rest-fifth : (letter x y z v b : ℕ) (bytes : List ℕ) → isSpace b ≡ true
     → restOf letter (x ∷ y ∷ z ∷ []) true v (b ∷ bytes) ≡ line.Bad
 unfolding restOf command
 rest-fifth letter x y z v b bytes e =
@@ -128,19 +128,19 @@ rest-fifth letter x y z v b bytes e =
 
 -- The first two bytes of a line: the letter and the space behind it. Anything else spoils the line.
 module _ (b : ℕ) (bytes : List ℕ) where
-  pub parse-space : eqb b 32 ≡ true → parseLine (b ∷ bytes) ≡ line.Bad
+  pub parse-space : isSpace b ≡ true → parseLine (b ∷ bytes) ≡ line.Bad
   unfolding parseLine lineOf
   parse-space e = rw (first-ends b bytes e)
 
-  pub parse-letter : eqb b 32 ≡ false → parseLine (b ∷ bytes) ≡ lineOf (b ∷ firstWord bytes) (laterWords bytes)
+  pub parse-letter : isSpace b ≡ false → parseLine (b ∷ bytes) ≡ lineOf (b ∷ firstWord bytes) (laterWords bytes)
   unfolding parseLine
   parse-letter e = rw (first-longer b bytes e, later-same b bytes e)
 
-  pub line-space : (letter : ℕ) → eqb b 32 ≡ true
+  pub line-space : (letter : ℕ) → isSpace b ≡ true
       → lineOf (letter ∷ firstWord (b ∷ bytes)) (laterWords (b ∷ bytes)) ≡ restOf letter [] false 0 bytes
   unfolding lineOf restOf all
   line-space letter e = rw (first-ends b bytes e, later-more b bytes e, number-rest (firstWord bytes))
 
-  pub line-longer : (letter : ℕ) → eqb b 32 ≡ false → lineOf (letter ∷ firstWord (b ∷ bytes)) (laterWords (b ∷ bytes)) ≡ line.Bad
+  pub line-longer : (letter : ℕ) → isSpace b ≡ false → lineOf (letter ∷ firstWord (b ∷ bytes)) (laterWords (b ∷ bytes)) ≡ line.Bad
   unfolding lineOf
   line-longer letter e = rw (first-longer b bytes e)

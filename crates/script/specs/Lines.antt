@@ -9,15 +9,18 @@ use Rattle.calls.specs.declared.Call.the-variants as call
 use Rattle.script.specs.declared.Line.{Line}
 use Rattle.script.specs.declared.Line.the-variants as line
 
+abbrev pub isSpace : ℕ → Bool
+isSpace b = eqb b (code " ")
+
 -- A line is words with single spaces between them. The first word: what stands before the first space.
 unfoldable pub firstWord : List ℕ → List ℕ
 firstWord [] = []
-firstWord (b ∷ bytes) = elim (eqb b (code " ")) [ true ↦ [] | false ↦ b ∷ firstWord bytes ]
+firstWord (b ∷ bytes) = elim (isSpace b) [ true ↦ [] | false ↦ b ∷ firstWord bytes ]
 
 -- The words behind the first, one for each space: an empty one where two spaces stand together or the last byte is one.
 unfoldable pub laterWords : List ℕ → List (List ℕ)
 laterWords [] = []
-laterWords (b ∷ bytes) = elim (eqb b (code " ")) [ true ↦ firstWord bytes ∷ laterWords bytes | false ↦ laterWords bytes ]
+laterWords (b ∷ bytes) = elim (isSpace b) [ true ↦ firstWord bytes ∷ laterWords bytes | false ↦ laterWords bytes ]
 
 abbrev pub isDigit : ℕ → Bool
 isDigit b = leb (code "0") b && leb b (code "9")
@@ -30,6 +33,7 @@ withDigit v b = 10 * v + (b - code "0")
 abbrev pub decimalValue : List ℕ → ℕ
 decimalValue word = foldl withDigit 0 word
 
+-- Every element of a list passes a test.
 unfoldable pub all {ℓ} : {A : Type ℓ} → (A → Bool) → List A → Bool
 all test [] = true
 all test (x ∷ xs) = test x && all test xs

@@ -12,7 +12,7 @@ use Rattle.pool.specs.declared.Fresh.the-variants as fresh
 use Rattle.pool.specs.Outcome.{refusalNumber}
 use Rattle.calls.specs.declared.Answer.{Answer}
 use Rattle.calls.specs.declared.Answer.the-variants as answer
-use Rattle.script.specs.Lines.{isNumber, decimalValue}
+use Rattle.script.specs.Lines.{isDigit, all, isNumber, decimalValue}
 use Rattle.script.specs.declared.Reply.{Reply}
 use Rattle.script.specs.declared.Reply.the-variants as reply
 use Rattle.script.specs.declared.Written.{Written}
@@ -83,3 +83,7 @@ pub record ReadBack (v : ℕ) : Type 0 where
 
 abbrev pub DecimalsReadBack : Type 0
 DecimalsReadBack = (v : ℕ) → v < 2 ^ 32 → ReadBack v
+
+-- No digits with the same value are fewer.
+abbrev pub FewestDigits : Type 0
+FewestDigits = (word : List ℕ) → 0 < length word → all isDigit word ≡ true → length (decimal (decimalValue word)) ≤ length word

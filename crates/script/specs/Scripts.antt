@@ -3,7 +3,7 @@ use Prim.Native.Nat.{ℕ, _+_}
 use Prim.Native.Char.{code}
 use mathlib.Core.Path.{_≡_}
 use mathlib.Core.List.{List, [], _∷_, _++_, map}
-use mathlib.Core.Bool.{true, false, cond}
+use mathlib.Core.Bool.{Bool, true, false, cond}
 use lib.ListN.{drop}
 use lib.Dec.{eqb}
 use Rattle.script.specs.Lines.{parseLine}
@@ -13,11 +13,14 @@ use Rattle.script.specs.declared.LineReader.{LineReader}
 use Rattle.script.specs.declared.Found.{Found}
 use Rattle.script.specs.declared.Found.the-variants as found
 
+abbrev pub isLineFeed : ℕ → Bool
+isLineFeed b = eqb b (code "\n")
+
 -- What a reader finds in bytes of which the first has the place `at`: the end of its line, or none.
 unfoldable pub nextLine : LineReader → List ℕ → ℕ → Found
 nextLine s [] at = found.More s
 nextLine s (b ∷ bytes) at =
-    elim (eqb b (code "\n")) [
+    elim (isLineFeed b) [
       | true ↦ found.Line (endOf s) (at + 1)
       | false ↦ nextLine (feedOf s b) bytes (at + 1)
     ]
@@ -30,13 +33,13 @@ startLine b (line ∷ lines) = (b ∷ line) ∷ lines
 -- The lines of a script, without their line feeds. "The last line needs no line end", and a last line feed starts no new line.
 unfoldable pub linesOf : List ℕ → List (List ℕ)
 linesOf [] = []
-linesOf (b ∷ bytes) = elim (eqb b (code "\n")) [ true ↦ [] ∷ linesOf bytes | false ↦ startLine b (linesOf bytes) ]
+linesOf (b ∷ bytes) = elim (isLineFeed b) [ true ↦ [] ∷ linesOf bytes | false ↦ startLine b (linesOf bytes) ]
 
 -- What a reader says of the rest of a script: at each line feed its line ends, and a new one begins; at the end the last, if it has a byte.
 unfoldable pub readScript : LineReader → List ℕ → List Line
 readScript s [] = cond (begunOf s) (endOf s ∷ []) []
 readScript s (b ∷ bytes) =
-    elim (eqb b (code "\n")) [
+    elim (isLineFeed b) [
       | true ↦ endOf s ∷ readScript newReader bytes
       | false ↦ readScript (feedOf s b) bytes
     ]

@@ -8,7 +8,7 @@ ghost use mathlib.Core.Path.{_≡_};
 ghost use mathlib.Core.List.{[], _∷_};
 ghost use lib.ListN.{length, drop};
 ghost use Rattle.script.specs.Lines.{command};
-ghost use Rattle.script.specs.Reader.{newReader, badReader, spaceOf, letterOf, digitOf, feedOf, endOf, begunOf};
+ghost use Rattle.script.specs.Reader.{withoutNumbers, newReader, badReader, spaceOf, letterOf, digitOf, feedOf, endOf, begunOf};
 ghost use Rattle.script.specs.Scripts.{nextLine};
 ghost use Rattle.script.specs.Replies.{decimal, afterSpace, spaced, freshReply, answerReply, replyText, replyRoom, Put, writeAt};
 
@@ -48,10 +48,17 @@ impl LineReader {
     pub fn new() -> LineReader
         ensures { λ r. ⌜ r ≡ newReader ⌝ }
     {
+        LineReader::without_numbers(false, false, 0)
+    }
+
+    // No number has begun.
+    fn without_numbers(bad: bool, complete: bool, letter: u8) -> LineReader
+        ensures { λ r. ⌜ r ≡ withoutNumbers bad complete letter ⌝ }
+    {
         LineReader {
-            bad: false,
-            complete: false,
-            letter: 0,
+            bad,
+            complete,
+            letter,
             count: 0,
             first: 0,
             second: 0,
@@ -64,16 +71,7 @@ impl LineReader {
     fn spoilt() -> LineReader
         ensures { λ r. ⌜ r ≡ badReader ⌝ }
     {
-        LineReader {
-            bad: true,
-            complete: false,
-            letter: 0,
-            count: 0,
-            first: 0,
-            second: 0,
-            third: 0,
-            fourth: 0,
-        }
+        LineReader::without_numbers(true, false, 0)
     }
 
     // After a space.
@@ -105,16 +103,7 @@ impl LineReader {
         if self.complete {
             return LineReader::spoilt();
         }
-        LineReader {
-            bad: false,
-            complete: true,
-            letter: b,
-            count: 0,
-            first: 0,
-            second: 0,
-            third: 0,
-            fourth: 0,
-        }
+        LineReader::without_numbers(false, true, b)
     }
 
     // After a byte of a number.
@@ -205,10 +194,9 @@ impl LineReader {
         while i < bytes.len() {
             let b = bytes[i];
             if b == b'\n' {
-                return Found::Line {
-                    line: reader.end(),
-                    next: i + 1,
-                };
+                let line = reader.end();
+                let next = i + 1;
+                return Found::Line { line, next };
             }
             reader = reader.feed(b);
             i += 1;

@@ -1,5 +1,5 @@
 -- The proof of the cycle of calls {put_decimal}: the digits of a tenth of the number, and then its last digit. The measure is the number.
-use Prim.Native.Nat.{ℕ, _/_, _<_}
+use Prim.Native.Nat.{ℕ, _<_}
 use mathlib.Core.Path.{ap, _∙_}
 use native.Mathlib.Omega.{arith}
 use lib.ListN.{length}
@@ -63,7 +63,8 @@ put-decimal-returns : (t : ℕ) → put-decimal-lts.Need-returns (
   put-decimal-below t,
   put-decimal.Post,
 ) (put-decimal-at t) put-decimal.Post
-put-decimal-returns t c = rw (decimal-last (c .before .before .before .before .before .before .args .v) (c .before .before .before .before .if1 .taken)) (c .before .before .put .ensures)
+put-decimal-returns t c =
+    rw (decimal-last _ (c .before .before .before .before .if1 .taken)) (c .before .before .put .ensures)
 
 put-decimal-put-decimal-requires : (t : ℕ) → put-decimal-lts.Need-put-decimal-requires (
   put-reads.Asked,
@@ -111,7 +112,9 @@ put-decimal-returns-2 : (t : ℕ) → put-decimal-lts.Need-returns-2 (
   put-decimal-below t,
   put-decimal.Post,
 ) (put-decimal-at t) put-decimal.Post
-put-decimal-returns-2 t c = rw (decimal-more (c .before .before .before .before .before .before .before .before .before .before .args .v) (c .before .before .before .before .before .before .before .before .if1 .left)) (puts (c .before .before .before .before .before .before .put-decimal .ensures) (c .before .before .put2 .ensures))
+put-decimal-returns-2 t c =
+    let tenth = c .before .before .before .before .before .before in
+    rw (decimal-more _ (tenth .before .before .if1 .left)) (puts (tenth .put-decimal .ensures) (c .before .before .put2 .ensures))
 
 pub +put-decimal-spec : {M : Type 1} → statement M
 +put-decimal-spec = close μ-put-decimal λ t. put-decimal-lts.spec (

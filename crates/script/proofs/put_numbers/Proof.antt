@@ -8,10 +8,14 @@ use Rattle.script.proofs.put_numbers.Statement.{statement}
 use Rattle.script.proofs.put_numbers.Tie as tie
 
 put-spaced-requires : tie.Need-put-spaced-requires
-put-spaced-requires c κs = omega (arith, length-spaced (c .before .before .args .x) (c .before .before .args .y ∷ []))
+put-spaced-requires c κs =
+    let args = c .before .before .args in
+    omega (arith, length-spaced (args .x) (args .y ∷ []))
 
 put-number-requires : tie.Need-put-number-requires
-put-number-requires c κs = omega (arith, length-spaced (c .before .before .before .before .before .before .args .x) (c .before .before .before .before .before .before .args .y ∷ []))
+put-number-requires c κs =
+    let args = c .before .before .before .before .before .before .args in
+    omega (arith, length-spaced (args .x) (args .y ∷ []))
 
 same-length : tie.Need-same-length
 same-length c = search needs

@@ -40,7 +40,9 @@ put-two-requires-5 : tie.Need-put-two-requires-5
 put-two-requires-5 c κs = search needs
 
 put-numbers-requires : tie.Need-put-numbers-requires
-put-numbers-requires c κs = omega (arith, two-most (c .before .before .before .before .before .before .reply2 .given .0 .0) (c .before .before .before .before .before .before .reply2 .given .0 .1 .0) (search needs) (search needs))
+put-numbers-requires c κs =
+    let numbers = c .before .before .before .before .before .before .reply2 .given .0 in
+    omega (arith, two-most (numbers .0) (numbers .1 .0) (search needs) (search needs))
 
 enum-known-reply-3 : tie.Need-enum-known-reply-3
 enum-known-reply-3 c = search needs
@@ -59,32 +61,52 @@ same-length c = search needs
 
 returns : tie.Need-returns
 unfolding spaced
-returns c = rw (c .before .before .before .before .before .before .before .before .enum-told .given .1) (puts (c .before .before .before .before .before .before .put-two .ensures) (c .before .before .put-two2 .ensures), omega arith)
+returns c =
+    let first = c .before .before .before .before .before .before in
+    rw (first .before .before .enum-told .given .1) (puts (first .put-two .ensures) (c .before .before .put-two2 .ensures), omega arith)
 
 same-length-2 : tie.Need-same-length-2
 same-length-2 c = search needs
 
 returns-2 : tie.Need-returns-2
 unfolding spaced
-returns-2 c = rw (c .before .before .before .before .before .before .before .before .enum-told2 .given .1) (puts (c .before .before .before .before .before .before .put-two3 .ensures) (c .before .before .put .ensures), omega arith)
+returns-2 c =
+    let first = c .before .before .before .before .before .before in
+    rw (first .before .before .enum-told2 .given .1) (puts (first .put-two3 .ensures) (c .before .before .put .ensures), omega arith)
 
 same-length-3 : tie.Need-same-length-3
 same-length-3 c = search needs
 
 returns-3 : tie.Need-returns-3
-returns-3 c = rw (c .before .before .before .before .before .before .before .before .before .reply .given .1) (puts (c .before .before .before .before .before .before .put-two4 .ensures) (c .before .before .put-number .ensures), omega (arith, one-most (c .before .before .before .before .before .before .before .before .before .reply .given .0 .0) (search needs)))
+returns-3 c =
+    let first = c .before .before .before .before .before .before in
+    let known = first .before .before .before .reply .given in
+    rw (known .1)
+    (puts (first .put-two4 .ensures) (c .before .before .put-number .ensures), omega (arith, one-most (known .0 .0) (search needs)))
 
 same-length-4 : tie.Need-same-length-4
 same-length-4 c = search needs
 
 returns-4 : tie.Need-returns-4
-returns-4 c = rw (c .before .before .before .before .before .before .before .before .before .reply2 .given .1) (puts (c .before .before .before .before .before .before .put-two5 .ensures) (c .before .before .put-numbers .ensures), omega (arith, two-most (c .before .before .before .before .before .before .before .before .before .reply2 .given .0 .0) (c .before .before .before .before .before .before .before .before .before .reply2 .given .0 .1 .0) (search needs) (search needs)))
+returns-4 c =
+    let first = c .before .before .before .before .before .before in
+    let known = first .before .before .before .reply2 .given in
+    rw (known .1) (
+      puts (first .put-two5 .ensures) (c .before .before .put-numbers .ensures),
+      omega (arith, two-most (known .0 .0) (known .0 .1 .0) (search needs) (search needs)),
+    )
 
 same-length-5 : tie.Need-same-length-5
 same-length-5 c = search needs
 
 returns-5 : tie.Need-returns-5
-returns-5 c = rw (c .before .before .before .before .before .before .before .before .before .before .reply3 .given .1) (puts (c .before .before .before .before .before .before .before .put-two6 .ensures) (rw (c .before .before .before .number .ensures) at (c .before .before .put-number2 .ensures)), omega (arith, rw (c .before .before .before .number .ensures) at (one-most (c .before .before .before .number .result) (search needs))))
+returns-5 c =
+    let number = c .before .before .before .number in
+    let first = c .before .before .before .before .before .before .before in
+    rw (first .before .before .before .reply3 .given .1) (
+      puts (first .put-two6 .ensures) (rw (number .ensures) at (c .before .before .put-number2 .ensures)),
+      omega (arith, rw (number .ensures) at (one-most (number .result) (search needs))),
+    )
 
 pub put-reply-spec : {M : Type 1} → statement M
 put-reply-spec =

@@ -1,5 +1,4 @@
 -- `script::LineReader::begun` meets its contract: at each return the tests that led there decide those of the definition.
-use borrow.Author.Needs.{needs}
 use Rattle.script.specs.Reader.{begunOf}
 use Rattle.script.proofs.Words.{neither}
 use Rattle.script.proofs.LineReader.begun.Statement.{statement}

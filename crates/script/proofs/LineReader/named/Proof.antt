@@ -4,8 +4,6 @@ use mathlib.Core.Path.{_∙_}
 use Rattle.script.specs.Reader.{letterOf}
 use Rattle.script.proofs.LineReader.named.Statement.{statement}
 use Rattle.script.proofs.LineReader.named.Tie as tie
-use Rattle.script.proofs.LineReader.named.Reads as reads
-use Rattle.script.proofs.LineReader.named.Lts as lts
 
 spoilt-requires : tie.Need-spoilt-requires
 spoilt-requires c κs = search needs
@@ -14,9 +12,12 @@ returns : tie.Need-returns
 unfolding letterOf
 returns c = c .spoilt .ensures ∙ simp (c .before .if1 .taken)
 
+without-numbers-requires : tie.Need-without-numbers-requires
+without-numbers-requires c κs = search needs
+
 returns-2 : tie.Need-returns-2
 unfolding letterOf
-returns-2 c = simp (c .if1 .left)
+returns-2 c = c .without-numbers .ensures ∙ simp (c .before .if1 .left)
 
 pub named-spec : {M : Type 1} → statement M
-named-spec = tie.close (tie.spec spoilt-requires returns returns-2)
+named-spec = tie.close (tie.spec spoilt-requires returns without-numbers-requires returns-2)

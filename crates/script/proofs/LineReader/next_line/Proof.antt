@@ -1,7 +1,7 @@
 -- `script::LineReader::next_line` meets its contract. The loop's invariant: from where it stands, the reader finds what it finds from the start.
 -- The measure is what is left of the bytes.
 use Prim.Native.Nat.{_-_}
-use mathlib.Core.Path.{_≡_, refl, ap, sym, _∙_}
+use mathlib.Core.Path.{_≡_, refl, sym, _∙_}
 use native.Mathlib.Omega.{arith}
 use borrow.Author.Needs.{needs}
 use lib.ListN.{length, drop}
@@ -25,11 +25,12 @@ shared-slice-read-b c = omega arith
 end-requires : tie.Need-end-requires Inv-loop μ-loop
 end-requires c κs = search needs
 
-add-t12 : tie.Need-add-t12 Inv-loop μ-loop
-add-t12 c = omega arith
+add-next : tie.Need-add-next Inv-loop μ-loop
+add-next c = omega arith
 
 returns : tie.Need-returns Inv-loop μ-loop
-returns c = rw (c .end .ensures) (sym (line-ends _ _ _ (c .before .before .before .loop-test .taken) (c .before .if1 .taken)) ∙ c .before .before .before .before .loop .inv)
+returns c =
+    rw (c .end .ensures) (sym (line-ends _ _ _ (c .before .before .before .loop-test .taken) (c .before .if1 .taken)) ∙ c .before .before .before .before .loop .inv)
 
 feed-requires : tie.Need-feed-requires Inv-loop μ-loop
 feed-requires c κs = search needs
@@ -41,7 +42,8 @@ loop-less : tie.Need-loop-less Inv-loop μ-loop
 loop-less c = omega arith
 
 loop-again : tie.Need-loop-again Inv-loop μ-loop
-loop-again c = rw (c .feed .ensures) (sym (line-goes-on _ _ _ (c .before .before .before .loop-test .taken) (c .before .if1 .left)) ∙ c .before .before .before .before .loop .inv)
+loop-again c =
+    rw (c .feed .ensures) (sym (line-goes-on _ _ _ (c .before .before .before .loop-test .taken) (c .before .if1 .left)) ∙ c .before .before .before .before .loop .inv)
 
 returns-2 : tie.Need-returns-2 Inv-loop μ-loop
 returns-2 c = sym (part-ends _ _ _ (c .loop-test .left)) ∙ c .before .loop .inv
@@ -55,7 +57,7 @@ next-line-spec =
     loop-holds
     shared-slice-read-b
     end-requires
-    add-t12
+    add-next
     returns
     feed-requires
     add-i

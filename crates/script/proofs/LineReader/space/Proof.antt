@@ -18,14 +18,18 @@ spoilt-requires-2 c κs = search needs
 
 returns-2 : tie.Need-returns-2
 unfolding spaceOf
-returns-2 c = c .spoilt2 .ensures ∙ simp (not-false (c .before .before .before .before .before .args .self .complete) (c .before .before .before .if1 .left), le-ltb _ _ (c .before .if2 .taken))
+returns-2 c =
+    let complete = not-false (c .before .before .before .before .before .args .self .complete) (c .before .before .before .if1 .left) in
+    c .spoilt2 .ensures ∙ simp (complete, le-ltb _ _ (c .before .if2 .taken))
 
 add-t3 : tie.Need-add-t3
 add-t3 c = search needs
 
 returns-3 : tie.Need-returns-3
 unfolding spaceOf
-returns-3 c = simp (not-false (c .before .before .before .before .before .args .self .complete) (c .before .before .before .if1 .left), lt-ltb _ _ (c .before .if2 .left))
+returns-3 c =
+    let complete = not-false (c .before .before .before .before .before .args .self .complete) (c .before .before .before .if1 .left) in
+    simp (complete, lt-ltb _ _ (c .before .if2 .left))
 
 pub space-spec : {M : Type 1} → statement M
 space-spec = tie.close (tie.spec spoilt-requires returns spoilt-requires-2 returns-2 add-t3 returns-3)
