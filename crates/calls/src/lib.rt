@@ -190,7 +190,8 @@ fn take_collected(words: &mut [u32], n: u32, r: u32, x: u32, y: u32, v: u32) -> 
     let Collection::Kept { kept: _, visits } = collector::collect_in(words, n) else {
         return Answer::Refused(Refusal::Malformed);
     };
-    if pool::read_head(words) == 0 {
+    let free = pool::read_head(words);
+    if free == 0 {
         return Answer::Refused(Refusal::Full);
     }
     take_head(words, r, x, y, v);
