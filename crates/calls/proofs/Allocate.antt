@@ -5,16 +5,16 @@ use mathlib.Core.Path.{_≡_, refl, sym, ap, _∙_}
 use mathlib.Core.List.{List, [], _∷_}
 use mathlib.Core.Bool.{Bool, true, false, cond, _&&_}
 use lib.ListN.{length}
-use lib.Dec.{eqb, leb}
+use lib.Dec.{leb}
 use borrow.Author.Tests.{eq-eqb, ne-eqb, leb-true}
-use Rattle.pool.specs.Layout.{registerCount, poolLength, head, setHead, setRegister, state, left, setCell}
+use Rattle.pool.specs.Layout.{registerCount, poolLength, head, state, left}
 use Rattle.pool.specs.Validity.{isFree, wellFormed}
 use Rattle.pool.specs.Retain.{lowestFree}
-use Rattle.pool.specs.Outcome.{Outcome, answered, refused, refusalNumber}
+use Rattle.pool.specs.Outcome.{Outcome, answered, refused}
 use Rattle.pool.specs.declared.Refusal.{Refusal}
 use Rattle.pool.proofs.Questions.{both}
 use Rattle.pool.proofs.WellFormed.{well-formed-read}
-use Rattle.pool.proofs.Retained.{length-retain, retain-head}
+use Rattle.pool.proofs.Retained.{retain-head}
 use Rattle.collector.specs.Collect.{isReached, keptCells, collected, collectionOutcome, collectIn}
 use Rattle.collector.specs.declared.Collection.{Collection}
 use Rattle.collector.specs.declared.Collection.the-variants as collection
@@ -39,29 +39,31 @@ pub record Swept (n : ℕ) (w w' : List ℕ) (v : ℕ) : Type 0 where
   pub words : w' ≡ collected registerCount n w
   pub visits : v ≡ 3 * keptCells registerCount n w
 
+-- what a collection says and leaves, by the test of the pool
+module _ (n : ℕ) (w : List ℕ) {w' : List ℕ} {o : Outcome} (did : (o, w') ≡ collectIn n w) where
+  said : (t : Bool) → wellFormed registerCount n w ≡ t
+      → o ≡ cond t (answered (keptCells registerCount n w ∷ 3 * keptCells registerCount n w ∷ [])) (refused 3)
+  said true e = simp e at (ap (λ (p : Outcome × List ℕ). p .0) did)
+  said false e = simp e at (ap (λ (p : Outcome × List ℕ). p .0) did)
+
+  left-words : (t : Bool) → wellFormed registerCount n w ≡ t → w' ≡ cond t (collected registerCount n w) w
+  left-words true e = simp e at (ap (λ (p : Outcome × List ℕ). p .1) did)
+  left-words false e = simp e at (ap (λ (p : Outcome × List ℕ). p .1) did)
+
 module _ (n : ℕ) (w w' : List ℕ) {q : Collection} (did : (collectionOutcome q, w') ≡ collectIn n w) where
   pub swept : {kept visits : ℕ} → q ≡ collection.Kept kept visits → Swept n w w' visits
-  swept {kept} {visits} told = go (wellFormed registerCount n w) refl (sym (ap (λ (p : Collection). (collectionOutcome p, w')) told) ∙ did)
+  swept {kept} {visits} told = go (wellFormed registerCount n w) refl
     where
-      go : (t : Bool) → wellFormed registerCount n w ≡ t
-          → _≡_ {A = Outcome × List ℕ} (answered (kept ∷ visits ∷ []), w')
-          (cond t (answered (keptCells registerCount n w ∷ 3 * keptCells registerCount n w ∷ []), collected registerCount n w) (refused 3, w))
-          → Swept n w w' visits
-      go true e same = record { well = e; words = ap (λ (p : Outcome × List ℕ). p .1) same; visits = cc (ap (λ (p : Outcome × List ℕ). p .0) same) }
-      go false e same = let z : _≡_ {A = ℕ} 0 1 = cc (ap (λ (p : Outcome × List ℕ). p .0) same) in absurd (omega arith)
-
-  pub refused-words : {k : Refusal} → q ≡ collection.Refused k → (wellFormed registerCount n w ≡ false) × (w' ≡ w)
-  refused-words {k} told = go (wellFormed registerCount n w) refl (sym (ap (λ (p : Collection). (collectionOutcome p, w')) told) ∙ did)
-    where
-      go : (t : Bool) → wellFormed registerCount n w ≡ t
-          → _≡_ {A = Outcome × List ℕ} (refused (refusalNumber k), w')
-          (cond t (answered (keptCells registerCount n w ∷ 3 * keptCells registerCount n w ∷ []), collected registerCount n w) (refused 3, w))
-          → (wellFormed registerCount n w ≡ false) × (w' ≡ w)
-      go true e same = let z : _≡_ {A = ℕ} 0 1 = cc (ap (λ (p : Outcome × List ℕ). p .0) same) in absurd (omega arith)
-      go false e same = (e, ap (λ (p : Outcome × List ℕ). p .1) same)
+      go : (t : Bool) → wellFormed registerCount n w ≡ t → Swept n w w' visits
+      go true e = record { well = e; words = left-words n w did true e; visits = cc (said n w did true e) }
+      go false e = let z : _≡_ {A = ℕ} 0 1 = cc (said n w did false e) in absurd (omega arith)
 
   pub take-refused : (r x y v : ℕ) {k : Refusal} → q ≡ collection.Refused k → (refused 3, w') ≡ takeCollected n w r x y v
-  take-refused r x y v told = let h = refused-words told in simp (h .0, h .1)
+  take-refused r x y v told = go (wellFormed registerCount n w) refl
+    where
+      go : (t : Bool) → wellFormed registerCount n w ≡ t → (refused 3, w') ≡ takeCollected n w r x y v
+      go true e = let z : _≡_ {A = ℕ} 0 1 = cc (said n w did true e) in absurd (omega arith)
+      go false e = simp (e, left-words n w did false e)
 
 module _ (n : ℕ) (w : List ℕ) {w' : List ℕ} {visits : ℕ} (s : Swept n w w' visits) where
   -- the head after it is one of the cells, or nil where every cell is kept; and then nothing has changed

@@ -10,7 +10,7 @@ ghost use Prim.Native.Nat.{_+_, _<_, _≤_};
 ghost use lib.ListN.{length};
 ghost use Rattle.pool.specs.Layout.{cellLimit, registerCount, poolLength, head};
 ghost use Rattle.calls.specs.Answers.{answerOutcome};
-ghost use Rattle.calls.specs.Calls.{copyIn, clearIn, followIn, linkIn, setValueIn, valueIn, sameIn, newIn, goodHead, take, callOf};
+ghost use Rattle.calls.specs.Calls.{copyIn, clearIn, followIn, linkIn, setValueIn, valueIn, sameIn, newIn, goodHead, take, asked, callOf};
 ghost use Rattle.calls.specs.Allocate.{takeCollected};
 
 // A call: r, a and b are register numbers, v is a value.
@@ -190,7 +190,8 @@ fn take_collected(words: &mut [u32], n: u32, r: u32, x: u32, y: u32, v: u32) -> 
     let Collection::Kept { kept: _, visits } = collector::collect_in(words, n) else {
         return Answer::Refused(Refusal::Malformed);
     };
-    if pool::read_head(words) == 0 {
+    let free = pool::read_head(words);
+    if free == 0 {
         return Answer::Refused(Refusal::Full);
     }
     take_head(words, r, x, y, v);
@@ -249,22 +250,38 @@ pub fn new(words: &mut [u32], r: u32, a: u32, b: u32, v: u32) -> Answer
     }
 }
 
+// r gets a link of a's cell, on any words.
+fn follow(words: &mut [u32], field: usize, r: u32, a: u32) -> Answer
+    requires { ⌜ field < 4 ⌝ }
+    ensures { λ q. ⌜ (answerOutcome q, now (words .exit)) ≡ asked (now (words .entry)) r a a (λ n. followIn n (now (words .entry)) field r a) ⌝ }
+{
+    match pool::admit(words, r, a, a) {
+        Admitted::Cells(n) => follow_in(words, n, field, r, a),
+        Admitted::Refused(k) => Answer::Refused(k),
+    }
+}
+
 // left r a
 pub fn left(words: &mut [u32], r: u32, a: u32) -> Answer
     ensures { λ q. ⌜ (answerOutcome q, now (words .exit)) ≡ callOf (Call.Left r a) (now (words .entry)) ⌝ }
 {
-    match pool::admit(words, r, a, a) {
-        Admitted::Cells(n) => follow_in(words, n, Pool::LEFT, r, a),
-        Admitted::Refused(k) => Answer::Refused(k),
-    }
+    follow(words, Pool::LEFT, r, a)
 }
 
 // right r a
 pub fn right(words: &mut [u32], r: u32, a: u32) -> Answer
     ensures { λ q. ⌜ (answerOutcome q, now (words .exit)) ≡ callOf (Call.Right r a) (now (words .entry)) ⌝ }
 {
-    match pool::admit(words, r, a, a) {
-        Admitted::Cells(n) => follow_in(words, n, Pool::RIGHT, r, a),
+    follow(words, Pool::RIGHT, r, a)
+}
+
+// A link of a's cell becomes what b holds, on any words.
+fn link(words: &mut [u32], field: usize, a: u32, b: u32) -> Answer
+    requires { ⌜ field < 4 ⌝ }
+    ensures { λ q. ⌜ (answerOutcome q, now (words .exit)) ≡ asked (now (words .entry)) a b b (λ n. linkIn n (now (words .entry)) field a b) ⌝ }
+{
+    match pool::admit(words, a, b, b) {
+        Admitted::Cells(n) => link_in(words, n, field, a, b),
         Admitted::Refused(k) => Answer::Refused(k),
     }
 }
@@ -273,20 +290,14 @@ pub fn right(words: &mut [u32], r: u32, a: u32) -> Answer
 pub fn set_left(words: &mut [u32], a: u32, b: u32) -> Answer
     ensures { λ q. ⌜ (answerOutcome q, now (words .exit)) ≡ callOf (Call.SetLeft a b) (now (words .entry)) ⌝ }
 {
-    match pool::admit(words, a, b, b) {
-        Admitted::Cells(n) => link_in(words, n, Pool::LEFT, a, b),
-        Admitted::Refused(k) => Answer::Refused(k),
-    }
+    link(words, Pool::LEFT, a, b)
 }
 
 // setright a b
 pub fn set_right(words: &mut [u32], a: u32, b: u32) -> Answer
     ensures { λ q. ⌜ (answerOutcome q, now (words .exit)) ≡ callOf (Call.SetRight a b) (now (words .entry)) ⌝ }
 {
-    match pool::admit(words, a, b, b) {
-        Admitted::Cells(n) => link_in(words, n, Pool::RIGHT, a, b),
-        Admitted::Refused(k) => Answer::Refused(k),
-    }
+    link(words, Pool::RIGHT, a, b)
 }
 
 // setvalue a v

@@ -1,7 +1,7 @@
--- `calls::set_right` meets its contract: the first two questions, then the call.
+-- `calls::link` meets its contract: the first two questions, then the call.
 use borrow.Author.Needs.{needs}
-use Rattle.calls.proofs.set_right.Statement.{statement}
-use Rattle.calls.proofs.set_right.Tie as tie
+use Rattle.calls.proofs.link.Statement.{statement}
+use Rattle.calls.proofs.link.Tie as tie
 use native.Mathlib.Omega.{arith}
 use denote.Ref.{now}
 use Rattle.calls.specs.Calls.{linkIn}
@@ -23,16 +23,16 @@ same-length : tie.Need-same-length
 same-length c = search needs
 
 returns : tie.Need-returns
-returns c = let p = c .before .before .before .before .before .before .before .before .before .before .args in asked-cells _ (p .a) (p .b) (p .b) (c .before .before .before .before .before .before .before .admit .ensures) (λ n. linkIn n (now (p .words)) 2 (p .a) (p .b)) (c .before .before .before .before .before .n .given .1) (c .before .before .link-in .ensures)
+returns c = let p = c .before .before .before .before .before .before .before .before .before .before .args in asked-cells _ (p .a) (p .b) (p .b) (c .before .before .before .before .before .before .before .admit .ensures) (λ n. linkIn n (now (p .words)) (p .field) (p .a) (p .b)) (c .before .before .before .before .before .n .given .1) (c .before .before .link-in .ensures)
 
 same-length-2 : tie.Need-same-length-2
 same-length-2 c = search needs
 
 returns-2 : tie.Need-returns-2
-returns-2 c = let p = c .before .before .before .before .before .before .args in asked-refused _ (p .a) (p .b) (p .b) (c .before .before .before .admit .ensures) (λ n. linkIn n (now (p .words)) 2 (p .a) (p .b)) (c .before .k .given .1)
+returns-2 c = let p = c .before .before .before .before .before .before .args in asked-refused _ (p .a) (p .b) (p .b) (c .before .before .before .admit .ensures) (λ n. linkIn n (now (p .words)) (p .field) (p .a) (p .b)) (c .before .k .given .1)
 
-pub set-right-spec : {M : Type 1} → statement M
-set-right-spec =
+pub link-spec : {M : Type 1} → statement M
+link-spec =
     tie.close
     (tie.spec
     admit-requires

@@ -1,7 +1,7 @@
--- `calls::left` meets its contract: the first two questions, then the call.
+-- `calls::follow` meets its contract: the first two questions, then the call.
 use borrow.Author.Needs.{needs}
-use Rattle.calls.proofs.left.Statement.{statement}
-use Rattle.calls.proofs.left.Tie as tie
+use Rattle.calls.proofs.follow.Statement.{statement}
+use Rattle.calls.proofs.follow.Tie as tie
 use native.Mathlib.Omega.{arith}
 use denote.Ref.{now}
 use Rattle.calls.specs.Calls.{followIn}
@@ -23,16 +23,16 @@ same-length : tie.Need-same-length
 same-length c = search needs
 
 returns : tie.Need-returns
-returns c = let p = c .before .before .before .before .before .before .before .before .before .before .args in asked-cells _ (p .r) (p .a) (p .a) (c .before .before .before .before .before .before .before .admit .ensures) (λ n. followIn n (now (p .words)) 1 (p .r) (p .a)) (c .before .before .before .before .before .n .given .1) (c .before .before .follow-in .ensures)
+returns c = let p = c .before .before .before .before .before .before .before .before .before .before .args in asked-cells _ (p .r) (p .a) (p .a) (c .before .before .before .before .before .before .before .admit .ensures) (λ n. followIn n (now (p .words)) (p .field) (p .r) (p .a)) (c .before .before .before .before .before .n .given .1) (c .before .before .follow-in .ensures)
 
 same-length-2 : tie.Need-same-length-2
 same-length-2 c = search needs
 
 returns-2 : tie.Need-returns-2
-returns-2 c = let p = c .before .before .before .before .before .before .args in asked-refused _ (p .r) (p .a) (p .a) (c .before .before .before .admit .ensures) (λ n. followIn n (now (p .words)) 1 (p .r) (p .a)) (c .before .k .given .1)
+returns-2 c = let p = c .before .before .before .before .before .before .args in asked-refused _ (p .r) (p .a) (p .a) (c .before .before .before .admit .ensures) (λ n. followIn n (now (p .words)) (p .field) (p .r) (p .a)) (c .before .k .given .1)
 
-pub left-spec : {M : Type 1} → statement M
-left-spec =
+pub follow-spec : {M : Type 1} → statement M
+follow-spec =
     tie.close
     (tie.spec
     admit-requires

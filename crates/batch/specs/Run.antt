@@ -1,0 +1,63 @@
+-- A run: the calls of a list, one after the other, and the words that their answers are written to.
+use Prim.Native.Nat.{ℕ, suc, _+_, _*_, _≤_}
+use mathlib.Core.Path.{_≡_}
+use mathlib.Core.List.{List, [], _∷_, _++_}
+use mathlib.Core.Bool.{true, false}
+use lib.ListN.{length, getD, set, drop}
+use lib.Dec.{leb}
+use Rattle.pool.specs.Outcome.{Outcome, answered, refused}
+use Rattle.calls.specs.declared.Call.{Call}
+use Rattle.calls.specs.Calls.{callOf}
+use Rattle.batch.specs.declared.Ran.{Ran}
+use Rattle.batch.specs.declared.Ran.the-variants as ran
+use Rattle.batch.specs.Program.{Program, ended, malformed, then, programOf, whole, programWords}
+
+-- An answer as three words: 0 or the refusal's number, then the numbers given, 0 where there are fewer.
+abbrev pub verdictOf : Outcome → ℕ
+verdictOf (answered xs) = 0
+verdictOf (refused k) = k
+
+abbrev pub givenOf : Outcome → ℕ → ℕ
+givenOf (answered xs) i = getD xs i 0
+givenOf (refused k) i = 0
+
+-- The three words of an answer, written at place k.
+abbrev pub written : List ℕ → ℕ → Outcome → List ℕ
+written out k o = set (set (set out (3 * k) (verdictOf o)) (3 * k + 1) (givenOf o 0)) (3 * k + 2) (givenOf o 1)
+
+-- Runs the calls from place k on. It ends with the number of calls that ran: at the end of the list, at an entry that is no call, or at a call
+-- for whose answer there is no room. Later answer words stay.
+unfoldable pub runFrom : ℕ → Program → List ℕ → List ℕ → Ran × List ℕ × List ℕ
+runFrom k ended w out = (ran.All k, w, out)
+runFrom k malformed w out = (ran.Malformed k, w, out)
+runFrom k (then c rest) w out =
+    elim (leb (3 * k + 3) (length out)) [
+      | true ↦ runFrom (suc k) rest (callOf c w .1) (written out k (callOf c w .0))
+      | false ↦ (ran.NoRoom k, w, out)
+    ]
+
+abbrev pub runOf : List ℕ → List ℕ → List ℕ → Ran × List ℕ × List ℕ
+runOf list w out = runFrom 0 (programOf list) w out
+
+-- The answers of a list of calls, each on the words that the one before it left, and the words after the last.
+unfoldable pub answersOf : List Call → List ℕ → List Outcome
+answersOf [] w = []
+answersOf (c ∷ cs) w = callOf c w .0 ∷ answersOf cs (callOf c w .1)
+
+unfoldable pub afterAll : List Call → List ℕ → List ℕ
+afterAll [] w = w
+afterAll (c ∷ cs) w = afterAll cs (callOf c w .1)
+
+unfoldable pub answerWords : List Outcome → List ℕ
+answerWords [] = []
+answerWords (o ∷ os) = verdictOf o ∷ givenOf o 0 ∷ givenOf o 1 ∷ answerWords os
+
+-- A list that holds the calls cs, with room for their answers: all of them run, one after the other, and the answers written are theirs.
+abbrev pub Runs-one-after-the-other : Type 0
+Runs-one-after-the-other =
+    (list : List ℕ) (cs : List Call) (w out : List ℕ) → programOf list ≡ whole cs → 3 * length cs ≤ length out
+    → runOf list w out ≡ (ran.All (length cs), afterAll cs w, answerWords (answersOf cs w) ++ drop (3 * length cs) out)
+
+-- Every list of calls can be given so.
+abbrev pub Every-list-has-words : Type 0
+Every-list-has-words = (cs : List Call) → programOf (programWords cs) ≡ whole cs
