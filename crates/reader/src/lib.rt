@@ -36,3 +36,11 @@ pub fn next_number<'s, 'a>(r: &'s mut Reader<'a>) -> Number
     r.at = place_behind(number, r.at);
     number
 }
+
+// The number at a place of the bytes, by a reader that is laid over them there.
+pub fn number_at(bytes: &[u8], at: usize) -> Number
+    ensures { λ r. ⌜ r ≡ readAt (now (bytes .entry)) at ⌝ }
+{
+    let mut reader = reader_at(bytes, at);
+    next_number(&mut reader)
+}
