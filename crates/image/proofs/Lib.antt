@@ -4,3 +4,4 @@ pub mod Scanning
 pub mod Filling
 pub mod Loading
 pub mod Check
+pub mod Example

@@ -1,14 +1,14 @@
 -- The words that load leaves: two lists of words that hold the same image are the same pool once its cells are retained.
 use Prim.Native.Nat.{ℕ, zero, suc, _+_, _-_, _*_, _/_, _%_, _<_, _≤_}
 use native.Mathlib.Omega.{arith}
-use native.Mathlib.Decide.{decLe, decLt, ℕ-discrete}
-use mathlib.Core.Path.{_≡_, refl, sym, ap, ap₂, _∙_}
-use mathlib.Core.List.{List, []}
+use native.Mathlib.Decide.{decLe, decLt}
+use mathlib.Core.Path.{_≡_, refl, sym, ap, _∙_}
+use mathlib.Core.List.{List}
 use mathlib.Core.Bool.{Bool, true, false, cond}
 use lib.ListN.{length, getD, take, drop, set, length-set, length-drop}
 use lib.Seq.{take-all, ext-getD, getD-set-same, getD-set-other}
 use lib.Dec.{leb, ltb}
-use borrow.Author.Tests.{lt-ltb, le-ltb, le-leb, lt-leb, leb-true, eq-eqb, ne-eqb}
+use borrow.Author.Tests.{lt-ltb, le-ltb, le-leb, lt-leb, leb-true, ne-eqb}
 use Rattle.leb128.specs.Leb128.{Bytes}
 use Rattle.pool.specs.Words.{tabulate}
 use Rattle.pool.specs.Layout.{registerCount, poolLength, cellsOfLength, cellAt, count, head, register, cell, state}

@@ -1,12 +1,12 @@
 -- The states that load writes before the sweep: the turns of its loop, and what the words hold afterwards.
-use Prim.Native.Nat.{ℕ, zero, suc, _+_, _-_, _*_, _<_, _≤_}
+use Prim.Native.Nat.{ℕ, zero, suc, _-_, _<_, _≤_}
 use native.Mathlib.Omega.{arith}
 use native.Mathlib.Decide.{decLe}
-use mathlib.Core.Path.{_≡_, refl, sym, ap, _∙_}
+use mathlib.Core.Path.{_≡_, refl, _∙_}
 use mathlib.Core.List.{List}
 use lib.ListN.{length, getD}
 use lib.Seq.{getD-set-other}
-use Rattle.pool.specs.Layout.{poolLength, cellAt, cell, setCell, state}
+use Rattle.pool.specs.Layout.{poolLength, cellAt, setCell, state}
 use Rattle.pool.proofs.Laws.{length-setCell, cell-same, cell-other}
 use Rattle.image.specs.Load.{sweepState, markStates}
 

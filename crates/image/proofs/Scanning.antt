@@ -1,5 +1,5 @@
 -- An image at the start of the bytes: what is known of it where it is whole, and where it is refused.
-use Prim.Native.Nat.{ℕ, zero, suc, _+_, _<_, _≤_}
+use Prim.Native.Nat.{ℕ, zero, suc, _≤_}
 use native.Mathlib.Omega.{arith}
 use mathlib.Core.Path.{_≡_, refl, sym, ap, _∙_}
 use mathlib.Core.List.{List, [], _∷_}
@@ -51,7 +51,7 @@ pub record First (R K : ℕ) (bytes : List ℕ) (left j at : ℕ) (vs : List ℕ
   pub list : vs ≡ value ∷ others
 
 module _ (R K : ℕ) (bytes : List ℕ) where
-  fields-first : (left j at : ℕ) (vs : List ℕ) (end : ℕ) → readFields R K bytes (suc left) j at ≡ Fields.fields vs end
+  pub fields-first : (left j at : ℕ) (vs : List ℕ) (end : ℕ) → readFields R K bytes (suc left) j at ≡ Fields.fields vs end
       → First R K bytes left j at vs end
   unfolding readFields
   fields-first left j at vs end = go (fieldAt R K bytes j at) refl

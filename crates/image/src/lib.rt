@@ -66,7 +66,7 @@ fn read_field(bytes: &[u8], at: usize, k: u32, j: u32) -> Field
     ensures { λ r. ⌜ r ≡ fieldAt registerCount k (now (bytes .entry)) j at ⌝ }
 {
     bounded(
-        leb128::read_number(bytes, at),
+        reader::number_at(bytes, at),
         is_value(j),
         k,
         Refusal::LinkRange,
@@ -104,12 +104,7 @@ fn scan_image(bytes: &[u8], n: u32) -> Scan
     requires { ⌜ n ≤ cellLimit ⌝ }
     ensures { λ r. ⌜ r ≡ scanOf (readImage registerCount n (now (bytes .entry))) ⌝ }
 {
-    match bounded(
-        leb128::read_number(bytes, 0),
-        false,
-        n,
-        Refusal::TooManyCells,
-    ) {
+    match bounded(reader::number_at(bytes, 0), false, n, Refusal::TooManyCells) {
         Field::Value { value, next } => scan_fields(bytes, next, value),
         Field::Refused(why) => Scan::Refused(why),
     }

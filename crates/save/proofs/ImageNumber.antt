@@ -1,14 +1,14 @@
 -- The numbers of an image, read from the pool and the scratch.
-use Prim.Native.Nat.{ℕ, zero, suc, _+_, _-_, _*_, _/_, _%_, _<_, _≤_}
+use Prim.Native.Nat.{ℕ, zero, suc, _+_, _-_, _/_, _%_, _<_, _≤_}
 use native.Mathlib.Omega.{arith}
 use native.Mathlib.Numerals.{add-one}
-use mathlib.Core.Path.{_≡_, refl, sym, ap, _∙_}
+use mathlib.Core.Path.{_≡_, sym, _∙_}
 use mathlib.Core.List.{List, List·Memᴰ}
 use lib.ListN.{length, getD}
 use borrow.Author.Tests.{lt-ltb, le-ltb, eq-eqb, ne-eqb}
 use Rattle.graph.proofs.Lists.{getD-member}
 use Rattle.graph.proofs.Theorems.{order-reached, order-length}
-use Rattle.pool.specs.Layout.{poolLength, register, cell, left, right, graphOf, rootsOf}
+use Rattle.pool.specs.Layout.{register, cell, graphOf, rootsOf}
 use Rattle.pool.proofs.WellFormed.{Link, WellFormed, well-formed-read}
 use Rattle.pool.proofs.PoolGraph.{Used, link-bound, used-links, reached-used, pool-within}
 use Rattle.collector.specs.Collect.{reachedCells, keptCells}

@@ -4,7 +4,7 @@ use Prim.Native.Nat.{ℕ, zero, suc, _+_, _-_, _*_, _<_, _≤_}
 use native.Mathlib.Omega.{arith}
 use native.Mathlib.Numerals.{add-one}
 use native.Mathlib.Decide.{ℕ-discrete}
-use mathlib.Core.Path.{_≡_, refl, sym, ap, ap₂, subst, _∙_}
+use mathlib.Core.Path.{_≡_, refl, sym, ap, ap₂, _∙_}
 use mathlib.Core.Logic.{_⊎_, inl, inr, ⊎-elim}
 use mathlib.Core.List.{List, [], _∷_, _++_, append-nil, append-assoc, List·Memᴰ}
 use mathlib.Core.Bool.{Bool, true, false, not, _&&_}
@@ -25,7 +25,7 @@ use Rattle.pool.proofs.PoolGraph.{Used, link-bound, used-links, pool-within}
 use Rattle.collector.specs.Collect.{reachedCells, keptCells}
 use Rattle.image.specs.Image.{placeFrom, numberIn}
 use Rattle.save.specs.Steps.{isNew, Numbered}
-use Rattle.save.proofs.Numbering.{place-none, number-member, number-placed, number-last, number-other}
+use Rattle.save.proofs.Numbering.{number-member, number-placed, number-last, number-other}
 
 -- A walk whose next link is marked, and one whose next link is not.
 walk-skip : {g : Graph} {m : ℕ → ℕ} {p : ℕ} {ps t : List ℕ} → Walk g m (p ∷ ps) t → 0 < m p → Walk g m ps t

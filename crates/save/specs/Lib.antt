@@ -1,2 +1,3 @@
 pub mod Save
 pub mod Steps
+pub mod RoundTrip

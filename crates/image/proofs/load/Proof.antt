@@ -4,9 +4,8 @@ use Rattle.image.proofs.load.Statement.{statement}
 use Rattle.image.proofs.load.Tie as tie
 use Prim.Native.Nat.{_≤_}
 use native.Mathlib.Omega.{arith}
-use mathlib.Core.Path.{_≡_, sym, ap, _∙_}
+use mathlib.Core.Path.{ap}
 use lib.ListN.{length}
-use Rattle.image.specs.Load.{loadOf}
 use Rattle.image.proofs.Loading.{load-end, load-part}
 use denote.Ref.{now}
 

@@ -4,7 +4,7 @@ use Rattle.image.proofs.mark_first.Statement.{statement}
 use Rattle.image.proofs.mark_first.Tie as tie
 use Prim.Native.Nat.{_≤_}
 use native.Mathlib.Omega.{arith}
-use mathlib.Core.Path.{_≡_, refl, sym, ap, _∙_}
+use mathlib.Core.Path.{_≡_, refl, _∙_}
 use lib.ListN.{length}
 use Rattle.pool.specs.Layout.{registerCount}
 use Rattle.image.specs.Load.{markStates}

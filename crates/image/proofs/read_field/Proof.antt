@@ -4,8 +4,8 @@ use Rattle.image.proofs.read_field.Statement.{statement}
 use Rattle.image.proofs.read_field.Tie as tie
 use mathlib.Core.Path.{_∙_}
 
-read-number-requires : tie.Need-read-number-requires
-read-number-requires c κs = search needs
+number-at-requires : tie.Need-number-at-requires
+number-at-requires c κs = search needs
 
 is-value-requires : tie.Need-is-value-requires
 is-value-requires c κs = search needs
@@ -14,7 +14,7 @@ bounded-requires : tie.Need-bounded-requires
 bounded-requires c κs = search needs
 
 returns : tie.Need-returns
-returns c = c .bounded .ensures ∙ rw (c .before .is-value .ensures, c .before .before .read-number .ensures)
+returns c = c .bounded .ensures ∙ rw (c .before .is-value .ensures, c .before .before .number-at .ensures)
 
 pub read-field-spec : {M : Type 1} → statement M
-read-field-spec = tie.close (tie.spec read-number-requires is-value-requires bounded-requires returns)
+read-field-spec = tie.close (tie.spec number-at-requires is-value-requires bounded-requires returns)

@@ -6,7 +6,7 @@ use Prim.Native.Nat.{_≤_, _-_}
 use native.Mathlib.Omega.{arith}
 use mathlib.Core.Path.{_≡_}
 use Rattle.pool.specs.Layout.{registerCount}
-use Rattle.image.specs.Image.{Fields, fieldCount, readFields, withFields}
+use Rattle.image.specs.Image.{fieldCount, readFields, withFields}
 use Rattle.image.specs.Load.{scanOf}
 use Rattle.image.proofs.Fields.{scan-first, scan-value, scan-refused, scan-last}
 

@@ -12,10 +12,10 @@ use Rattle.image.proofs.Scanning.{count-few, image-fields, image-refuse
 
 -- what is read for K
 count-read : (c : tie.After-bounded) → let a = c .before .before .before .args in c .bounded .result ≡ countAt (a .n) (now (a .bytes))
-count-read c = c .bounded .ensures ∙ rw (c .before .read-number .ensures)
+count-read c = c .bounded .ensures ∙ rw (c .before .number-at .ensures)
 
-read-number-requires : tie.Need-read-number-requires
-read-number-requires c κs = search needs
+number-at-requires : tie.Need-number-at-requires
+number-at-requires c κs = search needs
 
 bounded-requires : tie.Need-bounded-requires
 bounded-requires c κs = search needs
@@ -45,7 +45,7 @@ pub scan-image-spec : {M : Type 1} → statement M
 scan-image-spec =
     tie.close
     (tie.spec
-    read-number-requires
+    number-at-requires
     bounded-requires
     enum-known-value
     scan-fields-requires

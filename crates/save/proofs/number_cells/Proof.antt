@@ -1,11 +1,10 @@
 -- `save::number_cells` meets its contract: each turn is one of the depth-first walk (`Turn`). The cells without a number, twice, the links on the
 -- stack and the registers to come fall.
-use borrow.Author.Needs.{needs}
 use Rattle.save.proofs.number_cells.Statement.{statement}
 use Rattle.save.proofs.number_cells.Tie as tie
-use Prim.Native.Nat.{ℕ, _+_, _-_, _*_, _<_}
+use Prim.Native.Nat.{_+_, _-_, _*_, _<_}
 use native.Mathlib.Omega.{arith}
-use lib.ListN.{length, length-set}
+use lib.ListN.{length-set}
 use Rattle.pool.specs.Layout.{registerCount}
 use Rattle.save.proofs.Turns.{Turn, Bounds, turn-first, turn-bounds, turn-room, turn-take, turn-pop, turn-root, turn-end}
 use denote.Ref.{now}

@@ -3,7 +3,7 @@ use borrow.Author.Needs.{needs}
 use Rattle.save.proofs.order_cells.Statement.{statement}
 use Rattle.save.proofs.order_cells.Tie as tie
 use native.Mathlib.Omega.{arith}
-use mathlib.Core.Path.{_≡_, _∙_}
+use mathlib.Core.Path.{_∙_}
 use lib.ListN.{length}
 use Rattle.pool.specs.Layout.{registerCount}
 use Rattle.save.specs.Steps.{Savable}

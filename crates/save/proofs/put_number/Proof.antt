@@ -2,7 +2,6 @@
 use borrow.Author.Needs.{needs}
 use Rattle.save.proofs.put_number.Statement.{statement}
 use Rattle.save.proofs.put_number.Tie as tie
-use native.Mathlib.Omega.{arith}
 use Rattle.save.proofs.ImageBytes.{put-next, put-none}
 
 write-number-requires : tie.Need-write-number-requires

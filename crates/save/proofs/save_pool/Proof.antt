@@ -5,7 +5,7 @@ use Rattle.save.proofs.save_pool.Tie as tie
 use native.Mathlib.Omega.{arith}
 use mathlib.Core.Path.{ap, _∙_}
 use Prim.Native.Nat.{ℕ}
-use lib.ListN.{length, replicate}
+use lib.ListN.{replicate}
 use Rattle.pool.specs.Layout.{registerCount}
 use Rattle.image.specs.Image.{imageOf}
 use Rattle.save.proofs.Saving.{savable-length, save-short, save-written}

@@ -1,0 +1,31 @@
+-- Images of two cells, worked out by hand, with two registers for brevity.
+use Prim.Native.Nat.{ℕ}
+use mathlib.Core.Path.{_≡_}
+use mathlib.Core.List.{List, [], _∷_}
+use Rattle.pool.specs.declared.Refusal.the-variants as refusal
+use Rattle.image.specs.Image.{imageOf, Image, readImage}
+
+-- Register 0 holds cell 2, which leads left to itself and right to cell 1 and has the value 300; cell 1 has no links and the value 7.
+abbrev pub two-cells : List ℕ
+two-cells = 2 ∷ 0 ∷ 2 ∷ 0 ∷ 0 ∷ 0 ∷ 0 ∷ 7 ∷ 0 ∷ 2 ∷ 1 ∷ 300 ∷ []
+
+-- Cell 2 is visited first, so it is 1 in the image, and cell 1 is 2. 300 takes two bytes: 172, 2 (AC 02).
+abbrev pub two-cells-image : List ℕ
+two-cells-image = 2 ∷ 1 ∷ 0 ∷ 1 ∷ 2 ∷ 172 ∷ 2 ∷ 0 ∷ 0 ∷ 7 ∷ []
+
+abbrev pub Image-example : Type 0
+Image-example = imageOf 2 2 two-cells ≡ two-cells-image
+
+-- It is read back; with the last byte missing it is refused, and so is it for a pool of one cell, even if nothing follows K.
+abbrev pub Read-example : Type 0
+Read-example = readImage 2 2 two-cells-image ≡ Image.image 2 1 (1 ∷ 0 ∷ 1 ∷ 2 ∷ 300 ∷ 0 ∷ 0 ∷ 7 ∷ []) 10
+
+abbrev pub Truncated-example : Type 0
+Truncated-example = readImage 2 2 (2 ∷ 1 ∷ 0 ∷ 1 ∷ 2 ∷ 172 ∷ 2 ∷ 0 ∷ 0 ∷ []) ≡ Image.fault refusal.Truncated
+
+abbrev pub TooManyCells-example : Type 0
+TooManyCells-example = readImage 2 1 (2 ∷ []) ≡ Image.fault refusal.TooManyCells
+
+-- A link of K + 1 is refused, though the pool has room for more cells; the fault that comes first decides.
+abbrev pub LinkRange-example : Type 0
+LinkRange-example = readImage 2 9 (2 ∷ 3 ∷ 128 ∷ []) ≡ Image.fault refusal.LinkRange

@@ -1,0 +1,138 @@
+-- The proofs of the statements in `specs/RoundTrip`.
+use Prim.Native.Nat.{ℕ, zero, suc, _+_, _*_, _<_, _≤_, _^_}
+use native.Mathlib.Omega.{arith}
+use mathlib.Core.Path.{_≡_, refl, sym, ap, _∙_}
+use mathlib.Core.List.{List, _∷_, _++_}
+use lib.ListN.{length, getD, drop}
+use lib.Seq.{drop-append-seam}
+use borrow.Author.Tests.{lt-ltb}
+use Rattle.graph.specs.Theorems.{Distinct}
+use Rattle.graph.proofs.Theorems.{order-distinct, order-length}
+use Rattle.leb128.specs.Leb128.{encode}
+use Rattle.pool.specs.Words.{tabulate}
+use Rattle.pool.specs.Layout.{registerCount, cellLimit, cellsOfLength, cellsOf, cell, graphOf, rootsOf}
+use Rattle.pool.proofs.Every.{length-tabulate, getD-tabulate, tabulate-list, tabulate-member}
+use Rattle.pool.proofs.Questions.{length-sized, cells-sized}
+use Rattle.pool.proofs.WellFormed.{WellFormed, well-formed-read, well-formed-made}
+use Rattle.pool.proofs.PoolGraph.{pool-within}
+use Rattle.collector.specs.Collect.{reachedCells, keptCells}
+use Rattle.image.specs.declared.Loaded.{Loaded}
+use Rattle.image.specs.Image.{numberIn, fieldCount, savedField, encodeAll, imageOf, Image, readImage}
+use Rattle.image.specs.Load.{scanOf, loadedWords, loadOf}
+use Rattle.image.proofs.Scanning.{Whole, image-whole}
+use Rattle.save.specs.RoundTrip.{Words, Renumbered, Restored, SaveThenLoad, LoadThenSave}
+use Rattle.save.proofs.Numbering.{place-none, number-at}
+use Rattle.save.proofs.Decoding.{Allowed, image-encoded, fields-allowed}
+use Rattle.save.proofs.Restored.{loaded-register, loaded-cell, loaded-cells, loaded-free, loaded-well-formed, register-most, link-most}
+use Rattle.save.proofs.SavedFields.{Field, field, field-register, field-value, field-link, savedFields, saved-length, saved-at, saved-small}
+use Rattle.save.proofs.Renumbering as renumbering
+
+-- Save of loaded words whose cells are visited as 1, 2, .. writes the numbers that were loaded.
+module _ (R m K : ℕ) (vs : List ℕ) (few : K ≤ m) (size : length vs ≡ fieldCount R K)
+    (allowed : (j : ℕ) → j < fieldCount R K → Allowed R K j (getD vs j 0))
+    (visited : reachedCells R m (loadedWords R m K vs) ≡ tabulate K suc) where
+  abbrev pool : List ℕ
+  pool = loadedWords R m K vs
+
+  counted : Distinct (tabulate K suc)
+  counted =
+      rw visited at (order-distinct m (graphOf R pool) (rootsOf R pool) (pool-within (loaded-well-formed R m K vs few allowed)))
+
+  -- Each cell's number is its own.
+  own-number : (x : ℕ) → x ≤ K → numberIn (tabulate K suc) x ≡ x
+  own-number zero h = place-none 1 (tabulate K suc) 0 (λ mem. omega (arith, tabulate-member K suc 0 mem .2))
+  own-number (suc i) h =
+      sym (ap (numberIn (tabulate K suc)) (getD-tabulate K suc i 0 h)) ∙ number-at counted i (omega (arith, length-tabulate K suc))
+
+  cell-at : (p f : ℕ) → p < K → f < 3 → cell R pool (getD (tabulate K suc) p 0) (suc f) ≡ getD vs (R + 3 * p + f) 0
+  cell-at p f below hf = ap (λ (x : ℕ). cell R pool x (suc f)) (getD-tabulate K suc p 0 below) ∙ loaded-cell R m K vs few p f below hf
+
+  number-same : (j : ℕ) → Field R K j → getD vs j 0 ≡ savedField R pool (tabulate K suc) j
+  number-same j (Field.of-register k low) =
+      sym (field-register R pool (tabulate K suc) k low
+      ∙ (ap (numberIn (tabulate K suc)) (loaded-register R m K vs few k low) ∙ own-number _ (register-most R m K vs few allowed k low)))
+  number-same j (Field.of-value p below) = sym (field-value R pool (tabulate K suc) p ∙ cell-at p 2 below (omega arith))
+  number-same j (Field.of-link p f below hf) =
+      sym (field-link R pool (tabulate K suc) p f hf
+      ∙ (ap (numberIn (tabulate K suc)) (cell-at p f below (omega arith)) ∙ own-number _ (link-most R m K vs few allowed p f below hf)))
+
+  pub saved-again : imageOf R m pool ≡ encodeAll (K ∷ vs)
+  saved-again =
+      let long : length (tabulate K suc) ≡ K = length-tabulate K suc in
+      let same : tabulate (fieldCount R K) (savedField R pool (tabulate K suc)) ≡ vs =
+      sym (tabulate-list (fieldCount R K) (savedField R pool (tabulate K suc)) vs size (λ j below. number-same j (field R K j below))) in
+      rw (visited, long) (ap (λ (l : List ℕ). encodeAll (K ∷ l)) same)
+
+pub load-then-save : LoadThenSave
+load-then-save m bytes K start vs end e visited =
+    let i = image-whole registerCount m bytes K start end (ap scanOf e) in
+    let same : i .numbers ≡ vs = cc in
+    saved-again registerCount m K vs (i .few) (ap length (sym same) ∙ i .size)
+    (λ j below. rw same at (allowed i j below)) visited
+  where
+    allowed : (i : Whole registerCount m bytes K start end) (j : ℕ) → j < fieldCount registerCount K → Allowed registerCount K j (getD (i .numbers) j 0)
+    allowed i j below =
+        let this : 0 + j ≡ j = omega arith in
+        rw this at (fields-allowed registerCount K bytes (fieldCount registerCount K) 0 start (i .numbers) end (i .fields) j below)
+
+-- The image of the pool w of n cells, loaded into a pool of m cells.
+module _ (n : ℕ) (w : List ℕ) (m : ℕ) (few : keptCells registerCount n w ≤ m) (most : n ≤ cellLimit) (well : WellFormed registerCount n w)
+    (word : Words w) where
+  abbrev K : ℕ
+  K = keptCells registerCount n w
+
+  abbrev fields : List ℕ
+  fields = savedFields registerCount w (reachedCells registerCount n w)
+
+  small : K < 2 ^ 32
+  small = omega (arith, order-length n (graphOf registerCount w) (rootsOf registerCount w) (pool-within well))
+
+  size : length fields ≡ fieldCount registerCount K
+  size = saved-length registerCount w (reachedCells registerCount n w)
+
+  image-read : (behind : List ℕ)
+      → readImage registerCount m (imageOf registerCount n w ++ behind) ≡ Image.image K (length (encode K)) fields (length (imageOf registerCount n w))
+  image-read behind =
+      image-encoded registerCount m K fields behind few small size
+      (λ j below.
+      let within : j < fieldCount registerCount K = rw size at below in
+      rw (saved-at registerCount w (reachedCells registerCount n w) j within)
+      (saved-small registerCount w (reachedCells registerCount n w) word small j (field registerCount K j within)))
+      (λ j below. renumbering.fields-allowed registerCount n w m few j (rw size at below))
+
+  renumbered : Renumbered n w m (loadedWords registerCount m K fields)
+  renumbered =
+      record {
+        registers = renumbering.renumbered-register registerCount n w m few;
+        lefts = λ i below. renumbering.renumbered-link registerCount n w m few i 0 below (omega arith);
+        rights = λ i below. renumbering.renumbered-link registerCount n w m few i 1 below (omega arith);
+        values = renumbering.renumbered-value registerCount n w m few;
+        order = renumbering.renumbered-order registerCount n w m few well;
+      }
+
+  restored : (behind : List ℕ) → 1 ≤ m → m ≤ cellLimit → (loaded : Loaded × List ℕ)
+      → loaded ≡ (record { verdict = 0; end = length (imageOf registerCount n w) }, loadedWords registerCount m K fields)
+      → Restored n w m (loaded .0 .verdict) (drop (loaded .0 .end) (imageOf registerCount n w ++ behind)) behind (loaded .1)
+  restored behind low high loaded is =
+      let allowed = renumbering.fields-allowed registerCount n w m few in
+      rw is
+      (record {
+        accepted = refl;
+        part = drop-append-seam (imageOf registerCount n w) behind;
+        cells = loaded-cells registerCount m K fields few low high;
+        well-formed = well-formed-made registerCount m _ (loaded-well-formed registerCount m K fields few allowed);
+        renumbered = renumbered;
+        kept = ap length (renumbered .order) ∙ length-tabulate K suc;
+        free = loaded-free registerCount m K fields few low;
+        again = saved-again registerCount m K fields few size allowed (renumbered .order);
+      })
+
+pub save-then-load : SaveThenLoad
+save-then-load w words behind word some whole room few =
+    let n = cellsOf registerCount w in
+    let m = cellsOfLength registerCount (length words) in
+    let well = well-formed-read registerCount n w whole in
+    let most = cells-sized registerCount w some .0 .most in
+    let sized = length-sized registerCount (length words) room in
+    restored n w m few most well word behind (sized .least) (sized .most) (loadOf words (imageOf registerCount n w ++ behind))
+    (simp (lt-ltb 0 m room, image-read n w m few most well word behind))
