@@ -1,0 +1,6 @@
+pub mod Fresh
+pub mod Going
+pub mod Chain
+pub mod Cleared
+pub mod Members
+pub mod Simulation
