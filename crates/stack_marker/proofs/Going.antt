@@ -15,7 +15,7 @@ use Rattle.graph.specs.Dfs.{marks}
 use Rattle.stack_marker.specs.Stack.{isFresh, onward, holding, run, start, runs, stackRun}
 use Rattle.stack_marker.specs.StackRun.{Linked}
 use Rattle.stack_marker.specs.StackTheorem.{Stack-ends, Stack-marks-the-reached, Stack-bound}
-use Rattle.stack_marker.proofs.Fresh.{fresh-true, fresh-false, count, count-more, Onward, onward-facts}
+use Rattle.stack_marker.proofs.Fresh.{fresh-true, fresh-false, count, count-more, Passing, passing}
 
 -- Between two turns: what is marked is reached, what is pending is marked, and so are the links of every marked cell that is not pending; there are no
 -- more cells pending than marked.
@@ -72,16 +72,16 @@ module _ {n : ℕ} {g : Graph} {roots : List ℕ} (within : Within n g roots) wh
   module _ {seen stack : List ℕ} {p : ℕ} (s : Going n g roots seen (p ∷ stack)) where
     links-reached : Each (Reach g roots) (onward g seen p)
     links-reached x mem =
-        let f = onward-facts g seen p in
-        let some = fresh-true seen x (f .fresh x mem) .0 in
+        let f = passing (isFresh seen) (g .left p) (g .right p) in
+        let some = fresh-true seen x (f .passes x mem) .0 in
         let reached : Reach g roots p = s .cells p (s .held p (List·Memᴰ·head refl)) in
         ⊎-elim (λ e. rw e (Reach.left reached (rw e at some))) (λ e. rw e (Reach.right reached (rw e at some))) (f .links x mem)
 
     sizes : (length (onward g seen p ++ stack) ≤ count n (seen ++ onward g seen p))
         × (weight n (seen ++ onward g seen p) (onward g seen p ++ stack) ≤ weight n seen stack)
     sizes =
-        let f = onward-facts g seen p in
-        pend seen stack (onward g seen p) links-reached (f .fresh) (f .short) (omega (arith, s .few)) (omega (arith, s .few, f .short))
+        let f = passing (isFresh seen) (g .left p) (g .right p) in
+        pend seen stack (onward g seen p) links-reached (f .passes) (f .short) (omega (arith, s .few)) (omega (arith, s .few, f .short))
 
     pub turn : Going n g roots (seen ++ onward g seen p) (onward g seen p ++ stack)
     turn =
@@ -89,8 +89,8 @@ module _ {n : ℕ} {g : Graph} {roots : List ℕ} (within : Within n g roots) wh
         (λ x mem. ⊎-elim (λ k. ⊎-elim (λ e. inr (rw e linked)) inl (List·Memᴰ·cases-cons k)) (λ k. inr (kept k)) (s .closed x mem))
         links-reached (sizes .0)
       where
-        f : Onward g seen p (onward g seen p)
-        f = onward-facts g seen p
+        f : Passing (isFresh seen) (g .left p) (g .right p) (onward g seen p)
+        f = passing (isFresh seen) (g .left p) (g .right p)
 
         kept : {x : ℕ} → Linked g seen x → Linked g (seen ++ onward g seen p) x
         kept k = (λ h. Memᴰ·append-left (onward g seen p) (k .0 h), λ h. Memᴰ·append-left (onward g seen p) (k .1 h))

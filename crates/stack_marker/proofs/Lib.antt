@@ -4,3 +4,4 @@ pub mod Chain
 pub mod Cleared
 pub mod Members
 pub mod Simulation
+pub mod HandLoop

@@ -32,13 +32,13 @@ pub record Settled (g : Graph) (roots seen : List ℕ) : Type 0 where
   pub cells : (x : ℕ) → List·Memᴰ x seen → Reach g roots x
   pub closed : (x : ℕ) → List·Memᴰ x seen → Linked g seen x
 
--- What a run from the link p may rely on: the words w are those of a well-formed pool of n cells in which some cells are marked, and p is a cell that
--- is reached and not marked.
+-- What a run from the cell p may rely on: the words w are those of a well-formed pool of n cells in which some cells are marked, and then p, a cell
+-- that is reached and was not marked.
 pub record Started (R n p : ℕ) (w : List ℕ) : Type 0 where
   pub pool : List ℕ
   pub seen : List ℕ
   pub well : wellFormed R n pool ≡ true
-  pub words : w ≡ markAll R pool seen
+  pub words : w ≡ markAll R pool (seen ++ p ∷ [])
   pub settled : Settled (graphOf R pool) (rootsOf R pool) seen
   pub reached : Reach (graphOf R pool) (rootsOf R pool) p
   pub fresh : isFresh seen p ≡ true

@@ -6,7 +6,7 @@ ghost use Prim.Native.Nat.{_<_, _≤_};
 ghost use lib.ListN.{length};
 ghost use Rattle.pool.specs.Layout.{registerCount, poolLength, left, right};
 ghost use Rattle.stack_marker.specs.StackCollect.{stackOutcome, stackOf, cleared};
-ghost use Rattle.stack_marker.specs.StackRun.{linksOf, onwardIn};
+ghost use Rattle.stack_marker.specs.StackRun.{linksOf, onwardIn, Started, runFrom, Ran};
 
 // What a collection with a lent stack answers.
 pub enum StackCollection {
@@ -38,6 +38,42 @@ fn look(words: &[u32], n: u32, p: u32) -> Onward
         Onward::To(right)
     } else {
         Onward::Nowhere
+    }
+}
+
+// Marks from a cell in hand that was just marked, with the entries of the stack in the lent words, until the stack is empty. Was the stack enough?
+// Where it is not, some cells are left marked.
+fn mark_from(words: &mut [u32], n: u32, stack: &mut [u32], p: u32) -> bool
+    requires { ⌜ Started registerCount n p (now words) ⌝ }
+    requires { ⌜ poolLength registerCount n ≤ length (now words) ⌝ }
+    ensures { λ r. ⌜ ((h : Started registerCount n p (now (words .entry))) → Ran registerCount n (length (now (stack .entry))) (h .pool) (now (words .exit)) (runFrom registerCount n p (now (words .entry)) h) r) ⌝ }
+{
+    let mut hand = p;
+    let mut top = 0;
+    loop {
+        match look(words, n, hand) {
+            Onward::Both(left, right) => {
+                if top == stack.len() {
+                    return false;
+                }
+                pool::write_cell(words, left, Pool::STATE, Pool::MARKED);
+                pool::write_cell(words, right, Pool::STATE, Pool::MARKED);
+                stack[top] = right;
+                top += 1;
+                hand = left;
+            }
+            Onward::To(x) => {
+                pool::write_cell(words, x, Pool::STATE, Pool::MARKED);
+                hand = x;
+            }
+            Onward::Nowhere => {
+                if top == 0 {
+                    return true;
+                }
+                top -= 1;
+                hand = stack[top];
+            }
+        }
     }
 }
 
