@@ -5,3 +5,4 @@ pub mod Cleared
 pub mod Members
 pub mod Simulation
 pub mod HandLoop
+pub mod RootLoop

@@ -57,7 +57,7 @@ entries-pop words zero h = absurd (omega arith)
 entries-pop words (suc top) h = let less : suc top - 1 ≡ top = omega arith in rw less
 
 -- where nothing is pending the run has ended
-run-none : (turns : ℕ) (g : Graph) (seen : List ℕ) → run turns g seen [] ≡ (seen, 0)
+pub run-none : (turns : ℕ) (g : Graph) (seen : List ℕ) → run turns g seen [] ≡ (seen, 0)
 unfolding run
 run-none zero g seen = refl
 run-none (suc turns) g seen = refl
@@ -74,7 +74,7 @@ pub record Running (R n : ℕ) (pool : List ℕ) (lent : ℕ) (end : List ℕ ×
   pub deep : leb (end .1) lent ≡ leb (run turns (graphOf R pool) seen pending .1) lent
 
 -- an upper bound of both is one of the greater
-leb-max : (a b lent : ℕ) → a ≤ lent → leb (max a b) lent ≡ leb b lent
+pub leb-max : (a b lent : ℕ) → a ≤ lent → leb (max a b) lent ≡ leb b lent
 leb-max a b lent h = go (leb b lent) refl
   where
     go : (t : Bool) → leb b lent ≡ t → leb (max a b) lent ≡ t

@@ -8,7 +8,7 @@ use Rattle.graph.specs.Graph.{Graph, Reach}
 use Rattle.pool.specs.Layout.{left, right, graphOf, rootsOf}
 use Rattle.pool.specs.Validity.{wellFormed}
 use Rattle.collector.specs.Reversal.{unmarked, markAll}
-use Rattle.stack_marker.specs.Stack.{isFresh, unmarkedLinks, run}
+use Rattle.stack_marker.specs.Stack.{isFresh, unmarkedLinks, run, stackRun}
 use Rattle.stack_marker.specs.StackCollect.{cleared}
 use Rattle.stack_marker.specs.declared.Onward.{Onward}
 use Rattle.stack_marker.specs.declared.Onward.the-variants as onward
@@ -46,6 +46,10 @@ pub record Started (R n p : ℕ) (w : List ℕ) : Type 0 where
 -- The run from p with an unlimited stack.
 abbrev pub runFrom : (R n p : ℕ) (w : List ℕ) → Started R n p w → List ℕ × ℕ
 runFrom R n p w h = run (2 * n) (graphOf R (h .pool)) (h .seen ++ p ∷ []) (p ∷ [])
+
+-- The run from the registers of a pool, with an unlimited stack.
+abbrev pub poolRun : ℕ → ℕ → List ℕ → List ℕ × ℕ
+poolRun R n w = stackRun n (graphOf R w) (rootsOf R w)
 
 -- What a marker with `room` words of stack comes to, where `end` is what it comes to with an unlimited stack: the stack is enough exactly where that
 -- never holds more entries; then the same cells are marked, and otherwise clearing the marks gives the pool back.

@@ -4,9 +4,12 @@ use pool::Refusal;
 ghost use mathlib.Core.Path.{_≡_};
 ghost use Prim.Native.Nat.{_<_, _≤_};
 ghost use lib.ListN.{length};
-ghost use Rattle.pool.specs.Layout.{registerCount, poolLength, left, right};
-ghost use Rattle.stack_marker.specs.StackCollect.{stackOutcome, stackOf, cleared};
-ghost use Rattle.stack_marker.specs.StackRun.{linksOf, onwardIn, Started, runFrom, Ran};
+ghost use mathlib.Core.Bool.{true};
+ghost use Rattle.pool.specs.Layout.{registerCount, cellLimit, poolLength, left, right};
+ghost use Rattle.pool.specs.Validity.{wellFormed};
+ghost use Rattle.collector.specs.ReversalTheorem.{markedOf};
+ghost use Rattle.stack_marker.specs.StackCollect.{isEnough, stackOutcome, stackIn, stackOf, cleared};
+ghost use Rattle.stack_marker.specs.StackRun.{linksOf, onwardIn, Started, runFrom, poolRun, Ran};
 
 // What a collection with a lent stack answers.
 pub enum StackCollection {
@@ -91,4 +94,65 @@ fn clear_marks(words: &mut [u32], n: u32)
             i -= 1;
         }
     }
+}
+
+// Marks from every register in order. Was the stack enough? Where it is not, some cells are left marked.
+fn mark_registers(words: &mut [u32], n: u32, stack: &mut [u32]) -> bool
+    requires { ⌜ (wellFormed registerCount n (now words) ≡ true) × (poolLength registerCount n ≤ length (now words)) ⌝ }
+    ensures { λ r. ⌜ Ran registerCount n (length (now (stack .entry))) (now (words .entry)) (now (words .exit)) (poolRun registerCount n (now (words .entry))) r ⌝ }
+{
+    let mut k = 0;
+    while k < Pool::REGISTERS {
+        let p = pool::read_register(words, k);
+        if collector::is_unmarked(words, p) {
+            pool::write_cell(words, p, Pool::STATE, Pool::MARKED);
+            if mark_from(words, n, stack, p) {
+                k += 1;
+            } else {
+                return false;
+            }
+        } else {
+            k += 1;
+        }
+    }
+    true
+}
+
+// Marks every cell that the registers reach, with the lent stack where it is enough, and otherwise by reversal, which starts anew. Was it enough?
+fn mark(words: &mut [u32], n: u32, stack: &mut [u32]) -> bool
+    requires { ⌜ (wellFormed registerCount n (now words) ≡ true) × (poolLength registerCount n ≤ length (now words)) × (n ≤ cellLimit) ⌝ }
+    ensures { λ r. ⌜ (r ≡ isEnough n (now (words .entry)) (now (stack .entry))) × (now (words .exit) ≡ markedOf registerCount n (now (words .entry)) .1) ⌝ }
+{
+    if mark_registers(words, n, stack) {
+        return true;
+    }
+    clear_marks(words, n);
+    collector::mark(words, n);
+    false
+}
+
+// Marks and sweeps a pool of n cells, and sets the lent words to 0.
+fn collect_in(words: &mut [u32], n: u32, stack: &mut [u32]) -> StackCollection
+    requires { ⌜ (poolLength registerCount n ≤ length (now words)) × (n ≤ cellLimit) ⌝ }
+    ensures { λ r. ⌜ (stackOutcome r, now (words .exit), now (stack .exit)) ≡ stackIn n (now (words .entry)) (now (stack .entry)) ⌝ }
+{
+    if pool::well_formed(words, n) {
+        let enough = mark(words, n, stack);
+        let kept = pool::sweep(words, n);
+        pool::clear(stack);
+        StackCollection::Kept { kept, enough }
+    } else {
+        StackCollection::Refused(Refusal::Malformed)
+    }
+}
+
+// Collects with a lent stack: the pool ends as after `collect`, and the lent words end 0.
+pub fn collect_stack(words: &mut [u32], stack: &mut [u32]) -> StackCollection
+    ensures { λ r. ⌜ (stackOutcome r, now (words .exit), now (stack .exit)) ≡ stackOf (now (words .entry)) (now (stack .entry)) ⌝ }
+{
+    let n = pool::cells(words);
+    if n == 0 {
+        return StackCollection::Refused(Refusal::Size);
+    }
+    collect_in(words, n, stack)
 }
