@@ -1,15 +1,15 @@
 -- The marker with a stack that has no limit: it ends, marks what is reached, and never holds more than n - 1 entries.
-use Prim.Native.Nat.{ℕ, zero, suc, _+_, _*_, _-_, _<_, _≤_, max}
+use Prim.Native.Nat.{ℕ, zero, suc, _+_, _*_, _-_, _<_, _≤_}
 use native.Mathlib.Omega.{arith}
-use mathlib.Core.Path.{_≡_, refl, sym, ap, _∙_}
+use mathlib.Core.Path.{_≡_, refl, ap}
 use mathlib.Core.Logic.{_⊎_, inl, inr, ⊎-elim}
-use mathlib.Core.List.{List, [], _∷_, _++_, append-nil, List·Memᴰ, List·Memᴰ·head, List·Memᴰ·tail, List·Memᴰ·not-nil, List·Memᴰ·cases-cons, List·Memᴰ·append-cases, List·Memᴰ·eq-of-singleton, Memᴰ·append-left, Memᴰ·append-right}
+use mathlib.Core.List.{List, [], _∷_, _++_, append-nil, List·Memᴰ, List·Memᴰ·head, List·Memᴰ·tail, List·Memᴰ·not-nil, List·Memᴰ·cases-cons, List·Memᴰ·append-cases, Memᴰ·append-left, Memᴰ·append-right}
 use mathlib.Core.Bool.{Bool, true, false, cond}
 use lib.ListN.{length, length-append}
 use Rattle.graph.specs.Graph.{Graph, Reach, Within}
 use Rattle.graph.proofs.Lists.{Each, each-nil, each-cons, each-append}
 use Rattle.graph.proofs.Reached.{reach-least, reach-within}
-use Rattle.graph.proofs.Count.{marked-le, marked-outside}
+use Rattle.graph.proofs.Count.{marked-le}
 use Rattle.graph.specs.Marking.{outside}
 use Rattle.graph.specs.Dfs.{marks}
 use Rattle.stack_marker.specs.Stack.{isFresh, onward, holding, run, start, runs, stackRun}

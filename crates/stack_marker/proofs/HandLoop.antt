@@ -1,9 +1,9 @@
 -- The loop that takes one cell after the other in hand: what it keeps, and that it ends.
-use Prim.Native.Nat.{ℕ, zero, suc, _+_, _*_, _-_, _<_, _≤_}
+use Prim.Native.Nat.{ℕ, suc, _+_, _*_, _-_, _<_, _≤_}
 use native.Mathlib.Omega.{arith}
-use mathlib.Core.Path.{_≡_, refl, sym, ap, subst, _∙_}
+use mathlib.Core.Path.{_≡_, refl, sym, ap, _∙_}
 use mathlib.Core.Logic.{inr}
-use mathlib.Core.List.{List, [], _∷_, _++_, List·Memᴰ, List·Memᴰ·head, List·Memᴰ·tail, List·Memᴰ·not-nil, Memᴰ·append-left}
+use mathlib.Core.List.{List, [], _∷_, _++_, List·Memᴰ, List·Memᴰ·head}
 use mathlib.Core.Bool.{Bool, true, false, true≢false, false≢true, cond, _&&_, not}
 use lib.ListN.{length, getD, set, length-set}
 use lib.Dec.{leb, eqb}
@@ -12,7 +12,6 @@ use Rattle.graph.specs.Graph.{Graph}
 use Rattle.graph.specs.Marking.{marked}
 use Rattle.graph.proofs.Lists.{has-member, member-has, each-nil}
 use Rattle.graph.specs.Order.{has}
-use Rattle.graph.proofs.Reached.{reach-above, reach-within}
 use Rattle.graph.proofs.Count.{marked-le}
 use Rattle.pool.specs.Layout.{poolLength, setCell, left, right, state, graphOf, rootsOf}
 use Rattle.pool.proofs.WellFormed.{WellFormed, well-formed-read}
@@ -21,7 +20,6 @@ use Rattle.pool.proofs.PoolGraph.{pool-within}
 use Rattle.collector.specs.Reversal.{unmarked, markAll}
 use Rattle.collector.proofs.MarkAll.{length-markAll, state-markAll-same, state-markAll-other}
 use Rattle.collector.proofs.PoolMarks.{stateMarks, stateMarks-cell}
-use Rattle.stack_marker.specs.Stack.{start}
 use Rattle.stack_marker.specs.StackRun.{onwardIn, Settled, Started, runFrom, Ran}
 use Rattle.stack_marker.proofs.Fresh.{marked-more, Passing, passing}
 use Rattle.stack_marker.proofs.Going.{Going, weight-most, begin}

@@ -6,3 +6,4 @@ pub mod Members
 pub mod Simulation
 pub mod HandLoop
 pub mod RootLoop
+pub mod StackSweep

@@ -1,29 +1,27 @@
 -- The loop over the registers: it makes the runs of the definition, in the order of the registers.
-use Prim.Native.Nat.{ℕ, suc, _+_, _*_, _<_, _≤_, max}
+use Prim.Native.Nat.{ℕ, _+_, _*_, _<_, _≤_, max}
 use native.Mathlib.Omega.{arith}
 use native.Mathlib.Numerals.{add-one}
-use mathlib.Core.Path.{_≡_, refl, sym, ap, ap₂, _∙_}
+use mathlib.Core.Path.{_≡_, refl, sym, ap, _∙_}
 use mathlib.Core.Logic.{⊎-elim}
-use mathlib.Core.List.{List, [], _∷_, _++_, append-nil, List·Memᴰ, List·Memᴰ·not-nil}
+use mathlib.Core.List.{List, [], _∷_, _++_, append-nil, List·Memᴰ·not-nil}
 use mathlib.Core.Bool.{Bool, true, false, true≢false, false≢true}
 use lib.ListN.{length, drop}
 use lib.Seq.{drop-cons, drop-length}
 use lib.Dec.{leb}
 use borrow.Author.Tests.{le-leb, lt-leb, leb-true, leb-false}
 use Rattle.graph.specs.Graph.{Graph, Reach}
-use Rattle.graph.proofs.Reached.{reach-above, reach-within}
 use Rattle.pool.specs.Layout.{poolLength, register, setCell, graphOf, rootsOf}
 use Rattle.pool.specs.Validity.{wellFormed}
 use Rattle.pool.proofs.Every.{length-tabulate, getD-tabulate, member-tabulate}
 use Rattle.pool.proofs.WellFormed.{WellFormed, well-formed-read}
-use Rattle.pool.proofs.PoolGraph.{pool-within, reached-used}
+use Rattle.pool.proofs.PoolGraph.{pool-within}
 use Rattle.collector.specs.Reversal.{unmarked, markAll}
 use Rattle.collector.proofs.MarkAll.{markAll-append, length-markAll, register-markAll}
 use Rattle.stack_marker.specs.Stack.{isFresh, run, start, runs, holding}
-use Rattle.stack_marker.specs.StackCollect.{cleared}
 use Rattle.stack_marker.specs.StackRun.{Settled, Started, runFrom, poolRun, Ran}
 use Rattle.stack_marker.proofs.Fresh.{fresh-true}
-use Rattle.stack_marker.proofs.Going.{Going, going-first, begin, weight-most, Ended, ended}
+use Rattle.stack_marker.proofs.Going.{Going, going-first, begin, weight-most, ended}
 use Rattle.stack_marker.proofs.Simulation.{test, leb-max, run-none}
 use Rattle.stack_marker.proofs.HandLoop.{settled-going}
 

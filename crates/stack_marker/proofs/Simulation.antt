@@ -1,29 +1,28 @@
 -- The code of the stack marker follows the definition, turn by turn.
-use Prim.Native.Nat.{ℕ, zero, suc, _+_, _*_, _-_, _<_, _≤_, max}
+use Prim.Native.Nat.{ℕ, zero, suc, _+_, _-_, _<_, _≤_, max}
 use native.Mathlib.Omega.{arith}
 use native.Mathlib.Numerals.{add-one}
-use mathlib.Core.Path.{_≡_, refl, sym, ap, ap₂, subst, _∙_}
-use mathlib.Core.List.{List, [], _∷_, _++_, append-nil, List·Memᴰ, List·Memᴰ·head, List·Memᴰ·not-nil, Memᴰ·append-left}
-use mathlib.Core.Logic.{inr, ⊎-elim}
-use mathlib.Core.Bool.{Bool, true, false, true≢false, cond}
+use mathlib.Core.Path.{_≡_, refl, sym, ap, ap₂, _∙_}
+use mathlib.Core.List.{List, [], _∷_, _++_, List·Memᴰ, List·Memᴰ·head, Memᴰ·append-left}
+use mathlib.Core.Bool.{Bool, true, false, true≢false}
 use lib.ListN.{length, getD, set}
 use lib.Seq.{getD-set-same, getD-set-other}
 use lib.Dec.{leb}
-use borrow.Author.Tests.{le-leb, lt-leb, leb-true, leb-false, eq-eqb, ne-eqb}
+use borrow.Author.Tests.{le-leb, lt-leb, leb-true, leb-false, ne-eqb}
 use Rattle.graph.specs.Graph.{Graph, Reach, Within}
 use Rattle.graph.specs.Order.{has}
-use Rattle.graph.proofs.Lists.{Each, each-nil, has-member, member-has}
+use Rattle.graph.proofs.Lists.{Each, has-member, member-has}
 use Rattle.graph.proofs.Reached.{reach-above, reach-within}
-use Rattle.pool.specs.Layout.{poolLength, cell, left, right, setCell, state, graphOf, rootsOf}
+use Rattle.pool.specs.Layout.{poolLength, cell, left, right, state, graphOf, rootsOf}
 use Rattle.pool.proofs.WellFormed.{WellFormed}
 use Rattle.pool.proofs.PoolGraph.{Used, reached-used, pool-within}
 use Rattle.collector.specs.Reversal.{unmarked, markAll}
 use Rattle.collector.proofs.MarkAll.{markAll-append, length-markAll, field-markAll, state-markAll-same, state-markAll-other}
 use Rattle.stack_marker.specs.Stack.{isFresh, unmarkedLinks, onward, run}
 use Rattle.stack_marker.specs.StackCollect.{cleared}
-use Rattle.stack_marker.specs.StackRun.{onwardIn, Settled}
-use Rattle.stack_marker.proofs.Fresh.{member-fresh, other-fresh, count}
-use Rattle.stack_marker.proofs.Going.{Going, weight, weight-most, turn, turn-less, begin}
+use Rattle.stack_marker.specs.StackRun.{onwardIn}
+use Rattle.stack_marker.proofs.Fresh.{member-fresh, other-fresh}
+use Rattle.stack_marker.proofs.Going.{Going, weight, turn, turn-less}
 use Rattle.stack_marker.proofs.Cleared.{cleared-marks}
 
 -- the two tests decide which links the marker goes on to

@@ -1,48 +1,38 @@
+-- `stack_marker::collect_in` meets its contract: a well-formed pool is marked and swept, and any other is refused.
 use borrow.Author.Needs.{needs}
 use Rattle.stack_marker.proofs.collect_in.Statement.{statement}
 use Rattle.stack_marker.proofs.collect_in.Tie as tie
-use Rattle.stack_marker.proofs.collect_in.Reads as reads
-use Rattle.stack_marker.proofs.collect_in.Lts as lts
-use Rattle.pool.proofs.clear.Reads as clear-reads
-use Rattle.pool.proofs.sweep.Reads as sweep-reads
-use Rattle.pool.proofs.well_formed.Reads as well-formed-reads
-use Rattle.stack_marker.proofs.mark.Reads as mark-reads
+use mathlib.Core.Path.{sym, _∙_}
+use Rattle.stack_marker.proofs.StackSweep.{stack-made}
 
--- src/lib.rt:139:8
 well-formed-requires : tie.Need-well-formed-requires
 well-formed-requires c κs = search needs
 
--- src/lib.rt:140:13
 mark-requires : tie.Need-mark-requires
-mark-requires c κs = ?
+mark-requires c κs =
+    (sym (c .before .before .before .well-formed .ensures) ∙ c .before .before .if1 .taken, c .before .before .before .before .before .before .before .pre .0, c .before .before .before .before .before .before .before .pre .1)
 
--- src/lib.rt:141:13
 sweep-requires : tie.Need-sweep-requires
 sweep-requires c κs = search needs
 
--- src/lib.rt:142:9
 clear-requires : tie.Need-clear-requires
 clear-requires c κs = search needs
 
--- src/lib.rt:135:1
 same-length : tie.Need-same-length
 same-length c = search needs
 
--- src/lib.rt:135:1
 same-length-2 : tie.Need-same-length-2
 same-length-2 c = search needs
 
--- src/lib.rt:135:1
 returns : tie.Need-returns
-returns c = ?
+returns c =
+    stack-made _ _ (c .before .before .before .before .before .before .before .before .before .before .before .before .before .before .before .before .before .before .before .before .args .stack .now) _ (c .before .before .before .before .before .before .before .before .before .before .before .before .mark .last .1 .1 .0) _ _ _ _ (sym (c .before .before .before .before .before .before .before .before .before .before .before .before .before .before .before .before .well-formed .ensures) ∙ c .before .before .before .before .before .before .before .before .before .before .before .before .before .before .before .if1 .taken) (c .before .before .before .before .before .before .before .before .before .before .before .before .before .before .before .before .before .before .before .before .pre .0) (c .before .before .before .before .before .before .before .before .before .before .before .before .mark .ensures) (c .before .before .before .before .before .before .before .before .before .before .before .before .mark .kept .1 .1 .0) (c .before .before .before .before .before .before .sweep .ensures) (c .before .before .clear .ensures)
 
--- src/lib.rt:135:1
 same-length-3 : tie.Need-same-length-3
 same-length-3 c = search needs
 
--- src/lib.rt:135:1
 returns-2 : tie.Need-returns-2
-returns-2 c = ?
+returns-2 c = simp (sym (c .before .well-formed .ensures) ∙ c .if1 .left)
 
 pub collect-in-spec : {M : Type 1} → statement M
 collect-in-spec =

@@ -1,47 +1,48 @@
+-- `stack_marker::mark` meets its contract: what the stack marked is what is reached, and otherwise reversal starts from the same words.
 use borrow.Author.Needs.{needs}
 use Rattle.stack_marker.proofs.mark.Statement.{statement}
 use Rattle.stack_marker.proofs.mark.Tie as tie
-use Rattle.stack_marker.proofs.mark.Reads as reads
-use Rattle.stack_marker.proofs.mark.Lts as lts
-use Rattle.collector.proofs.mark.Reads as mark-reads
-use Rattle.stack_marker.proofs.clear_marks.Reads as clear-marks-reads
-use Rattle.stack_marker.proofs.mark_registers.Reads as mark-registers-reads
+use native.Mathlib.Omega.{arith}
+use Rattle.pool.specs.Layout.{registerCount}
+use mathlib.Core.Path.{ap, _∙_}
+use Prim.Native.Nat.{ℕ}
+use mathlib.Core.List.{List}
+use lib.ListN.{length}
+use Rattle.pool.specs.Validity.{wellFormed}
+use Rattle.collector.specs.ReversalTheorem.{markedOf}
+use Rattle.stack_marker.proofs.StackSweep.{marked-enough, marked-anew, not-enough}
 
--- src/lib.rt:126:8
 mark-registers-requires : tie.Need-mark-registers-requires
 mark-registers-requires c κs = search needs
 
--- src/lib.rt:127:9
 same-length : tie.Need-same-length
 same-length c = search needs
 
--- src/lib.rt:127:9
 same-length-2 : tie.Need-same-length-2
 same-length-2 c = search needs
 
--- src/lib.rt:127:9
 returns : tie.Need-returns
-returns c = ?
+returns c =
+    marked-enough _ _ (c .before .before .before .before .before .before .before .before .before .before .args .stack .now) _ (c .before .before .before .before .before .before .before .before .before .before .pre .0) _ (c .before .before .before .before .before .mark-registers .ensures) (c .before .before .before .before .before .before .before .before .before .before .pre .1) (c .if1 .taken)
 
--- src/lib.rt:129:5
 clear-marks-requires : tie.Need-clear-marks-requires
 clear-marks-requires c κs = search needs
 
--- src/lib.rt:130:5
 mark-requires : tie.Need-mark-requires
-mark-requires c κs = ?
+mark-requires c κs =
+    let same = marked-anew _ _ (c .before .before .before .before .before .before .before .before .before .before .before .before .before .before .before .args .stack .now) _ (c .before .before .before .before .before .before .before .before .before .before .before .before .before .before .before .pre .0) _ (c .before .before .before .before .before .before .before .before .before .before .mark-registers .ensures) _ (c .before .before .before .before .before .if1 .left) (c .before .before .before .clear-marks .ensures) in
+    (ap (wellFormed registerCount (c .before .before .before .before .before .before .before .before .before .before .before .before .before .before .before .args .n)) same ∙ c .before .before .before .before .before .before .before .before .before .before .before .before .before .before .before .pre .0, omega (arith, c .before .before .before .before .before .before .before .before .before .before .before .before .before .before .before .pre .1, ap length same), c .before .before .before .before .before .before .before .before .before .before .before .before .before .before .before .pre .2)
 
--- src/lib.rt:122:1
 same-length-3 : tie.Need-same-length-3
 same-length-3 c = search needs
 
--- src/lib.rt:122:1
 same-length-4 : tie.Need-same-length-4
 same-length-4 c = search needs
 
--- src/lib.rt:122:1
 returns-2 : tie.Need-returns-2
-returns-2 c = ?
+returns-2 c =
+    let same = marked-anew _ _ (c .before .before .before .before .before .before .before .before .before .before .before .before .before .before .before .before .before .before .args .stack .now) _ (c .before .before .before .before .before .before .before .before .before .before .before .before .before .before .before .before .before .before .pre .0) _ (c .before .before .before .before .before .before .before .before .before .before .before .before .before .mark-registers .ensures) _ (c .before .before .before .before .before .before .before .before .if1 .left) (c .before .before .before .before .before .before .clear-marks .ensures) in
+    (not-enough _ _ (c .before .before .before .before .before .before .before .before .before .before .before .before .before .before .before .before .before .before .args .stack .now) _ (c .before .before .before .before .before .before .before .before .before .before .before .before .before .before .before .before .before .before .pre .0) _ (c .before .before .before .before .before .before .before .before .before .before .before .before .before .mark-registers .ensures) (c .before .before .before .before .before .before .before .before .if1 .left), ap (λ (x : ℕ × List ℕ). x .1) (c .before .before .mark .ensures) ∙ ap (λ (x : List ℕ). markedOf registerCount (c .before .before .before .before .before .before .before .before .before .before .before .before .before .before .before .before .before .before .args .n) x .1) same)
 
 pub mark-spec : {M : Type 1} → statement M
 mark-spec =
