@@ -23,7 +23,7 @@ use Rattle.collector.proofs.MarkAll.{length-markAll, field-markAll, sta
 use Rattle.collector.proofs.Collected.{kept-reached, kept-count}
 
 -- marking cells changes no word but theirs
-markAll-elsewhere : (R n : ℕ) (t w : List ℕ) (k : ℕ) → ((x : ℕ) → List·Memᴰ x t → (0 < x) × (x ≤ n)) → Elsewhere R n k
+pub markAll-elsewhere : (R n : ℕ) (t w : List ℕ) (k : ℕ) → ((x : ℕ) → List·Memᴰ x t → (0 < x) × (x ≤ n)) → Elsewhere R n k
     → getD (markAll R w t) k 0 ≡ getD w k 0
 unfolding markAll
 markAll-elsewhere R n [] w k cells away = refl
@@ -56,7 +56,7 @@ module _ (R n : ℕ) (w : List ℕ) (well : WellFormed R n w) (room : poolLength
           other (Cell.used s l r) three = omega arith
 
   -- so the sweep counts and keeps the reached cells
-  swept-reached : sweepOf R n (markAll R w (reachedCells R n w)) ≡ (keptCells R n w, collected R n w)
+  pub swept-reached : sweepOf R n (markAll R w (reachedCells R n w)) ≡ (keptCells R n w, collected R n w)
   swept-reached =
       ap₂ (λ (k : ℕ) (v : List ℕ). (k, v))
       (kept-cong (marked R (markAll R w (reachedCells R n w))) (isReached R n w) n marked-reached ∙ kept-count R n w well room)

@@ -22,7 +22,7 @@ stateMarks R n w x = cond (leb 1 x && leb x n) (state R w x) 1
 
 module _ (R n : ℕ) (w : List ℕ) where
   -- the marks of cells are their states, and what is unmarked is a used cell
-  stateMarks-cell : (x : ℕ) → 0 < x → x ≤ n → stateMarks R n w x ≡ state R w x
+  pub stateMarks-cell : (x : ℕ) → 0 < x → x ≤ n → stateMarks R n w x ≡ state R w x
   stateMarks-cell x positive bounded = simp (le-leb 1 x positive, le-leb x n bounded)
 
   stateMarks-past : (x : ℕ) → n < x → stateMarks R n w x ≡ 1

@@ -361,7 +361,7 @@ pub fn sweep(words: &mut [u32], n: u32) -> u32
 }
 
 // Sets every word to 0.
-fn clear(words: &mut [u32])
+pub fn clear(words: &mut [u32])
     ensures { λ _. ⌜ now (words .exit) ≡ replicate (length (now (words .entry))) 0 ⌝ }
 {
     let mut k = 0;

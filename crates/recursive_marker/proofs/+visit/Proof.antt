@@ -1,0 +1,125 @@
+-- `recursive_marker::visit` meets its contract: its calls may rely on what the visits of the two links need (`CellVisit`); the depth left falls.
+use Prim.Native.Nat.{ℕ, _<_}
+use native.Mathlib.Omega.{arith}
+use mathlib.Core.Path.{refl, sym, _∙_}
+use borrow.Fn.Kinds.{In}
+use borrow.Fn.PlainCycle.{Measures, is, falls, and}
+use Rattle.recursive_marker.proofs.visit.Reads as visit
+use Rattle.recursive_marker.proofs.visit.Kinds as visit-kinds
+use Rattle.recursive_marker.proofs.+visit.Lts-visit as visit-lts
+use Rattle.collector.proofs.is_unmarked.Reads as is-unmarked-reads
+use Rattle.pool.proofs.read_cell.Reads as read-cell-reads
+use Rattle.pool.proofs.write_cell.Reads as write-cell-reads
+use Rattle.recursive_marker.proofs.+visit.{statement}
+use Rattle.recursive_marker.proofs.+visit.Tie.{close}
+use Rattle.pool.specs.Layout.{registerCount}
+use Rattle.recursive_marker.proofs.CellVisit.{visit-none, visit-cell, visit-left, visit-right, visit-fits, visit-fits-2, visit-all}
+
+abbrev μ-visit : Measures 1 visit-kinds.ps ℕ
+μ-visit κs a = a .1 .1 .0
+
+abbrev visit-at : ℕ → In 1 visit-kinds.ps
+visit-at t = and 1 visit-kinds.ps (is 1 visit-kinds.ps μ-visit t) visit.Pre
+
+abbrev visit-below : ℕ → In 1 visit-kinds.ps
+visit-below t = and 1 visit-kinds.ps (falls 1 visit-kinds.ps _<_ μ-visit t) visit.Pre
+
+abbrev callees : ℕ → visit-lts.Claims
+callees t = (
+  is-unmarked-reads.Asked,
+  is-unmarked-reads.Learnt,
+  write-cell-reads.Asked,
+  write-cell-reads.Learnt,
+  read-cell-reads.Asked,
+  read-cell-reads.Learnt,
+  visit-below t,
+  visit.Post,
+)
+
+visit-is-unmarked-requires : (t : ℕ) → visit-lts.Need-is-unmarked-requires (callees t) (visit-at t) visit.Post
+visit-is-unmarked-requires t c κs =
+    omega (arith, c .before .before .pre .1 .agree .room, c .before .before .pre .1 .bounded)
+
+visit-write-cell-requires : (t : ℕ) → visit-lts.Need-write-cell-requires (callees t) (visit-at t) visit.Post
+visit-write-cell-requires t c κs =
+    let (low, high, some, fits) = visit-cell registerCount _ _ _ _ _ (c .before .before .before .before .before .pre .1) (sym (c .before .before .is-unmarked .ensures) ∙ c .before .if1 .taken) in
+    (low, omega arith, omega (arith, c .before .before .before .before .before .pre .1 .agree .room))
+
+visit-read-cell-requires : (t : ℕ) → visit-lts.Need-read-cell-requires (callees t) (visit-at t) visit.Post
+visit-read-cell-requires t c κs =
+    let (low, high, some, fits) = visit-cell registerCount _ _ _ _ _ (c .before .before .before .before .before .before .before .before .before .pre .1) (sym (c .before .before .before .before .before .before .is-unmarked .ensures) ∙ c .before .before .before .before .before .if1 .taken) in
+    (low, omega arith, omega (arith, c .before .before .before .before .before .before .before .before .before .pre .1 .agree .room, c .before .before .before .write-cell .kept .0))
+
+visit-sub-visit : (t : ℕ) → visit-lts.Need-sub-visit (callees t) (visit-at t) visit.Post
+visit-sub-visit t c =
+    visit-cell registerCount _ _ _ _ _ (c .before .before .before .before .before .before .before .before .before .before .before .pre .1) (sym (c .before .before .before .before .before .before .before .before .is-unmarked .ensures) ∙ c .before .before .before .before .before .before .before .if1 .taken) .2
+
+visit-add-visit : (t : ℕ) → visit-lts.Need-add-visit (callees t) (visit-at t) visit.Post
+visit-add-visit t c =
+    omega (arith, visit-cell registerCount _ _ _ _ _ (c .before .before .before .before .before .before .before .before .before .before .before .pre .1) (sym (c .before .before .before .before .before .before .before .before .is-unmarked .ensures) ∙ c .before .before .before .before .before .before .before .if1 .taken) .3)
+
+visit-visit-requires : (t : ℕ) → visit-lts.Need-visit-requires (callees t) (visit-at t) visit.Post
+visit-visit-requires t c κs =
+    let h = c .before .before .before .before .before .before .before .before .before .before .before .pre .1 in (
+      omega (arith, c .before .before .before .before .before .before .before .before .before .before .before .pre .0, visit-cell registerCount _ _ _ _ _ h (sym (c .before .before .before .before .before .before .before .before .is-unmarked .ensures) ∙ c .before .before .before .before .before .before .before .if1 .taken) .2),
+      visit-left registerCount _ _ _ _ _ h (sym (c .before .before .before .before .before .before .before .before .is-unmarked .ensures) ∙ c .before .before .before .before .before .before .before .if1 .taken) _ _ (c .before .before .before .before .before .write-cell .ensures) (c .before .read-cell .ensures),
+    )
+
+visit-read-cell-requires-2 : (t : ℕ) → visit-lts.Need-read-cell-requires-2 (callees t) (visit-at t) visit.Post
+visit-read-cell-requires-2 t c κs =
+    let (low, high, some, fits) = visit-cell registerCount _ _ _ _ _ (c .before .before .before .before .before .before .before .before .before .before .before .before .before .before .before .pre .1) (sym (c .before .before .before .before .before .before .before .before .before .before .before .before .is-unmarked .ensures) ∙ c .before .before .before .before .before .before .before .before .before .before .before .if1 .taken) in
+    (low, omega arith, omega (arith, c .before .before .before .before .before .before .before .before .before .before .before .before .before .before .before .pre .1 .agree .room, c .before .before .before .before .before .before .before .before .before .write-cell .kept .0, c .before .before .before .visit .kept .0))
+
+visit-sub-visit-2 : (t : ℕ) → visit-lts.Need-sub-visit-2 (callees t) (visit-at t) visit.Post
+visit-sub-visit-2 t c =
+    visit-cell registerCount _ _ _ _ _ (c .before .before .before .before .before .before .before .before .before .before .before .before .before .before .before .before .before .pre .1) (sym (c .before .before .before .before .before .before .before .before .before .before .before .before .before .before .is-unmarked .ensures) ∙ c .before .before .before .before .before .before .before .before .before .before .before .before .before .if1 .taken) .2
+
+visit-add-visit-2 : (t : ℕ) → visit-lts.Need-add-visit-2 (callees t) (visit-at t) visit.Post
+visit-add-visit-2 t c =
+    record { fits = visit-fits registerCount _ _ _ _ _ (c .before .before .before .before .before .before .before .before .before .before .before .before .before .before .before .before .before .pre .1) (sym (c .before .before .before .before .before .before .before .before .before .before .before .before .before .before .is-unmarked .ensures) ∙ c .before .before .before .before .before .before .before .before .before .before .before .before .before .if1 .taken) _ _ (c .before .before .before .before .before .before .before .before .before .before .before .write-cell .ensures) (c .before .before .before .before .before .before .before .read-cell .ensures) _ _ _ (c .before .before .before .before .before .visit .ensures) (c .before .read-cell2 .ensures) }
+
+visit-visit-requires-2 : (t : ℕ) → visit-lts.Need-visit-requires-2 (callees t) (visit-at t) visit.Post
+visit-visit-requires-2 t c κs = (
+  omega (arith, c .before .before .before .before .before .before .before .before .before .before .before .before .before .before .before .before .before .pre .0, visit-cell registerCount _ _ _ _ _ (c .before .before .before .before .before .before .before .before .before .before .before .before .before .before .before .before .before .pre .1) (sym (c .before .before .before .before .before .before .before .before .before .before .before .before .before .before .is-unmarked .ensures) ∙ c .before .before .before .before .before .before .before .before .before .before .before .before .before .if1 .taken) .2),
+  visit-right registerCount _ _ _ _ _ (c .before .before .before .before .before .before .before .before .before .before .before .before .before .before .before .before .before .pre .1) (sym (c .before .before .before .before .before .before .before .before .before .before .before .before .before .before .is-unmarked .ensures) ∙ c .before .before .before .before .before .before .before .before .before .before .before .before .before .if1 .taken) _ _ (c .before .before .before .before .before .before .before .before .before .before .before .write-cell .ensures) (c .before .before .before .before .before .before .before .read-cell .ensures) _ _ _ (c .before .before .before .before .before .visit .ensures) (c .before .read-cell2 .ensures),
+)
+
+visit-add-result : (t : ℕ) → visit-lts.Need-add-result (callees t) (visit-at t) visit.Post
+visit-add-result t c =
+    record { fits = visit-fits-2 registerCount _ _ _ _ _ (c .before .before .before .before .before .before .before .before .before .before .before .before .before .before .before .before .before .before .before .before .pre .1) (sym (c .before .before .before .before .before .before .before .before .before .before .before .before .before .before .before .before .before .is-unmarked .ensures) ∙ c .before .before .before .before .before .before .before .before .before .before .before .before .before .before .before .before .if1 .taken) _ _ (c .before .before .before .before .before .before .before .before .before .before .before .before .before .before .write-cell .ensures) (c .before .before .before .before .before .before .before .before .before .before .read-cell .ensures) _ _ _ (c .before .before .before .before .before .before .before .before .visit .ensures) (c .before .before .before .before .read-cell2 .ensures) _ _ (c .before .before .visit2 .ensures) }
+
+visit-same-length : (t : ℕ) → visit-lts.Need-same-length (callees t) (visit-at t) visit.Post
+visit-same-length t c =
+    c .before .before .visit2 .kept .0 ∙ (c .before .before .before .before .before .before .before .before .visit .kept .0 ∙ c .before .before .before .before .before .before .before .before .before .before .before .before .before .before .write-cell .kept .0)
+
+visit-returns : (t : ℕ) → visit-lts.Need-returns (callees t) (visit-at t) visit.Post
+visit-returns t c =
+    λ h. visit-all registerCount _ _ _ _ _ h (sym (c .before .before .before .before .before .before .before .before .before .before .before .before .before .before .before .before .before .is-unmarked .ensures) ∙ c .before .before .before .before .before .before .before .before .before .before .before .before .before .before .before .before .if1 .taken) _ _ (c .before .before .before .before .before .before .before .before .before .before .before .before .before .before .write-cell .ensures) (c .before .before .before .before .before .before .before .before .before .before .read-cell .ensures) _ _ _ (c .before .before .before .before .before .before .before .before .visit .ensures) (c .before .before .before .before .read-cell2 .ensures) _ _ (c .before .before .visit2 .ensures)
+
+visit-same-length-2 : (t : ℕ) → visit-lts.Need-same-length-2 (callees t) (visit-at t) visit.Post
+visit-same-length-2 t c =
+    refl
+
+visit-returns-2 : (t : ℕ) → visit-lts.Need-returns-2 (callees t) (visit-at t) visit.Post
+visit-returns-2 t c =
+    λ h. visit-none registerCount _ _ _ _ _ h (sym (c .before .is-unmarked .ensures) ∙ c .if1 .left)
+
+pub +visit-spec : {M : Type 1} → statement M
++visit-spec =
+    close μ-visit λ t.
+    visit-lts.spec (callees t) (visit-at t) visit.Post
+    (visit-is-unmarked-requires t)
+    (visit-write-cell-requires t)
+    (visit-read-cell-requires t)
+    (visit-sub-visit t)
+    (visit-add-visit t)
+    (visit-visit-requires t)
+    (visit-read-cell-requires-2 t)
+    (visit-sub-visit-2 t)
+    (visit-add-visit-2 t)
+    (visit-visit-requires-2 t)
+    (visit-add-result t)
+    (visit-same-length t)
+    (visit-returns t)
+    (visit-same-length-2 t)
+    (visit-returns-2 t)

@@ -1,0 +1,2 @@
+pub mod CellVisit
+pub mod Registers

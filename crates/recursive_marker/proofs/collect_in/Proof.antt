@@ -1,0 +1,41 @@
+-- `recursive_marker::collect_in` meets its contract: a well-formed pool is marked and swept, and any other is refused.
+use borrow.Author.Needs.{needs}
+use Rattle.recursive_marker.proofs.collect_in.Statement.{statement}
+use Rattle.recursive_marker.proofs.collect_in.Tie as tie
+use mathlib.Core.Path.{sym, _∙_}
+use Rattle.collector.proofs.MarkSweep.{collect-made}
+
+well-formed-requires : tie.Need-well-formed-requires
+well-formed-requires c κs = search needs
+
+mark-requires : tie.Need-mark-requires
+mark-requires c κs =
+    (sym (c .before .before .well-formed .ensures) ∙ c .before .if1 .taken, c .before .before .before .before .before .pre .0, c .before .before .before .before .before .pre .1)
+
+sweep-requires : tie.Need-sweep-requires
+sweep-requires c κs = search needs
+
+same-length : tie.Need-same-length
+same-length c = search needs
+
+returns : tie.Need-returns
+returns c =
+    collect-made _ _ _ _ _ _ (sym (c .before .before .before .before .before .before .before .before .before .well-formed .ensures) ∙ c .before .before .before .before .before .before .before .before .if1 .taken) (c .before .before .before .before .before .before .before .before .before .before .before .before .pre .0) (c .before .before .before .before .before .before .mark .ensures) (c .before .before .sweep .ensures)
+
+same-length-2 : tie.Need-same-length-2
+same-length-2 c = search needs
+
+returns-2 : tie.Need-returns-2
+returns-2 c = simp (sym (c .before .well-formed .ensures) ∙ c .if1 .left)
+
+pub collect-in-spec : {M : Type 1} → statement M
+collect-in-spec =
+    tie.close
+    (tie.spec
+    well-formed-requires
+    mark-requires
+    sweep-requires
+    same-length
+    returns
+    same-length-2
+    returns-2)

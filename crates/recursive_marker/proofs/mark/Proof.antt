@@ -1,0 +1,56 @@
+-- `recursive_marker::mark` meets its contract: the loop makes the visits of the registers' links (`Marking`), from the first to the last.
+use Rattle.recursive_marker.proofs.mark.Statement.{statement}
+use Rattle.recursive_marker.proofs.mark.Tie as tie
+use native.Mathlib.Omega.{arith}
+use Prim.Native.Nat.{_-_}
+use Rattle.pool.specs.Layout.{registerCount}
+use Rattle.recursive_marker.proofs.Registers.{Marking, marking-length, marking-first, marking-visit, marking-next, marking-last}
+
+abbrev Inv-loop : tie.InvT-loop
+Inv-loop words₀ n visits₀ k₀ words visits k = Marking registerCount n words₀ words visits k
+
+abbrev μ-loop : tie.MeasureT-loop
+μ-loop words₀ n visits₀ k₀ words visits k = registerCount - k
+
+loop-holds : tie.Need-loop-holds Inv-loop μ-loop
+loop-holds c = marking-first registerCount _ _ (c .before .pre .0) (c .before .pre .1)
+
+read-register-requires : tie.Need-read-register-requires Inv-loop μ-loop
+read-register-requires c κs =
+    (c .before .loop-test .taken, omega (arith, c .before .before .before .before .pre .1, marking-length registerCount _ _ _ _ _ (c .before .before .loop .inv)))
+
+visit-requires : tie.Need-visit-requires Inv-loop μ-loop
+visit-requires c κs =
+    marking-visit registerCount _ _ (c .before .before .before .before .before .before .pre .0) (c .before .before .before .before .before .before .pre .1) _ _ _ _ _ (c .before .before .before .before .loop .inv) (c .before .before .before .loop-test .taken) (c .before .read-register .ensures) (c .before .before .before .before .before .before .pre .2) (omega (arith, c .before .before .before .before .before .before .pre .2))
+
+add-k : tie.Need-add-k Inv-loop μ-loop
+add-k c = omega arith
+
+loop-less : tie.Need-loop-less Inv-loop μ-loop
+loop-less c = omega arith
+
+loop-again : tie.Need-loop-again Inv-loop μ-loop
+loop-again c =
+    marking-next registerCount _ _ (c .before .before .before .before .before .before .before .before .before .pre .0) (c .before .before .before .before .before .before .before .before .before .pre .1) _ _ _ _ _ (c .before .before .before .before .before .before .before .loop .inv) (c .before .before .before .before .before .before .loop-test .taken) (c .before .before .before .before .read-register .ensures) (c .before .before .before .before .before .before .before .before .before .pre .2) (omega (arith, c .before .before .before .before .before .before .before .before .before .pre .2)) _ _ (c .before .before .visit .ensures)
+
+same-length : tie.Need-same-length Inv-loop μ-loop
+same-length c = marking-length registerCount _ _ _ _ _ (c .before .loop .inv)
+
+returns : tie.Need-returns Inv-loop μ-loop
+returns c =
+    marking-last registerCount _ _ (c .before .before .before .pre .0) (c .before .before .before .pre .1) _ _ _ (c .before .loop .inv) (c .loop-test .left)
+
+pub mark-spec : {M : Type 1} → statement M
+mark-spec =
+    tie.close
+    (tie.spec
+    Inv-loop
+    μ-loop
+    loop-holds
+    read-register-requires
+    visit-requires
+    add-k
+    loop-less
+    loop-again
+    same-length
+    returns)

@@ -1,0 +1,40 @@
+-- The recursive marker (01, "Bench marker": "For N up to 64, the recursive procedure of 000 collects; answer and pool are those of collect").
+use Prim.Native.Nat.{ℕ, _+_, _*_, _^_, _<_, _≤_}
+use mathlib.Core.List.{List}
+use mathlib.Core.Bool.{cond}
+use lib.ListN.{length}
+use lib.Dec.{ltb, leb}
+use Rattle.graph.specs.Graph.{Graph}
+use Rattle.graph.specs.Dfs.{Dfs}
+use Rattle.graph.specs.Marking.{marked}
+use Rattle.pool.specs.Layout.{registerCount, cellsOf}
+use Rattle.pool.specs.Outcome.{Outcome, refused}
+use Rattle.collector.specs.Collect.{collectIn}
+use Rattle.collector.specs.Reversal.{markAll}
+use Rattle.collector.specs.ReversalTheorem.{Agreement}
+
+-- "N up to 64"
+abbrev pub recursionLimit : ℕ
+recursionLimit = 64
+
+-- The call: the first question, "N at most 64? No: 11", and then the same collection as `collect`'s.
+abbrev pub recursiveOf : List ℕ → Outcome × List ℕ
+recursiveOf w =
+    let n = cellsOf registerCount w in
+    cond (ltb 0 n) (cond (leb n recursionLimit) (collectIn n w) (refused 11, w)) (refused 1, w)
+
+-- What a visit of the link p may rely on: the words hold the n cells of a graph, of which some are marked; the visit newly marks `cells`; the
+-- depth left is no less than the number of unmarked cells, so it does not run out; and three visits for each cell still fit.
+pub record Visitable (R n depth p visits : ℕ) (w : List ℕ) : Type 0 where
+  pub graph : Graph
+  pub marks : ℕ → ℕ
+  pub cells : List ℕ
+  pub agree : Agreement R n graph marks w
+  pub dfs : Dfs graph marks p cells
+  pub bounded : p ≤ n
+  pub deep : n ≤ depth + marked n marks
+  pub fits : visits + 3 * length cells < 2 ^ 32
+
+-- What it does: three visits for each cell that it newly marks, and state 3 in each of these; no other word is changed.
+abbrev pub visited : (R n depth p visits : ℕ) (w : List ℕ) → Visitable R n depth p visits w → ℕ × List ℕ
+visited R n depth p visits w h = (visits + 3 * length (h .cells), markAll R w (h .cells))

@@ -1,0 +1,78 @@
+// The recursive procedure of source document 000 as a marker, for pools of at most 64 cells: it checks the other markers.
+use collector::Collection;
+use pool::Pool;
+use pool::Refusal;
+ghost use mathlib.Core.Path.{_≡_};
+ghost use Prim.Native.Nat.{ℕ, _≤_};
+ghost use mathlib.Core.List.{List};
+ghost use mathlib.Core.Bool.{true};
+ghost use lib.ListN.{length};
+ghost use Rattle.pool.specs.Layout.{registerCount, poolLength};
+ghost use Rattle.pool.specs.Validity.{wellFormed};
+ghost use Rattle.collector.specs.ReversalTheorem.{markedOf};
+ghost use Rattle.collector.specs.Collect.{collectIn, collectionOutcome};
+ghost use Rattle.recursive_marker.specs.Recursive.{recursionLimit, recursiveOf, Visitable, visited};
+
+// The most cells of a pool that is marked so, and so the most calls that are in progress at a time.
+const DEPTH: u32 = 64;
+
+// Marks the link's cell, if it is unmarked, and what its links lead to, with so much depth left. Gives the visits made so far: one of the
+// cell itself, one after its left link and one after its right link.
+fn visit(words: &mut [u32], n: u32, depth: u32, p: u32, visits: u32) -> u32
+    requires { ⌜ Visitable registerCount n depth p visits (now words) ⌝ }
+    ensures { λ r. ⌜ ((h : Visitable registerCount n depth p visits (now (words .entry))) → _≡_ {A = ℕ × List ℕ} (r, now (words .exit)) (visited registerCount n depth p visits (now (words .entry)) h)) ⌝ }
+{
+    if collector::is_unmarked(words, p) {
+        pool::write_cell(words, p, Pool::STATE, Pool::MARKED);
+        let left = pool::read_cell(words, p, Pool::LEFT);
+        let after_left = visit(words, n, depth - 1, left, visits + 1);
+        let right = pool::read_cell(words, p, Pool::RIGHT);
+        let after_right = visit(words, n, depth - 1, right, after_left + 1);
+        after_right + 1
+    } else {
+        visits
+    }
+}
+
+// Marks every cell that the registers reach, in the order of the registers. Gives the number of visits.
+fn mark(words: &mut [u32], n: u32) -> u32
+    requires { ⌜ (wellFormed registerCount n (now words) ≡ true) × (poolLength registerCount n ≤ length (now words)) × (n ≤ recursionLimit) ⌝ }
+    ensures { λ r. ⌜ (r, now (words .exit)) ≡ markedOf registerCount n (now (words .entry)) ⌝ }
+{
+    let mut visits = 0;
+    let mut k = 0;
+    while k < Pool::REGISTERS {
+        let p = pool::read_register(words, k);
+        visits = visit(words, n, DEPTH, p, visits);
+        k += 1;
+    }
+    visits
+}
+
+// Marks and sweeps a pool of n cells.
+fn collect_in(words: &mut [u32], n: u32) -> Collection
+    requires { ⌜ (poolLength registerCount n ≤ length (now words)) × (n ≤ recursionLimit) ⌝ }
+    ensures { λ r. ⌜ (collectionOutcome r, now (words .exit)) ≡ collectIn n (now (words .entry)) ⌝ }
+{
+    if pool::well_formed(words, n) {
+        let visits = mark(words, n);
+        let kept = pool::sweep(words, n);
+        Collection::Kept { kept, visits }
+    } else {
+        Collection::Refused(Refusal::Malformed)
+    }
+}
+
+// Collects a pool of at most 64 cells: the answer and the words are those of `collect`.
+pub fn collect_recursive(words: &mut [u32]) -> Collection
+    ensures { λ r. ⌜ (collectionOutcome r, now (words .exit)) ≡ recursiveOf (now (words .entry)) ⌝ }
+{
+    let n = pool::cells(words);
+    if n == 0 {
+        return Collection::Refused(Refusal::Size);
+    }
+    if DEPTH < n {
+        return Collection::Refused(Refusal::TooLarge);
+    }
+    collect_in(words, n)
+}

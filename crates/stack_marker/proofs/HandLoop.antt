@@ -1,0 +1,172 @@
+-- The loop that takes one cell after the other in hand: what it keeps, and that it ends.
+use Prim.Native.Nat.{ℕ, suc, _+_, _*_, _-_, _<_, _≤_}
+use native.Mathlib.Omega.{arith}
+use mathlib.Core.Path.{_≡_, refl, sym, ap, _∙_}
+use mathlib.Core.Logic.{inr}
+use mathlib.Core.List.{List, [], _∷_, _++_, List·Memᴰ, List·Memᴰ·head}
+use mathlib.Core.Bool.{Bool, true, false, true≢false, false≢true, cond, _&&_, not}
+use lib.ListN.{length, getD, set, length-set}
+use lib.Dec.{leb, eqb}
+use borrow.Author.Tests.{eqb-true, leb-true}
+use Rattle.graph.specs.Graph.{Graph}
+use Rattle.graph.specs.Marking.{marked}
+use Rattle.graph.proofs.Lists.{has-member, member-has, each-nil}
+use Rattle.graph.specs.Order.{has}
+use Rattle.graph.proofs.Count.{marked-le}
+use Rattle.pool.specs.Layout.{poolLength, setCell, left, right, state, graphOf, rootsOf}
+use Rattle.pool.proofs.WellFormed.{WellFormed, well-formed-read}
+use Rattle.pool.proofs.Questions.{both}
+use Rattle.pool.proofs.PoolGraph.{pool-within}
+use Rattle.collector.specs.Reversal.{unmarked, markAll}
+use Rattle.collector.proofs.MarkAll.{length-markAll, state-markAll-same, state-markAll-other}
+use Rattle.collector.proofs.PoolMarks.{stateMarks, stateMarks-cell}
+use Rattle.stack_marker.specs.StackRun.{onwardIn, Settled, Started, runFrom, Ran}
+use Rattle.stack_marker.proofs.Fresh.{marked-more, Passing, passing}
+use Rattle.stack_marker.proofs.Going.{Going, weight-most, begin}
+use Rattle.stack_marker.proofs.Simulation.{entries, entries-length, entries-push, entries-pop, Running, running-length, running-cell, running-new, running-turn, running-end, running-deep, running-undone}
+
+-- Where nothing is pending.
+pub settled-going : (n : ℕ) {g : Graph} {roots seen : List ℕ} → Settled g roots seen → Going n g roots seen []
+settled-going n {seen = seen} s =
+    record { cells = s .cells; held = each-nil (λ x. List·Memᴰ x seen); closed = λ x mem. inr (s .closed x mem); few = omega arith }
+
+-- How many turns are left at most: two for each cell that is not marked, and one for each entry of the stack.
+abbrev pub turnsLeft : ℕ → ℕ → List ℕ → ℕ → ℕ
+turnsLeft R n words top = 2 * (n - marked n (stateMarks R n words)) + top
+
+-- What the loop keeps, with the stack's entries below `top` in the lent words.
+pub record Hand (R n p : ℕ) (words₀ stack₀ words stack : List ℕ) (hand top : ℕ) : Type 0 where
+  pub lent : length stack ≡ length stack₀
+  pub fits : top ≤ length stack₀
+  pub run : (h : Started R n p words₀) → Running R n (h .pool) (length stack₀) (runFrom R n p words₀ h) words (hand ∷ entries stack top)
+
+module _ (R n p : ℕ) (words₀ : List ℕ) (room : poolLength R n ≤ length words₀) where
+  module _ (h : Started R n p words₀) where
+    well : WellFormed R n (h .pool)
+    well = well-formed-read R n (h .pool) (h .well)
+
+    pool-room : poolLength R n ≤ length (h .pool)
+    pool-room = omega (arith, room, ap length (h .words) ∙ length-markAll R (h .pool) (h .seen ++ p ∷ []))
+
+  pub hand-first : (stack₀ : List ℕ) → Hand R n p words₀ stack₀ words₀ stack₀ p 0
+  unfolding entries
+  hand-first stack₀ =
+      record {
+        lent = refl;
+        fits = omega arith;
+        run = λ h.
+            let first : Going n (graphOf R (h .pool)) (rootsOf R (h .pool)) (h .seen ++ p ∷ []) (p ∷ []) =
+            rw (h .fresh) at (begin (pool-within (well h)) (settled-going n (h .settled)) p λ some. h .reached) in
+            record { seen = h .seen ++ p ∷ []; turns = 2 * n; words = h .words; going = first; few = weight-most first; last = refl; deep = refl };
+      }
+
+  module _ (stack₀ words stack : List ℕ) (hand top : ℕ) (s : Hand R n p words₀ stack₀ words stack hand top) where
+    held : length (entries stack top) ≤ length stack₀
+    held = rw (entries-length stack top) (s .fits)
+
+    pub hand-cell : Started R n p words₀ → (0 < hand) × (hand ≤ n) × (left R words hand ≤ n) × (right R words hand ≤ n) × (poolLength R n ≤ length words)
+    hand-cell h = running-cell R n (h .pool) (well h) (pool-room h) (s .run h)
+
+    pub hand-length : Started R n p words₀ → length words ≡ length words₀
+    hand-length h =
+        running-length R n (h .pool) (well h) (pool-room h) (s .run h)
+        ∙ sym (ap length (h .words) ∙ length-markAll R (h .pool) (h .seen ++ p ∷ []))
+
+    module _ (new : List ℕ) (links : new ≡ onwardIn R words hand) where
+      -- the links that the loop goes on to are cells
+      pub hand-new : Started R n p words₀ → (x : ℕ) → List·Memᴰ x new → (0 < x) × (x ≤ n)
+      hand-new h x mem = running-new R n (h .pool) (well h) (pool-room h) (s .run h) held x (rw links at mem)
+
+      turned : (h : Started R n p words₀) → Running R n (h .pool) (length stack₀) (runFrom R n p words₀ h) (markAll R words new) (new ++ entries stack top)
+      turned h = rw links (running-turn R n (h .pool) (well h) (pool-room h) (s .run h) held)
+
+    -- both links are unmarked and the lent words are full: the stack is not enough
+    pub hand-full : (l r : ℕ) → l ∷ r ∷ [] ≡ onwardIn R words hand → top ≡ length stack → (h : Started R n p words₀)
+        → Ran R n (length stack₀) (h .pool) words (runFrom R n p words₀ h) false
+    hand-full l r links full h =
+        record {
+          answer =
+              sym (running-deep R n (h .pool) (well h) (pool-room h) (turned (l ∷ r ∷ []) links h) (omega (arith, entries-length stack top, s .lent)));
+          marked = λ e. absurd (false≢true e);
+          undone = λ e. running-undone R n (h .pool) (well h) (pool-room h) (s .run h);
+        }
+
+    -- both are unmarked: both are marked, the right one is pushed and the left one taken in hand
+    pub hand-push : (l r : ℕ) (w₁ w₂ stack' : List ℕ) → l ∷ r ∷ [] ≡ onwardIn R words hand → (top ≡ length stack → ⊥) → w₁ ≡ setCell R words l 0 3
+        → w₂ ≡ setCell R w₁ r 0 3 → stack' ≡ set stack top r → Hand R n p words₀ stack₀ w₂ stack' l (top + 1)
+    unfolding markAll
+    hand-push l r w₁ w₂ stack' links some e₁ e₂ es =
+        let fits : top < length stack = omega (arith, s .lent, s .fits, some) in
+        record {
+          lent = ap length es ∙ (simp length-set (s .lent));
+          fits = omega (arith, s .lent);
+          run = λ h. rw (e₂, e₁, es, entries-push stack top r fits) (turned (l ∷ r ∷ []) links h);
+        }
+
+    -- one is unmarked: it is marked and taken in hand
+    pub hand-go : (x : ℕ) (w₁ : List ℕ) → x ∷ [] ≡ onwardIn R words hand → w₁ ≡ setCell R words x 0 3 → Hand R n p words₀ stack₀ w₁ stack x top
+    unfolding markAll
+    hand-go x w₁ links e₁ = record { lent = s .lent; fits = s .fits; run = λ h. rw e₁ (turned (x ∷ []) links h) }
+
+    -- none is unmarked: the next is popped, or the run ends
+    pub hand-pop : [] ≡ onwardIn R words hand → (top ≡ 0 → ⊥) → Hand R n p words₀ stack₀ words stack (getD stack (top - 1) 0) (top - 1)
+    unfolding markAll
+    hand-pop links some =
+        record {
+          lent = s .lent;
+          fits = omega (arith, s .fits);
+          run = λ h. rw (entries-pop stack top (omega (arith, some))) at (turned [] links h);
+        }
+
+    pub hand-last : [] ≡ onwardIn R words hand → top ≡ 0 → (h : Started R n p words₀) → Ran R n (length stack₀) (h .pool) words (runFrom R n p words₀ h) true
+    unfolding markAll entries
+    hand-last links none h =
+        let end = running-end R n (h .pool) (well h) (pool-room h) (rw none at (turned [] links h)) in
+        record { answer = sym (end .1); marked = λ e. end .0; undone = λ e. absurd (true≢false e) }
+
+    -- a turn leaves fewer
+    module _ (h : Started R n p words₀) where
+      spent-more : (new : List ℕ) → new ≡ onwardIn R words hand → (x : ℕ) → List·Memᴰ x new
+          → suc (marked n (stateMarks R n words)) ≤ marked n (stateMarks R n (markAll R words new))
+      spent-more new links x mem =
+          let facts : Passing (unmarked R words) (left R words hand) (right R words hand) new =
+          rw links (passing (unmarked R words) (left R words hand) (right R words hand)) in
+          let (low, high) = hand-new new links h x mem in
+          marked-more n (stateMarks R n words) (stateMarks R n (markAll R words new)) keeps x low high
+          (stateMarks-cell R n words x low high ∙ eqb-true (state R words x) 0 (both (not (eqb x 0)) (eqb (state R words x) 0) (facts .passes x mem) .1))
+          (rw (stateMarks-cell R n (markAll R words new) x low high, three x low high mem) (omega arith))
+        where
+          positive : (y : ℕ) → List·Memᴰ y new → 0 < y
+          positive y k = hand-new new links h y k .0
+
+          three : (y : ℕ) → 0 < y → y ≤ n → List·Memᴰ y new → state R (markAll R words new) y ≡ 3
+          three y low high k = state-markAll-same R y low new positive k words (omega (arith, hand-cell h .4))
+
+          keeps : (y : ℕ) → 0 < stateMarks R n words y → 0 < stateMarks R n (markAll R words new) y
+          keeps y = go (leb 1 y && leb y n) refl (has y new) refl
+            where
+              go : (t : Bool) → (leb 1 y && leb y n) ≡ t → (b : Bool) → has y new ≡ b → 0 < cond t (state R words y) 1
+                  → 0 < cond t (state R (markAll R words new) y) 1
+              go false e b k above = above
+              go true e true k above =
+                  let (low, high) = both (leb 1 y) (leb y n) e in
+                  rw (three y (leb-true 1 y low) (leb-true y n high) (member-has y new k)) (omega arith)
+              go true e false k above =
+                  let low = leb-true 1 y (both (leb 1 y) (leb y n) e .0) in
+                  rw (state-markAll-other R y low new positive (λ m. true≢false (sym (has-member y m) ∙ k)) words) above
+
+      pub less-push : (l r : ℕ) (w₁ w₂ : List ℕ) → l ∷ r ∷ [] ≡ onwardIn R words hand → w₁ ≡ setCell R words l 0 3 → w₂ ≡ setCell R w₁ r 0 3
+          → turnsLeft R n w₂ (top + 1) < turnsLeft R n words top
+      unfolding markAll
+      less-push l r w₁ w₂ links e₁ e₂ =
+          rw (e₂, e₁)
+          (omega (
+            arith,
+            spent-more (l ∷ r ∷ []) links l (List·Memᴰ·head refl),
+            marked-le n (stateMarks R n (markAll R words (l ∷ r ∷ []))),
+          ))
+
+      pub less-go : (x : ℕ) (w₁ : List ℕ) → x ∷ [] ≡ onwardIn R words hand → w₁ ≡ setCell R words x 0 3 → turnsLeft R n w₁ top < turnsLeft R n words top
+      unfolding markAll
+      less-go x w₁ links e₁ =
+          rw e₁ (omega (arith, spent-more (x ∷ []) links x (List·Memᴰ·head refl), marked-le n (stateMarks R n (markAll R words (x ∷ [])))))

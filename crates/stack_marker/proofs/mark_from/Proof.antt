@@ -1,0 +1,146 @@
+-- `stack_marker::mark_from` meets its contract: each turn is one of the definition's (`Hand`), and leaves fewer turns.
+use Rattle.stack_marker.proofs.mark_from.Statement.{statement}
+use Rattle.stack_marker.proofs.mark_from.Tie as tie
+use native.Mathlib.Omega.{arith}
+use Rattle.pool.specs.Layout.{registerCount}
+use mathlib.Core.Path.{refl, sym, ap, _∙_}
+use mathlib.Core.List.{List·Memᴰ·head, List·Memᴰ·tail}
+use Rattle.stack_marker.specs.StackRun.{linksOf}
+use Rattle.stack_marker.proofs.HandLoop.{Hand, turnsLeft, hand-first, hand-cell, hand-length, hand-new, hand-full, hand-push, hand-go, hand-pop, hand-last, less-push, less-go}
+use borrow.Author.Needs.{needs}
+
+abbrev Inv-loop : tie.InvT-loop
+Inv-loop words₀ n stack₀ p hand₀ top₀ words stack hand top = Hand registerCount n p words₀ stack₀ words stack hand top
+
+abbrev μ-loop : tie.MeasureT-loop
+μ-loop words₀ n stack₀ p hand₀ top₀ words stack hand top = turnsLeft registerCount n words top
+
+loop-holds : tie.Need-loop-holds Inv-loop μ-loop
+loop-holds c = hand-first registerCount _ _ _ (c .before .before .pre .1) _
+
+look-requires : tie.Need-look-requires Inv-loop μ-loop
+look-requires c κs =
+    hand-cell registerCount _ _ _ (c .before .before .before .before .pre .1) _ _ _ _ _ (c .before .loop .inv) (c .before .before .before .before .pre .0)
+
+enum-known-left : tie.Need-enum-known-left Inv-loop μ-loop
+enum-known-left c = search needs
+
+same-length : tie.Need-same-length Inv-loop μ-loop
+same-length c =
+    hand-length registerCount _ _ _ (c .before .before .before .before .before .before .before .before .before .pre .1) _ _ _ _ _ (c .before .before .before .before .before .before .loop .inv) (c .before .before .before .before .before .before .before .before .before .pre .0)
+
+same-length-2 : tie.Need-same-length-2 Inv-loop μ-loop
+same-length-2 c = c .before .before .before .before .before .before .loop .inv .lent
+
+returns : tie.Need-returns Inv-loop μ-loop
+returns c =
+    hand-full registerCount _ _ _ (c .before .before .before .before .before .before .before .before .before .pre .1) _ _ _ _ _ (c .before .before .before .before .before .before .loop .inv) _ _ (ap linksOf (sym (c .before .before .left .given .1)) ∙ c .before .before .before .before .look .ensures) (c .if1 .taken)
+
+write-cell-requires : tie.Need-write-cell-requires Inv-loop μ-loop
+write-cell-requires c κs =
+    let (low, high) = hand-new registerCount _ _ _ (c .before .before .before .before .before .before .before .before .before .before .pre .1) _ _ _ _ _ (c .before .before .before .before .before .before .before .loop .inv) _ (ap linksOf (sym (c .before .before .before .left .given .1)) ∙ c .before .before .before .before .before .look .ensures) (c .before .before .before .before .before .before .before .before .before .before .pre .0) _ (List·Memᴰ·head refl) in
+    (low, omega arith, omega (arith, c .before .before .before .before .before .before .before .before .before .before .pre .1, hand-length registerCount _ _ _ (c .before .before .before .before .before .before .before .before .before .before .pre .1) _ _ _ _ _ (c .before .before .before .before .before .before .before .loop .inv) (c .before .before .before .before .before .before .before .before .before .before .pre .0)))
+
+write-cell-requires-2 : tie.Need-write-cell-requires-2 Inv-loop μ-loop
+write-cell-requires-2 c κs =
+    let (low, high) = hand-new registerCount _ _ _ (c .before .before .before .before .before .before .before .before .before .before .before .before .before .before .pre .1) _ _ _ _ _ (c .before .before .before .before .before .before .before .before .before .before .before .loop .inv) _ (ap linksOf (sym (c .before .before .before .before .before .before .before .left .given .1)) ∙ c .before .before .before .before .before .before .before .before .before .look .ensures) (c .before .before .before .before .before .before .before .before .before .before .before .before .before .before .pre .0) _ (List·Memᴰ·tail (List·Memᴰ·head refl)) in
+    (low, omega arith, omega (arith, c .before .before .before .before .before .before .before .before .before .before .before .before .before .before .pre .1, hand-length registerCount _ _ _ (c .before .before .before .before .before .before .before .before .before .before .before .before .before .before .pre .1) _ _ _ _ _ (c .before .before .before .before .before .before .before .before .before .before .before .loop .inv) (c .before .before .before .before .before .before .before .before .before .before .before .before .before .before .pre .0), c .before .before .before .write-cell .kept .0))
+
+mul-stack : tie.Need-mul-stack Inv-loop μ-loop
+mul-stack c = omega arith
+
+slice-write-stack : tie.Need-slice-write-stack Inv-loop μ-loop
+slice-write-stack c =
+    omega (arith, c .before .before .before .before .before .before .before .before .before .before .before .before .before .before .loop .inv .fits, c .before .before .before .before .before .before .before .before .before .before .before .before .before .before .loop .inv .lent, c .before .before .before .before .before .before .before .before .if1 .left)
+
+add-top : tie.Need-add-top Inv-loop μ-loop
+add-top c =
+    omega (arith, c .before .before .before .before .before .before .before .before .before .before .before .before .before .before .loop .inv .fits, c .before .before .before .before .before .before .before .before .before .before .before .before .before .before .loop .inv .lent, c .before .before .before .before .before .before .before .before .if1 .left)
+
+loop-less : tie.Need-loop-less Inv-loop μ-loop
+loop-less c =
+    less-push registerCount _ _ _ (c .before .before .before .before .before .before .before .before .before .before .before .before .before .before .before .before .before .pre .1) _ _ _ _ _ (c .before .before .before .before .before .before .before .before .before .before .before .before .before .before .loop .inv) (c .before .before .before .before .before .before .before .before .before .before .before .before .before .before .before .before .before .pre .0) _ _ _ _ (ap linksOf (sym (c .before .before .before .before .before .before .before .before .before .before .left .given .1)) ∙ c .before .before .before .before .before .before .before .before .before .before .before .before .look .ensures) (c .before .before .before .before .before .before .write-cell .ensures) (c .before .before .write-cell2 .ensures)
+
+loop-again : tie.Need-loop-again Inv-loop μ-loop
+loop-again c =
+    hand-push registerCount _ _ _ (c .before .before .before .before .before .before .before .before .before .before .before .before .before .before .before .before .before .pre .1) _ _ _ _ _ (c .before .before .before .before .before .before .before .before .before .before .before .before .before .before .loop .inv) _ _ _ _ _ (ap linksOf (sym (c .before .before .before .before .before .before .before .before .before .before .left .given .1)) ∙ c .before .before .before .before .before .before .before .before .before .before .before .before .look .ensures) (c .before .before .before .before .before .before .before .before .if1 .left) (c .before .before .before .before .before .before .write-cell .ensures) (c .before .before .write-cell2 .ensures) refl
+
+enum-known-x : tie.Need-enum-known-x Inv-loop μ-loop
+enum-known-x c = search needs
+
+write-cell-requires-3 : tie.Need-write-cell-requires-3 Inv-loop μ-loop
+write-cell-requires-3 c κs =
+    let (low, high) = hand-new registerCount _ _ _ (c .before .before .before .before .before .before .before .before .before .pre .1) _ _ _ _ _ (c .before .before .before .before .before .before .loop .inv) _ (ap linksOf (sym (c .before .before .x .given .1)) ∙ c .before .before .before .before .look .ensures) (c .before .before .before .before .before .before .before .before .before .pre .0) _ (List·Memᴰ·head refl) in
+    (low, omega arith, omega (arith, c .before .before .before .before .before .before .before .before .before .pre .1, hand-length registerCount _ _ _ (c .before .before .before .before .before .before .before .before .before .pre .1) _ _ _ _ _ (c .before .before .before .before .before .before .loop .inv) (c .before .before .before .before .before .before .before .before .before .pre .0)))
+
+loop-less-2 : tie.Need-loop-less-2 Inv-loop μ-loop
+loop-less-2 c =
+    less-go registerCount _ _ _ (c .before .before .before .before .before .before .before .before .before .before .before .before .pre .1) _ _ _ _ _ (c .before .before .before .before .before .before .before .before .before .loop .inv) (c .before .before .before .before .before .before .before .before .before .before .before .before .pre .0) _ _ (ap linksOf (sym (c .before .before .before .before .before .x .given .1)) ∙ c .before .before .before .before .before .before .before .look .ensures) (c .before .before .write-cell3 .ensures)
+
+loop-again-2 : tie.Need-loop-again-2 Inv-loop μ-loop
+loop-again-2 c =
+    hand-go registerCount _ _ _ (c .before .before .before .before .before .before .before .before .before .before .before .before .pre .1) _ _ _ _ _ (c .before .before .before .before .before .before .before .before .before .loop .inv) _ _ (ap linksOf (sym (c .before .before .before .before .before .x .given .1)) ∙ c .before .before .before .before .before .before .before .look .ensures) (c .before .before .write-cell3 .ensures)
+
+enum-told : tie.Need-enum-told Inv-loop μ-loop
+enum-told c = search needs
+
+same-length-3 : tie.Need-same-length-3 Inv-loop μ-loop
+same-length-3 c =
+    hand-length registerCount _ _ _ (c .before .before .before .before .before .before .before .before .pre .1) _ _ _ _ _ (c .before .before .before .before .before .loop .inv) (c .before .before .before .before .before .before .before .before .pre .0)
+
+same-length-4 : tie.Need-same-length-4 Inv-loop μ-loop
+same-length-4 c = c .before .before .before .before .before .loop .inv .lent
+
+returns-2 : tie.Need-returns-2 Inv-loop μ-loop
+returns-2 c =
+    hand-last registerCount _ _ _ (c .before .before .before .before .before .before .before .before .pre .1) _ _ _ _ _ (c .before .before .before .before .before .loop .inv) (ap linksOf (sym (c .before .enum-told .given .1)) ∙ c .before .before .before .look .ensures) (c .if2 .taken)
+
+sub-top : tie.Need-sub-top Inv-loop μ-loop
+sub-top c = omega arith
+
+mul-hand : tie.Need-mul-hand Inv-loop μ-loop
+mul-hand c = omega arith
+
+slice-read-hand : tie.Need-slice-read-hand Inv-loop μ-loop
+slice-read-hand c =
+    omega (arith, c .before .before .before .before .before .before .loop .inv .fits, c .before .before .before .before .before .before .loop .inv .lent, c .before .if2 .left)
+
+loop-less-3 : tie.Need-loop-less-3 Inv-loop μ-loop
+loop-less-3 c = omega arith
+
+loop-again-3 : tie.Need-loop-again-3 Inv-loop μ-loop
+loop-again-3 c =
+    hand-pop registerCount _ _ _ (c .before .before .before .before .before .before .before .before .before .pre .1) _ _ _ _ _ (c .before .before .before .before .before .before .loop .inv) (ap linksOf (sym (c .before .before .enum-told .given .1)) ∙ c .before .before .before .before .look .ensures) (c .before .if2 .left)
+
+pub mark-from-spec : {M : Type 1} → statement M
+mark-from-spec =
+    tie.close
+    (tie.spec
+    Inv-loop
+    μ-loop
+    loop-holds
+    look-requires
+    enum-known-left
+    same-length
+    same-length-2
+    returns
+    write-cell-requires
+    write-cell-requires-2
+    mul-stack
+    slice-write-stack
+    add-top
+    loop-less
+    loop-again
+    enum-known-x
+    write-cell-requires-3
+    loop-less-2
+    loop-again-2
+    enum-told
+    same-length-3
+    same-length-4
+    returns-2
+    sub-top
+    mul-hand
+    slice-read-hand
+    loop-less-3
+    loop-again-3)

@@ -1,0 +1,4 @@
+pub mod Stack
+pub mod StackCollect
+pub mod StackTheorem
+pub mod StackRun

@@ -1,0 +1,39 @@
+-- A collection that marks with a lent stack (01, "Marking with a lent stack").
+use Prim.Native.Nat.{ℕ, zero, suc}
+use mathlib.Core.List.{List, [], _∷_}
+use mathlib.Core.Bool.{Bool, cond}
+use lib.ListN.{length, replicate}
+use lib.Dec.{leb, ltb}
+use Rattle.pool.specs.Layout.{registerCount, cellsOf, setCell, graphOf, rootsOf}
+use Rattle.pool.specs.Validity.{wellFormed}
+use Rattle.pool.specs.Retain.{marked}
+use Rattle.pool.specs.Outcome.{Outcome, answered, refused, refusalNumber}
+use Rattle.collector.specs.Collect.{keptCells, collected}
+use Rattle.stack_marker.specs.Stack.{mostEntries}
+use Rattle.stack_marker.specs.declared.StackCollection.{StackCollection}
+use Rattle.stack_marker.specs.declared.StackCollection.the-variants as collection
+
+-- "whether the stack was enough, yes exactly when Algorithm 2 never holds more entries than there are words"
+abbrev pub isEnough : ℕ → List ℕ → List ℕ → Bool
+isEnough n w stack = leb (mostEntries n (graphOf registerCount w) (rootsOf registerCount w)) (length stack)
+
+-- What the call says: kept, and 1 where the stack was enough, 0 where not; or the refusal.
+abbrev pub stackOutcome : StackCollection → Outcome
+stackOutcome (collection.Kept kept enough) = answered (kept ∷ cond enough 1 0 ∷ [])
+stackOutcome (collection.Refused k) = refused (refusalNumber k)
+
+-- A pool of n cells: "is the pool whole? No: 3". "The pool ends as after collect; the stack words end 0."
+abbrev pub stackIn : ℕ → List ℕ → List ℕ → Outcome × List ℕ × List ℕ
+stackIn n w stack =
+    cond (wellFormed registerCount n w)
+    (answered (keptCells registerCount n w ∷ cond (isEnough n w stack) 1 0 ∷ []), collected registerCount n w, replicate (length stack) 0)
+    (refused 3, w, stack)
+
+-- The call: the first question, then the collection. A refusal leaves pool and stack as they were.
+abbrev pub stackOf : List ℕ → List ℕ → Outcome × List ℕ × List ℕ
+stackOf w stack = let n = cellsOf registerCount w in cond (ltb 0 n) (stackIn n w stack) (refused 1, w, stack)
+
+-- "marks are cleared": every one of the cells i to 1 that has state 3 becomes used.
+unfoldable pub cleared : ℕ → ℕ → List ℕ → List ℕ
+cleared R zero w = w
+cleared R (suc i) w = cleared R i (cond (marked R w (suc i)) (setCell R w (suc i) 0 0) w)
