@@ -3,7 +3,7 @@ use Prim.Native.Nat.{ℕ}
 use mathlib.Core.Path.{_≡_, ap, _∙_}
 use Rattle.pool.specs.Outcome.{Outcome}
 use mathlib.Core.List.{List}
-use Rattle.cellpool.specs.Interface.{status, lent, silent, giving, givingTwo, saving}
+use Rattle.cellpool.specs.Interface.{status, lent, silent, giving, givingTwo, withStack, saving}
 
 module _ {A : Type 0} (o : Outcome) (left : A) (x : Outcome × A) (call : _≡_ {A = Outcome × A} (o, left) x) (q : ℕ) (said : q ≡ status o) where
   pub silent-made : _≡_ {A = ℕ × A} (q, left) (silent x)
@@ -14,6 +14,13 @@ module _ {A : Type 0} (o : Outcome) (left : A) (x : Outcome × A) (call : _≡_ 
 
   pub giving-two-made : (v w old₀ old₁ : ℕ) → v ≡ lent o 0 old₀ → w ≡ lent o 1 old₁ → _≡_ {A = ℕ × A × ℕ × ℕ} (q, left, v, w) (givingTwo x old₀ old₁)
   giving-two-made v w old₀ old₁ first second = rw (said, first, second) (ap (λ (y : Outcome × A). givingTwo y old₀ old₁) call)
+
+-- the same of the collection with a lent stack
+pub stack-made : (w stack : List ℕ) (o : Outcome) (x : Outcome × List ℕ × List ℕ) → _≡_ {A = Outcome × List ℕ × List ℕ} (o, w, stack) x
+    → (q v u old₀ old₁ : ℕ) → q ≡ status o → v ≡ lent o 0 old₀ → u ≡ lent o 1 old₁
+    → _≡_ {A = ℕ × List ℕ × List ℕ × ℕ × ℕ} (q, w, stack, v, u) (withStack x old₀ old₁)
+stack-made w stack o x call q v u old₀ old₁ said first second =
+    rw (said, first, second) (ap (λ (y : Outcome × List ℕ × List ℕ). withStack y old₀ old₁) call)
 
 -- the same of save
 pub saving-made : (w scratch out : List ℕ) (o : Outcome) (x : Outcome × List ℕ × List ℕ)

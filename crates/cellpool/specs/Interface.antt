@@ -26,6 +26,10 @@ giving x old = (status (x .0), x .1, lent (x .0) 0 old)
 abbrev pub givingTwo {ℓ} : {A : Type ℓ} → Outcome × A → ℕ → ℕ → ℕ × A × ℕ × ℕ
 givingTwo x first second = (status (x .0), x .1, lent (x .0) 0 first, lent (x .0) 1 second)
 
+-- The same of the collection that is lent a stack.
+abbrev pub withStack : Outcome × List ℕ × List ℕ → ℕ → ℕ → ℕ × List ℕ × List ℕ × ℕ × ℕ
+withStack x first second = (status (x .0), x .1, x .2, lent (x .0) 0 first, lent (x .0) 1 second)
+
 -- An operation that leaves nothing but the number that it gives.
 abbrev pub number : Outcome → ℕ → ℕ × ℕ
 number o old = (status o, lent o 0 old)

@@ -1,19 +1,24 @@
 // The pool as the firmware calls it: every operation as a C function. Each answers 0 or the number of its refusal, asks nothing of its arguments, and
 // writes the numbers that it gives to lent places, which a refusal leaves as they were.
 use calls::Answer;
+use collector::Collection;
 use pool::Fresh;
 use pool::Occupied;
 use pool::Pool;
 use save::Saved;
+use stack_marker::StackCollection;
 ghost use mathlib.Core.Path.{_≡_};
 ghost use Rattle.pool.specs.Outcome.{freshOutcome, occupiedOutcome};
 ghost use Rattle.pool.specs.Calls.{freshOf, occupancyOf};
 ghost use Rattle.calls.specs.declared.Call.{Call};
 ghost use Rattle.calls.specs.Answers.{answerOutcome};
 ghost use Rattle.calls.specs.Calls.{callOf};
+ghost use Rattle.collector.specs.Collect.{collectionOutcome};
+ghost use Rattle.recursive_marker.specs.Recursive.{recursiveOf};
+ghost use Rattle.stack_marker.specs.StackCollect.{stackOutcome, stackOf};
 ghost use Rattle.image.specs.Load.{loadOf, checkOf};
 ghost use Rattle.save.specs.Save.{savedOutcome, saveOf};
-ghost use Rattle.cellpool.specs.Interface.{status, lent, silent, giving, givingTwo, number, saving, loading};
+ghost use Rattle.cellpool.specs.Interface.{status, lent, silent, giving, givingTwo, withStack, number, saving, loading};
 
 // 0, or the number of the refusal.
 fn status_of(answer: Answer) -> u32
@@ -61,6 +66,30 @@ fn of_fresh(fresh: Fresh) -> Answer
     match fresh {
         Fresh::Made(n) => Answer::Number(n),
         Fresh::Refused(refusal) => Answer::Refused(refusal),
+    }
+}
+
+fn of_collection(collection: Collection) -> Answer
+    ensures { λ r. ⌜ answerOutcome r ≡ collectionOutcome collection ⌝ }
+{
+    match collection {
+        Collection::Kept { kept, visits } => Answer::Collected { kept, visits },
+        Collection::Refused(refusal) => Answer::Refused(refusal),
+    }
+}
+
+fn of_stack(collection: StackCollection) -> Answer
+    ensures { λ r. ⌜ answerOutcome r ≡ stackOutcome collection ⌝ }
+{
+    match collection {
+        StackCollection::Kept { kept, enough } => {
+            if enough {
+                Answer::Collected { kept, visits: 1 }
+            } else {
+                Answer::Collected { kept, visits: 0 }
+            }
+        }
+        StackCollection::Refused(refusal) => Answer::Refused(refusal),
     }
 }
 
@@ -170,6 +199,36 @@ pub extern "C" fn cellpool_collect(words: &mut [u32], kept: &mut u32, visits: &m
     ensures { λ q. ⌜ (q, now (words .exit), now (kept .exit), now (visits .exit)) ≡ givingTwo (callOf Call.Collect (now (words .entry))) (now (kept .entry)) (now (visits .entry)) ⌝ }
 {
     let answer = calls::collect(words);
+    *kept = first_of(answer, *kept);
+    *visits = second_of(answer, *visits);
+    status_of(answer)
+}
+
+// Kept, and 1 where the stack was enough, 0 where it was not.
+#[no_mangle]
+pub extern "C" fn cellpool_collect_stack(
+    words: &mut [u32],
+    stack: &mut [u32],
+    kept: &mut u32,
+    enough: &mut u32,
+) -> u32
+    ensures { λ q. ⌜ (q, now (words .exit), now (stack .exit), now (kept .exit), now (enough .exit)) ≡ withStack (stackOf (now (words .entry)) (now (stack .entry))) (now (kept .entry)) (now (enough .entry)) ⌝ }
+{
+    let answer = of_stack(stack_marker::collect_stack(words, stack));
+    *kept = first_of(answer, *kept);
+    *enough = second_of(answer, *enough);
+    status_of(answer)
+}
+
+#[no_mangle]
+pub extern "C" fn cellpool_collect_recursive(
+    words: &mut [u32],
+    kept: &mut u32,
+    visits: &mut u32,
+) -> u32
+    ensures { λ q. ⌜ (q, now (words .exit), now (kept .exit), now (visits .exit)) ≡ givingTwo (recursiveOf (now (words .entry))) (now (kept .entry)) (now (visits .entry)) ⌝ }
+{
+    let answer = of_collection(recursive_marker::collect_recursive(words));
     *kept = first_of(answer, *kept);
     *visits = second_of(answer, *visits);
     status_of(answer)

@@ -1,0 +1,46 @@
+-- `cellpool::cellpool_collect_stack` meets its contract: the collection's answer, as a status and two lent numbers.
+use borrow.Author.Needs.{needs}
+use Rattle.cellpool.proofs.cellpool_collect_stack.Statement.{statement}
+use Rattle.cellpool.proofs.cellpool_collect_stack.Tie as tie
+use mathlib.Core.Path.{ap, _∙_}
+use Rattle.pool.specs.Outcome.{Outcome}
+use Rattle.cellpool.proofs.Answered.{stack-made}
+
+collect-stack-requires : tie.Need-collect-stack-requires
+collect-stack-requires c κs = search needs
+
+of-stack-requires : tie.Need-of-stack-requires
+of-stack-requires c κs = search needs
+
+first-of-requires : tie.Need-first-of-requires
+first-of-requires c κs = search needs
+
+second-of-requires : tie.Need-second-of-requires
+second-of-requires c κs = search needs
+
+status-of-requires : tie.Need-status-of-requires
+status-of-requires c κs = search needs
+
+same-length : tie.Need-same-length
+same-length c = search needs
+
+same-length-2 : tie.Need-same-length-2
+same-length-2 c = search needs
+
+returns : tie.Need-returns
+returns c =
+    stack-made _ _ _ _ (ap (λ (o : Outcome). (o, c .before .before .before .before .before .before .before .before .before .before .collect-stack .last .0, c .before .before .before .before .before .before .before .before .before .before .collect-stack .last .1 .0)) (c .before .before .before .before .before .of-stack .ensures) ∙ c .before .before .before .before .before .before .before .before .before .before .collect-stack .ensures)
+    _ _ _ _ _ (c .status-of .ensures) (c .before .before .before .first-of .ensures) (c .before .second-of .ensures)
+
+pub cellpool-collect-stack-spec : {M : Type 1} → statement M
+cellpool-collect-stack-spec =
+    tie.close
+    (tie.spec
+    collect-stack-requires
+    of-stack-requires
+    first-of-requires
+    second-of-requires
+    status-of-requires
+    same-length
+    same-length-2
+    returns)
