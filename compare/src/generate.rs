@@ -27,8 +27,8 @@ pub fn call(random: &mut Random, among: usize, weight: usize) -> Call {
     let mut one = || register(random, among);
     let (r, a, b) = (one(), one(), one());
     let v = value(random);
-    match random.below(10 + weight) {
-        0 => Call::Copy { r, a },
+    match random.below(11 + weight) {
+        0 | 10 => Call::Copy { r, a },
         1 => Call::Clear { r },
         2 => Call::Left { r, a },
         3 => Call::Right { r, a },
@@ -83,10 +83,13 @@ pub fn whole(random: &mut Random, n: usize) -> Vec<u32> {
     };
     let mut words = vec![0; words_for(n)];
     words[0] = n as u32;
-    let held = random.pick(&[0, 1, 1, 2, 3, REGISTERS]);
+    let held = random.pick(&[0, 1, 2, 4, 8, REGISTERS, 2 * REGISTERS]);
     for _ in 0..held {
         let register = random.below(REGISTERS);
         words[2 + register] = link(random);
+    }
+    for _ in 0..random.below(4) {
+        words[2 + random.below(4)] = words[2 + random.below(REGISTERS)];
     }
     for i in 1..=n as u32 {
         let at = cell_at(i);
