@@ -8,6 +8,8 @@ use cellpool_compare::Interface;
 pub fn implementations() -> Vec<(&'static str, Box<dyn Interface>)> {
     vec![
         ("plain Rust", Box::new(Guarded(Twin))),
+        #[cfg(c_twin)]
+        ("plain C", Box::new(Guarded(cellpool_compare::pool::PlainC))),
         #[cfg(feature = "archive")]
         ("library", Box::new(Guarded(cellpool_compare::pool::Archive))),
     ]
