@@ -38,6 +38,7 @@ fn link_archive() {
     println!("cargo:rerun-if-changed={}", archive.display());
     println!("cargo:rustc-link-search=native={}", dir.display());
     println!("cargo:rustc-link-lib=static=cellpool");
+    println!("cargo:rustc-env=CELLPOOL_ARCHIVE={}", archive.display());
 }
 
 fn build_c_twin() -> bool {
