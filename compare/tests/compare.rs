@@ -9,22 +9,22 @@ use common::on_each;
 
 #[test]
 fn lists_of_calls_leave_the_words_of_the_model() {
-    on_each(1, |pool, random| checks::call_lists(pool, random, rounds(4_000)));
+    on_each(1, |pool, random| checks::call_lists(pool, random, rounds(2_000)));
 }
 
 #[test]
 fn calls_on_any_words_answer_as_the_model() {
-    on_each(2, |pool, random| checks::any_words(pool, random, rounds(40_000)));
+    on_each(2, |pool, random| checks::any_words(pool, random, rounds(20_000)));
 }
 
 #[test]
 fn lists_of_calls_answer_as_the_ledger_exactly_where_the_limits_are_not_told_apart() {
-    on_each(3, |pool, random| checks::against_ledger(pool, random, rounds(30_000)));
+    on_each(3, |pool, random| checks::against_ledger(pool, random, rounds(15_000)));
 }
 
 #[test]
 fn every_form_of_collect_on_any_words() {
-    on_each(4, |pool, random| checks::collections(pool, random, rounds(30_000)));
+    on_each(4, |pool, random| checks::collections(pool, random, rounds(15_000)));
 }
 
 #[test]
@@ -34,12 +34,12 @@ fn graphs_of_known_shape_up_to_the_largest_pool() {
 
 #[test]
 fn saves_with_every_nearby_length() {
-    on_each(6, |pool, random| checks::saves(pool, random, rounds(6_000)));
+    on_each(6, |pool, random| checks::saves(pool, random, rounds(3_000)));
 }
 
 #[test]
 fn images_whole_and_damaged() {
-    on_each(7, |pool, random| checks::images(pool, random, rounds(60_000)));
+    on_each(7, |pool, random| checks::images(pool, random, rounds(30_000)));
 }
 
 #[test]
