@@ -228,9 +228,10 @@ static uint32_t relink(uint32_t *words, size_t len, uint32_t a, uint32_t b, int 
     uint32_t n = size_of(words, len);
     if (n == 0) return CELLPOOL_REFUSED_SIZE;
     if (a >= CELLPOOL_REGISTERS || b >= CELLPOOL_REGISTERS) return CELLPOOL_REFUSED_REGISTER;
-    if (!sound(words, n, REGISTER(a)) || !sound(words, n, REGISTER(b))) return CELLPOOL_REFUSED_UNSOUND;
-    if (REGISTER(a) == 0) return CELLPOOL_REFUSED_NIL;
-    cell(words, REGISTER(a))[side] = REGISTER(b);
+    uint32_t to = REGISTER(a), link = REGISTER(b);
+    if (!sound(words, n, to) || !sound(words, n, link)) return CELLPOOL_REFUSED_UNSOUND;
+    if (to == 0) return CELLPOOL_REFUSED_NIL;
+    cell(words, to)[side] = link;
     return CELLPOOL_OK;
 }
 
@@ -407,16 +408,22 @@ static uint32_t read_number(const uint8_t *bytes, size_t len, size_t *at, uint32
     return CELLPOOL_OK;
 }
 
+static uint32_t read_link(const uint8_t *bytes, size_t len, size_t *at, uint32_t k) {
+    uint32_t link, answer = read_number(bytes, len, at, &link);
+    return answer == CELLPOOL_OK && link > k ? CELLPOOL_REFUSED_LINK : answer;
+}
+
 static uint32_t judge(const uint8_t *bytes, size_t len, uint32_t n, size_t *end) {
     size_t at = 0;
-    uint32_t k, number, answer = read_number(bytes, len, &at, &k);
+    uint32_t k, value, answer = read_number(bytes, len, &at, &k);
     if (answer != CELLPOOL_OK) return answer;
     if (k > n) return CELLPOOL_REFUSED_CELLS;
-    for (uint32_t i = 0; i < CELLPOOL_REGISTERS + 3 * k; i++) {
-        answer = read_number(bytes, len, &at, &number);
-        if (answer != CELLPOOL_OK) return answer;
-        int is_value = i >= CELLPOOL_REGISTERS && (i - CELLPOOL_REGISTERS) % 3 == 2;
-        if (!is_value && number > k) return CELLPOOL_REFUSED_LINK;
+    for (uint32_t i = 0; i < CELLPOOL_REGISTERS; i++)
+        if ((answer = read_link(bytes, len, &at, k)) != CELLPOOL_OK) return answer;
+    for (uint32_t i = 0; i < k; i++) {
+        if ((answer = read_link(bytes, len, &at, k)) != CELLPOOL_OK) return answer;
+        if ((answer = read_link(bytes, len, &at, k)) != CELLPOOL_OK) return answer;
+        if ((answer = read_number(bytes, len, &at, &value)) != CELLPOOL_OK) return answer;
     }
     *end = at;
     return CELLPOOL_OK;

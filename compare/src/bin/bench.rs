@@ -241,13 +241,12 @@ fn main() {
         }
     }
 
-    println!("\n### Growth with the number of cells: the library's ns a cell\n");
+    println!("\n### Growth with the number of cells: the library's ns a cell (library / plain Rust)\n");
     let sizes = [500, 1000, 2000, 4000];
     println!("| graph | function |{}", sizes.map(|n| format!(" N = {n} |")).concat());
     println!("|---|---|{}", "---:|".repeat(sizes.len()));
     for shape in [Shape::Balanced, Shape::LeftChain, Shape::Ladder, Shape::Random] {
-        let mut rows: [(&str, Vec<f64>); 4] =
-            ["collect", "collect with a stack", "save", "load"].map(|name| (name, Vec::new()));
+        let mut rows = ["collect", "collect with a stack", "save", "load"].map(|name| (name, String::new()));
         for n in sizes {
             let mut words = shape.words(n, &mut random);
             let (save, image) = bench.save(&mut words);
@@ -255,11 +254,10 @@ fn main() {
             let collect = bench.collect(&mut words);
             let (stack, _) = bench.stack(&mut words, n);
             for (row, figures) in rows.iter_mut().zip([collect, stack, save, load]) {
-                row.1.push(figures.library / n as f64);
+                row.1 += &format!(" {:.1} ({:.2}) |", figures.library / n as f64, figures.ratios[0]);
             }
         }
-        for (name, figures) in rows {
-            let cells: String = figures.iter().map(|figure| format!(" {figure:.1} |")).collect();
+        for (name, cells) in rows {
             println!("| {} | {name} |{cells}", shape.name());
         }
     }
