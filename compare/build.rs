@@ -7,7 +7,7 @@ use std::path::PathBuf;
 use std::process::Command;
 
 fn main() {
-    println!("cargo:rustc-check-cfg=cfg(c_twin)");
+    println!("cargo:rustc-check-cfg=cfg(c_baseline)");
     println!("cargo:rerun-if-changed=build.rs");
     println!("cargo:rerun-if-env-changed=CELLPOOL_LIB_DIR");
     println!("cargo:rerun-if-env-changed=CC");
@@ -15,8 +15,8 @@ fn main() {
         return;
     }
     link_archive();
-    if build_c_twin() {
-        println!("cargo:rustc-cfg=c_twin");
+    if build_c_baseline() {
+        println!("cargo:rustc-cfg=c_baseline");
     } else {
         println!("cargo:warning=no C compiler: the benchmark runs without its C baseline");
     }
@@ -41,20 +41,22 @@ fn link_archive() {
     println!("cargo:rustc-env=CELLPOOL_ARCHIVE={}", archive.display());
 }
 
-fn build_c_twin() -> bool {
-    let source = manifest_dir().join("twin/twin.c");
+fn build_c_baseline() -> bool {
+    let source = manifest_dir().join("baseline/baseline.c");
     let include = manifest_dir().join("../include");
     println!("cargo:rerun-if-changed={}", source.display());
     println!("cargo:rerun-if-changed={}", include.display());
     let out = PathBuf::from(env::var_os("OUT_DIR").expect("cargo sets OUT_DIR"));
-    let object = out.join("twin.o");
-    let archive = out.join("libcellpool_twin.a");
+    let object = out.join("baseline.o");
+    let archive = out.join("libcellpool_baseline.a");
     let cc = env::var_os("CC").unwrap_or_else(|| "cc".into());
     let compiled = Command::new(cc)
         .args(["-std=c99", "-O2", "-Wall", "-Wextra", "-Werror", "-fPIC", "-c"])
-        .arg("-I").arg(&include)
+        .arg("-I")
+        .arg(&include)
         .arg(&source)
-        .arg("-o").arg(&object)
+        .arg("-o")
+        .arg(&object)
         .status();
     if !matches!(compiled, Ok(status) if status.success()) {
         return false;
@@ -65,6 +67,6 @@ fn build_c_twin() -> bool {
         return false;
     }
     println!("cargo:rustc-link-search=native={}", out.display());
-    println!("cargo:rustc-link-lib=static=cellpool_twin");
+    println!("cargo:rustc-link-lib=static=cellpool_baseline");
     true
 }

@@ -14,7 +14,7 @@
 #define WAYPOINTS 10u
 #define HEIGHT(waypoint) (120u + 15u * (waypoint))
 
-/* Registers: the plan, the waypoint in hand, its height, and one that stays nil. */
+/* Registers: the plan, the current waypoint, its height, and one that stays nil. */
 enum { PLAN, WAYPOINT, METRES, NIL };
 
 static uint32_t words[CELLPOOL_WORDS(CELLS)];
@@ -25,12 +25,12 @@ static uint8_t image[CELLPOOL_IMAGE_BYTES(CELLS)];
 
 #define LEN (sizeof words / sizeof words[0])
 
-static int surprises;
+static int unexpected;
 
 static void expect(const char *what, uint32_t found, uint32_t expected) {
     if (found != expected) {
         printf("%s: %lu, expected %lu\n", what, (unsigned long)found, (unsigned long)expected);
-        surprises++;
+        unexpected++;
     }
 }
 
@@ -99,8 +99,8 @@ int main(void) {
     /* K and 16 registers of a byte each, 5 waypoints of 3 bytes, and 5 heights of 4: theirs take two bytes each. */
     expect("bytes", (uint32_t)bytes, 17 + 5 * 3 + 5 * 4);
     expect("check", cellpool_check_image(image, bytes, CELLS), CELLPOOL_OK);
-    expect("cut image", cellpool_check_image(image, bytes - 1, CELLS), CELLPOOL_REFUSED_CUT);
-    expect("small pool", cellpool_check_image(image, bytes, 9), CELLPOOL_REFUSED_CELLS);
+    expect("cut image", cellpool_check_image(image, bytes - 1, CELLS), CELLPOOL_REFUSED_TRUNCATED);
+    expect("small pool", cellpool_check_image(image, bytes, 9), CELLPOOL_REFUSED_TOO_MANY_CELLS);
     expect("load", cellpool_load(spare, LEN, image, sizeof image, &rest), CELLPOOL_OK);
     expect("bytes read", (uint32_t)rest, (uint32_t)bytes);
     expect("waypoints", walk(spare), 5);
@@ -111,9 +111,9 @@ int main(void) {
 
     /* Damaged memory is refused and left alone. */
     spare[2 + PLAN] = CELLS + 1;
-    expect("damaged", cellpool_collect(spare, LEN, &kept, &visits), CELLPOOL_REFUSED_UNSOUND);
+    expect("damaged", cellpool_collect(spare, LEN, &kept, &visits), CELLPOOL_REFUSED_MALFORMED);
     expect("load again", cellpool_load(spare, LEN, image, bytes, &rest), CELLPOOL_OK);
     expect("waypoints", walk(spare), 5);
-    printf("%s\n", surprises == 0 ? "all as expected" : "surprises");
-    return surprises == 0 ? 0 : 1;
+    printf("%s\n", unexpected == 0 ? "all as expected" : "not as expected");
+    return unexpected == 0 ? 0 : 1;
 }

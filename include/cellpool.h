@@ -6,12 +6,12 @@
  *   word 1        head of the chain of free cells, 0 for none
  *   words 2..17   registers 0 to 15
  *   then four words for each cell 1 to N: state (0 used, 4 free), left, right, value
- * A link is 0 (nil) or the number of a cell. It is sound if it is 0 or the number of a used cell. A pool is whole if
- * every state is 0 or 4 and all registers and all links of used cells are sound.
+ * A link is 0 (nil) or the number of a cell. It is valid if it is 0 or the number of a used cell. A pool is
+ * well-formed if every state is 0 or 4 and all registers and all links of used cells are valid.
  *
  * Every function is total: it answers CELLPOOL_OK or a refusal, for any content of the words. A refusal writes
- * nothing, neither the words nor the numbers lent for results, except where a function says so below. A function asks
- * its questions in the order of the refusals listed with it.
+ * nothing, neither the words nor the numbers lent for results, except where a function says so below. A function checks
+ * for its refusals in the order in which they are listed with it.
  *
  * Pointers must be aligned and not null, also where a length is 0; lent blocks must not overlap. Lengths are counted
  * in elements. No function keeps a pointer, allocates, or uses global state; two pools may be used at the same time.
@@ -46,24 +46,24 @@ enum {
     CELLPOOL_REFUSED_SIZE = 1,
     /* A register number is 16 or more. */
     CELLPOOL_REFUSED_REGISTER = 2,
-    /* A register that is read, a link, the head or the pool is unsound: the words are damaged. */
-    CELLPOOL_REFUSED_UNSOUND = 3,
+    /* A register that is read, a link, the head or the pool is malformed: the words are damaged. */
+    CELLPOOL_REFUSED_MALFORMED = 3,
     /* The register is nil where a cell is needed. */
     CELLPOOL_REFUSED_NIL = 4,
     /* No cell is free, also after a collection. */
     CELLPOOL_REFUSED_FULL = 5,
     /* The bytes end before the image does. */
-    CELLPOOL_REFUSED_CUT = 6,
+    CELLPOOL_REFUSED_TRUNCATED = 6,
     /* A number of the image is 2^32 or more, or longer than five bytes. */
-    CELLPOOL_REFUSED_NUMBER = 7,
+    CELLPOOL_REFUSED_OUT_OF_RANGE = 7,
     /* A register or a link of the image is above its number of cells. */
-    CELLPOOL_REFUSED_LINK = 8,
+    CELLPOOL_REFUSED_LINK_RANGE = 8,
     /* The image has more cells than the pool. */
-    CELLPOOL_REFUSED_CELLS = 9,
+    CELLPOOL_REFUSED_TOO_MANY_CELLS = 9,
     /* The scratch or the output is too short. */
-    CELLPOOL_REFUSED_SPACE = 10,
+    CELLPOOL_REFUSED_NO_ROOM = 10,
     /* The pool has more than 64 cells: too many for the recursive marker. */
-    CELLPOOL_REFUSED_DEPTH = 11
+    CELLPOOL_REFUSED_TOO_LARGE = 11
 };
 
 /* Make the words a pool: N by the length alone, all registers nil, all cells free. *cells becomes N. Refused: 1. */
@@ -115,8 +115,8 @@ uint32_t cellpool_collect_stack(uint32_t *words, size_t len, uint32_t *stack, si
 uint32_t cellpool_collect_recursive(uint32_t *words, size_t len, uint32_t *kept, uint32_t *visits);
 
 /* Write an image of the cells that the registers reach to the front of out. *bytes becomes its length; bytes of out
-   behind it stay, and so do the words. scratch has 2 * N words or more; once the pool is found whole, all of it ends 0,
-   also where the output is then too short. Refused: 1, 10 (the scratch), 3, 10 (the output). */
+   behind it stay, and so do the words. scratch has 2 * N words or more; once the pool is found well-formed, all of it
+   ends 0, also where the output is then too short. Refused: 1, 10 (the scratch), 3, 10 (the output). */
 uint32_t cellpool_save(uint32_t *words, size_t len, uint32_t *scratch, size_t scratch_len, uint8_t *out,
                        size_t out_len, size_t *bytes);
 

@@ -93,18 +93,18 @@ static Pool pool_of(Input *input, int block, int at_end) {
     return pool;
 }
 
-/* The pool is whole, by the header. */
-static int sound(const Pool *pool, uint32_t link) {
+/* The pool is well-formed, by the header. */
+static int valid_link(const Pool *pool, uint32_t link) {
     return link == 0 || (link <= pool->n && pool->words[18 + 4 * (size_t)(link - 1)] == 0);
 }
 
-static int whole(const Pool *pool) {
+static int well_formed(const Pool *pool) {
     for (int i = 2; i < 18; i++)
-        if (!sound(pool, pool->words[i])) return 0;
+        if (!valid_link(pool, pool->words[i])) return 0;
     for (uint32_t i = 0; i < pool->n; i++) {
         const uint32_t *cell = pool->words + 18 + 4 * (size_t)i;
         if (cell[0] != 0 && cell[0] != 4) return 0;
-        if (cell[0] == 0 && (!sound(pool, cell[1]) || !sound(pool, cell[2]))) return 0;
+        if (cell[0] == 0 && (!valid_link(pool, cell[1]) || !valid_link(pool, cell[2]))) return 0;
     }
     return 1;
 }
@@ -120,7 +120,7 @@ static void try_call(Input *input, Pool *pool) {
     uint8_t kind = byte_of(input);
     uint32_t r = byte_of(input) % 17u, a = byte_of(input) % 17u, b = byte_of(input) % 17u, v = number_of(input, pool->n);
     uint32_t result = UNSET, answer, allowed = 0;
-    int was_sized = sized(pool), was_whole = was_sized && whole(pool), writes = 1;
+    int was_sized = sized(pool), was_well_formed = was_sized && well_formed(pool), writes = 1;
     remember(pool);
 #define REFUSALS(list) allowed = (list)
 #define BIT(i) (1u << (i))
@@ -157,21 +157,21 @@ static void try_call(Input *input, Pool *pool) {
     DEMAND((answer == 1) == !was_sized);
     if (answer != 0) DEMAND(unchanged(pool) && (result == UNSET));
     if (!writes) DEMAND(unchanged(pool));
-    if (answer == 0 && was_whole) DEMAND(sized(pool) && whole(pool));
+    if (answer == 0 && was_well_formed) DEMAND(sized(pool) && well_formed(pool));
 }
 
 static void try_collect(Input *input, Pool *pool, int at_end) {
     static uint32_t collected[18 + 4 * MOST + 8];
     uint32_t kept = UNSET, visits = UNSET, other = UNSET, more = UNSET;
     uint32_t collections = number_of(input, 3), total = number_of(input, 3);
-    int was_sized = sized(pool), was_whole = was_sized && whole(pool);
+    int was_sized = sized(pool), was_well_formed = was_sized && well_formed(pool);
     size_t bytes = pool->len * sizeof *pool->words;
-    uint32_t expected = !was_sized ? 1 : was_whole ? 0 : 3;
+    uint32_t expected = !was_sized ? 1 : was_well_formed ? 0 : 3;
     remember(pool);
 
     DEMAND(cellpool_collect(pool->words, pool->len, &kept, &visits) == expected);
     if (expected != 0) DEMAND(unchanged(pool) && kept == UNSET && visits == UNSET);
-    if (expected == 0) DEMAND(visits == 3 * kept && kept <= pool->n && sized(pool) && whole(pool));
+    if (expected == 0) DEMAND(visits == 3 * kept && kept <= pool->n && sized(pool) && well_formed(pool));
     memcpy(collected, pool->words, bytes);
 
     memcpy(pool->words, before, bytes);
@@ -221,8 +221,8 @@ static void try_save(Input *input, Pool *pool, int at_end) {
     size_t room = CELLPOOL_IMAGE_BYTES(n), length = UNSET, again = UNSET, rest = UNSET;
     uint32_t *scratch = lend(STACK, scratch_len * sizeof *scratch, at_end);
     uint8_t *out = lend(OUT, room, at_end);
-    int was_sized = sized(pool), was_whole = was_sized && whole(pool);
-    uint32_t expected = !was_sized ? 1 : scratch_len < 2 * (size_t)n ? 10 : was_whole ? 0 : 3;
+    int was_sized = sized(pool), was_well_formed = was_sized && well_formed(pool);
+    uint32_t expected = !was_sized ? 1 : scratch_len < 2 * (size_t)n ? 10 : was_well_formed ? 0 : 3;
     remember(pool);
     memset(scratch, 0x5A, scratch_len * sizeof *scratch);
     memset(out, 0x77, room);
@@ -249,7 +249,7 @@ static void try_save(Input *input, Pool *pool, int at_end) {
     Pool other = {lend(OTHER, pool->len * sizeof *pool->words, at_end), pool->len, n};
     memset(other.words, 0x44, other.len * sizeof *other.words);
     DEMAND(cellpool_load(other.words, other.len, image, length, &rest) == 0 && rest == length);
-    DEMAND(sized(&other) && whole(&other));
+    DEMAND(sized(&other) && well_formed(&other));
     DEMAND(cellpool_save(other.words, other.len, scratch, scratch_len, out, length, &again) == 0);
     DEMAND(again == length && memcmp(out, image, length) == 0);
     /* Every cut of it is refused. */
@@ -267,16 +267,16 @@ static void try_load(Input *input, int at_end) {
     Pool pool = {lend(WORDS, CELLPOOL_WORDS(n) * sizeof(uint32_t), at_end), CELLPOOL_WORDS(n), n};
     memset(pool.words, 0x66, pool.len * sizeof *pool.words);
     remember(&pool);
-    uint32_t judged = cellpool_check_image(image, length, n);
+    uint32_t checked = cellpool_check_image(image, length, n);
     uint32_t answer = cellpool_load(pool.words, pool.len, image, length, &rest);
-    DEMAND(answer == judged);
+    DEMAND(answer == checked);
     DEMAND(answer == 0 || answer == 1 || (answer >= 6 && answer <= 9));
     DEMAND((answer == 1) == (n < 1 || n > 4000));
     if (answer != 0) {
         DEMAND(rest == length && unchanged(&pool));
         return;
     }
-    DEMAND(rest <= length && rest >= 17 && sized(&pool) && whole(&pool));
+    DEMAND(rest <= length && rest >= 17 && sized(&pool) && well_formed(&pool));
     /* The bytes behind the image do not matter. */
     DEMAND(cellpool_check_image(image, rest, n) == 0);
     DEMAND(cellpool_check_image(image, rest - 1, n) == 6);
@@ -299,7 +299,7 @@ int LLVMFuzzerTestOneInput(const uint8_t *data, size_t size) {
         uint32_t cells = UNSET;
         remember(&pool);
         uint32_t answer = cellpool_fresh(pool.words, pool.len, &cells);
-        if (answer == 0) DEMAND(cells == pool.n && sized(&pool) && whole(&pool));
+        if (answer == 0) DEMAND(cells == pool.n && sized(&pool) && well_formed(&pool));
         if (answer != 0) DEMAND(answer == 1 && cells == UNSET && unchanged(&pool));
     }
     for (int i = 0; i < 24; i++) try_call(&input, &pool);
@@ -324,7 +324,7 @@ static uint32_t random_word(void) {
     return (uint32_t)((state * UINT64_C(0x2545F4914F6CDD1D)) >> 32);
 }
 
-/* Random bytes: any, or small ones, which make more whole pools and images. */
+/* Random bytes: any, or small ones, which make more well-formed pools and images. */
 static size_t random_input(uint8_t *data, size_t room) {
     size_t size = random_word() % (random_word() % 8 == 0 ? room : 400);
     uint32_t kind = random_word() % 4;

@@ -1,9 +1,9 @@
 //! The comparisons. Each runs one implementation on many inputs and answers the first difference as text.
 
 use crate::generate::{self, Shape, SHAPES};
-use crate::ledger::Ledger;
 use crate::model::{Model, Pool};
 use crate::random::Random;
+use crate::reference::Reference;
 use crate::{apply, words_for, Answer, Call, Interface, Tally, CELL, HEADER, MOST_CELLS, REGISTERS};
 use std::fmt::Debug;
 
@@ -21,9 +21,7 @@ fn equal<T: PartialEq + Debug>(what: impl Fn() -> String, found: T, expected: T)
 fn equal_words<T: PartialEq + Debug>(what: impl Fn() -> String, found: &[T], expected: &[T]) -> Outcome {
     match (0..expected.len()).find(|&place| found[place] != expected[place]) {
         None => Ok(()),
-        Some(place) => {
-            Err(format!("{}: place {place} is {:?}, expected {:?}", what(), found[place], expected[place]))
-        }
+        Some(place) => Err(format!("{}: place {place} is {:?}, expected {:?}", what(), found[place], expected[place])),
     }
 }
 
@@ -69,9 +67,9 @@ pub fn any_words(pool: &dyn Interface, random: &mut Random, rounds: usize) -> Ou
     Ok(())
 }
 
-/// The pool from fresh words beside the ledger. Their answers are the same up to the first `new` that finds a live
+/// The pool from fresh words beside the reference model. Their answers are the same up to the first `new` that finds a live
 /// count between the lesser and the greater of N and L, and differ there.
-pub fn against_ledger(pool: &dyn Interface, random: &mut Random, rounds: usize) -> Outcome {
+pub fn against_reference(pool: &dyn Interface, random: &mut Random, rounds: usize) -> Outcome {
     for round in 0..rounds {
         let n = random.between(1, 12);
         let limit = match random.below(4) {
@@ -81,25 +79,25 @@ pub fn against_ledger(pool: &dyn Interface, random: &mut Random, rounds: usize) 
         };
         let count = random.between(1, 150);
         let list = generate::calls(random, count);
-        ledger_list(pool, n, limit, &list).map_err(|text| format!("round {round}: {text}"))?;
+        reference_list(pool, n, limit, &list).map_err(|text| format!("round {round}: {text}"))?;
     }
     Ok(())
 }
 
-/// One list of calls, judged as a whole.
-pub fn ledger_list(pool: &dyn Interface, n: usize, limit: u64, list: &[Call]) -> Outcome {
+/// One list of calls: where the answers first differ, and where they must.
+pub fn reference_list(pool: &dyn Interface, n: usize, limit: u64, list: &[Call]) -> Outcome {
     let mut words = vec![0; words_for(n)];
     equal(|| format!("fresh of {n}"), pool.fresh(&mut words), Ok(n as u32))?;
     let found: Vec<Answer> = list.iter().map(|&call| apply(pool, &mut words, call).0).collect();
-    let mut ledger = Ledger::new(limit);
+    let mut reference = Reference::new(limit);
     let mut apart = None;
     let mut expected = Vec::new();
     for (place, &call) in list.iter().enumerate() {
-        let told = ledger.asked(call).is_some_and(|live| (live >= limit) != (live >= n as u64));
+        let told = reference.asked(call).is_some_and(|live| (live >= limit) != (live >= n as u64));
         if told && apart.is_none() {
             apart = Some(place);
         }
-        expected.push(ledger.step(call));
+        expected.push(reference.step(call));
     }
     let differs = (0..list.len()).find(|&place| found[place] != expected[place]);
     equal(|| format!("first difference with N {n} and L {limit} in {list:?}"), differs, apart)
@@ -136,7 +134,7 @@ pub fn every_collect(pool: &dyn Interface, words: &[u32], random: &mut Random) -
     equal(what, found_tally, expected_tally)?;
 
     let needed = match Pool::decode(words) {
-        Ok(pool) if pool.whole() => pool.stack_needed().0,
+        Ok(pool) if pool.well_formed() => pool.stack_needed().0,
         _ => random.below(3),
     };
     let lengths = [0, 1, needed.saturating_sub(2), needed.saturating_sub(1), needed, needed + 1, needed + 5];
@@ -189,7 +187,7 @@ pub fn saves(pool: &dyn Interface, random: &mut Random, rounds: usize) -> Outcom
 pub fn every_save(pool: &dyn Interface, words: &[u32], random: &mut Random) -> Outcome {
     let n = words.len().saturating_sub(HEADER) / CELL;
     let image = match Pool::decode(words) {
-        Ok(pool) if pool.whole() => pool.image(),
+        Ok(pool) if pool.well_formed() => pool.image(),
         _ => vec![0; random.between(17, 40)],
     };
     let bytes = image.len();
@@ -226,7 +224,7 @@ fn load(pool: &dyn Interface, words: &[u32], bytes: &[u8]) -> Outcome {
     equal_words(what, &found, &expected)
 }
 
-/// Load and the judge of images on images of every kind.
+/// Load and check on images of every kind.
 pub fn images(pool: &dyn Interface, random: &mut Random, rounds: usize) -> Outcome {
     for _ in 0..rounds {
         let n = random.pick(&[1, 1, 2, 3, 5, 8, 20]);
@@ -237,9 +235,9 @@ pub fn images(pool: &dyn Interface, random: &mut Random, rounds: usize) -> Outco
             words.resize(length, 7);
         }
         load(pool, &words, &bytes)?;
-        let judged = random.pick(&[0, 1, n as u32, n as u32, n as u32, n as u32 + 1, 4000, 4001, u32::MAX]);
-        let what = || format!("check for {judged} of {bytes:02X?}");
-        equal(what, pool.check_image(&bytes, judged), Model.check_image(&bytes, judged))?;
+        let limit = random.pick(&[0, 1, n as u32, n as u32, n as u32, n as u32 + 1, 4000, 4001, u32::MAX]);
+        let what = || format!("check for {limit} of {bytes:02X?}");
+        equal(what, pool.check_image(&bytes, limit), Model.check_image(&bytes, limit))?;
         if random.once_in(10) {
             for length in 0..bytes.len() {
                 load(pool, &words, &bytes[..length])?;

@@ -69,8 +69,8 @@ pub fn noise(random: &mut Random, n: usize) -> Vec<u32> {
     (0..words_for(n)).map(|_| random.word()).collect()
 }
 
-/// A whole pool: random used cells, sound links, any content of the free cells, and a head of several kinds.
-pub fn whole(random: &mut Random, n: usize) -> Vec<u32> {
+/// A well-formed pool: random used cells, valid links, any content of the free cells, and a head of several kinds.
+pub fn well_formed(random: &mut Random, n: usize) -> Vec<u32> {
     let share = random.pick(&[0, 1, 2, 5, 9, 10, 10]);
     let used: Vec<u32> = (1..=n as u32).filter(|_| random.below(10) < share).collect();
     let nils = random.pick(&[1, 3, 8]);
@@ -112,7 +112,7 @@ pub fn whole(random: &mut Random, n: usize) -> Vec<u32> {
 }
 
 /// A pool that calls have made.
-pub fn lived(random: &mut Random, n: usize) -> Vec<u32> {
+pub fn built_by_calls(random: &mut Random, n: usize) -> Vec<u32> {
     let mut words = vec![0; words_for(n)];
     Model.fresh(&mut words).expect("the length is right");
     let count = random.between(0, 4 * n.min(60));
@@ -122,7 +122,7 @@ pub fn lived(random: &mut Random, n: usize) -> Vec<u32> {
     words
 }
 
-/// Change one to three places so that the words may be unsound, or of a wrong size.
+/// Change one to three places so that the words may be malformed, or of a wrong size.
 pub fn damage(random: &mut Random, words: &mut Vec<u32>) {
     let n = (words.len() - HEADER) / CELL;
     for _ in 0..random.between(1, 3) {
@@ -168,15 +168,15 @@ pub fn words(random: &mut Random) -> Vec<u32> {
             }
             words
         }
-        1 | 2 => lived(random, n),
-        3..=5 => whole(random, n),
+        1 | 2 => built_by_calls(random, n),
+        3..=5 => well_formed(random, n),
         6 | 7 => {
-            let mut words = lived(random, n);
+            let mut words = built_by_calls(random, n);
             damage(random, &mut words);
             words
         }
         _ => {
-            let mut words = whole(random, n);
+            let mut words = well_formed(random, n);
             damage(random, &mut words);
             words
         }
@@ -201,7 +201,7 @@ fn padded(random: &mut Random, number: u32, bytes: &mut Vec<u8>) {
     bytes.extend(written);
 }
 
-/// An image for about `n` cells: whole, cut, with more bytes behind it, with damaged bytes, or with numbers too large.
+/// An image for about `n` cells: complete, cut, with more bytes behind it, with damaged bytes, or with numbers too large.
 pub fn image(random: &mut Random, n: usize) -> Vec<u8> {
     if random.once_in(12) {
         return (0..random.below(80)).map(|_| random.word() as u8 >> random.below(8)).collect();

@@ -1,20 +1,20 @@
 //! Comparison of the static library `libcellpool.a` with an independent model of the pool.
 //!
 //! * `model` says what every call does to any words; it is written from the customer's document alone.
-//! * `ledger` is the document's ledger: cells that are never collected, and a limit.
-//! * `twin` is a second implementation with the algorithms of the source documents, and the benchmark's baseline.
+//! * `reference` is the document's reference model: cells that are never collected, and a limit.
+//! * `baseline` is a second implementation with the algorithms of the source documents, and the benchmark's baseline.
 //! * `pool` (feature `archive`) is the library under test behind safe functions.
 //! * `checks` are the comparisons; the tests run them on every implementation.
 
+pub mod baseline;
 pub mod checks;
 pub mod generate;
 pub mod guard;
-pub mod ledger;
 pub mod model;
 #[cfg(feature = "archive")]
 pub mod pool;
 pub mod random;
-pub mod twin;
+pub mod reference;
 
 /// Refusal numbers of the document.
 pub mod refusal {
@@ -22,24 +22,24 @@ pub mod refusal {
     pub const SIZE: u32 = 1;
     /// A register number is 16 or more.
     pub const REGISTER: u32 = 2;
-    /// A link, a state or the head is unsound.
-    pub const UNSOUND: u32 = 3;
+    /// A link, a state or the head is malformed.
+    pub const MALFORMED: u32 = 3;
     /// The register is nil where a cell is needed.
     pub const NIL: u32 = 4;
     /// No cell is free.
     pub const FULL: u32 = 5;
     /// The bytes end inside a number.
-    pub const CUT: u32 = 6;
+    pub const TRUNCATED: u32 = 6;
     /// A number of the image is 2^32 or more.
-    pub const LARGE: u32 = 7;
+    pub const OUT_OF_RANGE: u32 = 7;
     /// A link of the image is above K.
-    pub const LINK: u32 = 8;
+    pub const LINK_RANGE: u32 = 8;
     /// K is above N.
-    pub const CELLS: u32 = 9;
+    pub const TOO_MANY_CELLS: u32 = 9;
     /// The scratch or the output is too short.
-    pub const SPACE: u32 = 10;
+    pub const NO_ROOM: u32 = 10;
     /// Too many cells for the recursive marker.
-    pub const DEPTH: u32 = 11;
+    pub const TOO_LARGE: u32 = 11;
 }
 
 pub const REGISTERS: usize = 16;
@@ -118,7 +118,7 @@ pub enum Call {
     Collect,
 }
 
-/// An answer as the ledger gives it: the visits of `new` are left out.
+/// An answer as the reference model gives it: the visits of `new` are left out.
 #[derive(Clone, Copy, Debug, PartialEq, Eq)]
 pub enum Answer {
     Done,

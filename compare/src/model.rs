@@ -30,7 +30,7 @@ pub struct Pool {
 
 /// N by the length alone.
 pub fn cells_for(len: usize) -> Option<usize> {
-    if len < HEADER || (len - HEADER) % CELL != 0 {
+    if len < HEADER || !(len - HEADER).is_multiple_of(CELL) {
         return None;
     }
     let n = (len - HEADER) / CELL;
@@ -38,7 +38,7 @@ pub fn cells_for(len: usize) -> Option<usize> {
 }
 
 impl Pool {
-    /// The words if the first question is answered yes.
+    /// The words, if their length and word 0 fit.
     pub fn decode(words: &[u32]) -> Result<Pool, u32> {
         let n = cells_for(words.len()).ok_or(SIZE)?;
         if words[0] as usize != n {
@@ -74,28 +74,36 @@ impl Pool {
         &mut self.cells[i as usize - 1]
     }
 
-    pub fn sound(&self, link: u32) -> bool {
+    pub fn valid_link(&self, link: u32) -> bool {
         link == 0 || (link <= self.n() && self.cell(link).state == USED)
     }
 
-    pub fn whole(&self) -> bool {
+    pub fn well_formed(&self) -> bool {
         self.cells.iter().all(|cell| cell.state == USED || cell.state == FREE)
-            && self.registers.iter().all(|&link| self.sound(link))
+            && self.registers.iter().all(|&link| self.valid_link(link))
             && self
                 .cells
                 .iter()
                 .filter(|cell| cell.state == USED)
-                .all(|cell| self.sound(cell.left) && self.sound(cell.right))
+                .all(|cell| self.valid_link(cell.left) && self.valid_link(cell.right))
     }
 
-    fn require_whole(&self) -> Result<(), u32> {
-        if self.whole() { Ok(()) } else { Err(UNSOUND) }
+    fn require_well_formed(&self) -> Result<(), u32> {
+        if self.well_formed() {
+            Ok(())
+        } else {
+            Err(MALFORMED)
+        }
     }
 
-    /// The register's content where it is read: it has to be sound.
+    /// The register's content where it is read: it has to be valid.
     fn read(&self, register: u32) -> Result<u32, u32> {
         let link = self.registers[register as usize];
-        if self.sound(link) { Ok(link) } else { Err(UNSOUND) }
+        if self.valid_link(link) {
+            Ok(link)
+        } else {
+            Err(MALFORMED)
+        }
     }
 
     /// Cells reached from the registers, by breadth.
@@ -174,28 +182,28 @@ impl Pool {
                 continue;
             }
             let mut entries = Vec::new();
-            let mut in_hand = register;
+            let mut current = register;
             loop {
-                let Cell { left, right, .. } = *self.cell(in_hand);
+                let Cell { left, right, .. } = *self.cell(current);
                 match (marked.contains(&left), marked.contains(&right)) {
                     (true, true) => match entries.pop() {
-                        Some(next) => in_hand = next,
+                        Some(next) => current = next,
                         None => break,
                     },
                     (true, false) => {
                         marked.insert(right);
-                        in_hand = right;
+                        current = right;
                     }
                     (false, true) => {
                         marked.insert(left);
-                        in_hand = left;
+                        current = left;
                     }
                     (false, false) => {
                         marked.insert(left);
                         marked.insert(right);
                         entries.push(right);
                         most = most.max(entries.len());
-                        in_hand = left;
+                        current = left;
                     }
                 }
             }
@@ -203,7 +211,7 @@ impl Pool {
         (most, marked.len() - 1)
     }
 
-    /// The saved image of a whole pool.
+    /// The saved image of a well-formed pool.
     pub fn image(&self) -> Vec<u8> {
         let order = self.depth_first();
         let mut number = BTreeMap::from([(0, 0)]);
@@ -226,7 +234,11 @@ pub fn groups(number: u32) -> Vec<u8> {
     (0..count)
         .map(|place| {
             let group = (number >> (7 * place)) as u8 & 0x7F;
-            if place + 1 < count { group | 0x80 } else { group }
+            if place + 1 < count {
+                group | 0x80
+            } else {
+                group
+            }
         })
         .collect()
 }
@@ -236,11 +248,11 @@ pub fn number(bytes: &[u8]) -> Result<(u32, usize), u32> {
     let first: Vec<u8> = bytes.iter().copied().take(5).collect();
     let taken = match first.iter().position(|byte| byte & 0x80 == 0) {
         Some(last) => last + 1,
-        None if first.len() < 5 => return Err(CUT),
-        None => return Err(LARGE),
+        None if first.len() < 5 => return Err(TRUNCATED),
+        None => return Err(OUT_OF_RANGE),
     };
     let sum: u64 = first[..taken].iter().enumerate().map(|(place, &byte)| u64::from(byte & 0x7F) << (7 * place)).sum();
-    u32::try_from(sum).map(|number| (number, taken)).map_err(|_| LARGE)
+    u32::try_from(sum).map(|number| (number, taken)).map_err(|_| OUT_OF_RANGE)
 }
 
 /// The pool of `n` cells that an image describes, and where the image ends.
@@ -253,9 +265,9 @@ pub fn parse(bytes: &[u8], n: usize) -> Result<(Pool, usize), u32> {
     };
     let k = next()?;
     if k as usize > n {
-        return Err(CELLS);
+        return Err(TOO_MANY_CELLS);
     }
-    let up_to_k = |link: u32| if link <= k { Ok(link) } else { Err(LINK) };
+    let up_to_k = |link: u32| if link <= k { Ok(link) } else { Err(LINK_RANGE) };
     let mut registers = [0; REGISTERS];
     for register in &mut registers {
         *register = up_to_k(next()?)?;
@@ -274,7 +286,11 @@ pub fn parse(bytes: &[u8], n: usize) -> Result<(Pool, usize), u32> {
 }
 
 fn require_registers(numbers: &[u32]) -> Result<(), u32> {
-    if numbers.iter().all(|&number| (number as usize) < REGISTERS) { Ok(()) } else { Err(REGISTER) }
+    if numbers.iter().all(|&number| (number as usize) < REGISTERS) {
+        Ok(())
+    } else {
+        Err(REGISTER)
+    }
 }
 
 /// Which link of a cell a call works on.
@@ -296,8 +312,8 @@ impl Model {
             Side::Left => pool.cell(cell).left,
             Side::Right => pool.cell(cell).right,
         };
-        if !pool.sound(link) {
-            return Err(UNSOUND);
+        if !pool.valid_link(link) {
+            return Err(MALFORMED);
         }
         pool.registers[r as usize] = link;
         pool.encode(words);
@@ -354,13 +370,13 @@ impl Interface for Model {
         let right = pool.read(b)?;
         let mut visits = 0;
         if pool.head == 0 {
-            pool.require_whole()?;
+            pool.require_well_formed()?;
             visits = 3 * pool.retain();
             if pool.head == 0 {
                 return Err(FULL);
             }
         } else if pool.head > pool.n() || pool.cell(pool.head).state != FREE || pool.cell(pool.head).left > pool.n() {
-            return Err(UNSOUND);
+            return Err(MALFORMED);
         }
         let taken = pool.head;
         pool.head = pool.cell(taken).left;
@@ -416,7 +432,7 @@ impl Interface for Model {
 
     fn collect(&self, words: &mut [u32]) -> Result<(u32, u32), u32> {
         let mut pool = Pool::decode(words)?;
-        pool.require_whole()?;
+        pool.require_well_formed()?;
         let kept = pool.retain();
         pool.encode(words);
         Ok((kept, 3 * kept))
@@ -431,7 +447,7 @@ impl Interface for Model {
 
     fn collect_stack(&self, words: &mut [u32], stack: &mut [u32]) -> Result<(u32, u32), u32> {
         let pool = Pool::decode(words)?;
-        pool.require_whole()?;
+        pool.require_well_formed()?;
         let (needed, _) = pool.stack_needed();
         let (kept, _) = self.collect(words)?;
         stack.fill(0);
@@ -440,7 +456,7 @@ impl Interface for Model {
 
     fn collect_recursive(&self, words: &mut [u32]) -> Result<(u32, u32), u32> {
         if Pool::decode(words)?.cells.len() > MOST_RECURSIVE {
-            return Err(DEPTH);
+            return Err(TOO_LARGE);
         }
         self.collect(words)
     }
@@ -448,12 +464,12 @@ impl Interface for Model {
     fn save(&self, words: &mut [u32], scratch: &mut [u32], out: &mut [u8]) -> Result<usize, u32> {
         let pool = Pool::decode(words)?;
         if scratch.len() < 2 * pool.cells.len() {
-            return Err(SPACE);
+            return Err(NO_ROOM);
         }
-        pool.require_whole()?;
+        pool.require_well_formed()?;
         scratch.fill(0);
         let image = pool.image();
-        let place = out.get_mut(..image.len()).ok_or(SPACE)?;
+        let place = out.get_mut(..image.len()).ok_or(NO_ROOM)?;
         place.copy_from_slice(&image);
         Ok(image.len())
     }

@@ -8,7 +8,11 @@ const UNSET: u32 = 0xA5A5_1234;
 const UNSET_SIZE: usize = usize::MAX - 0x1234;
 
 fn done(answer: u32) -> Result<(), u32> {
-    if answer == 0 { Ok(()) } else { Err(answer) }
+    if answer == 0 {
+        Ok(())
+    } else {
+        Err(answer)
+    }
 }
 
 fn one(answer: u32, number: u32) -> Result<u32, u32> {
@@ -229,11 +233,11 @@ bind! {
     cellpool_check_image, cellpool_occupancy
 }
 
-#[cfg(c_twin)]
+#[cfg(c_baseline)]
 bind! {
     /// The same functions in plain C.
     PlainC:
-    twin_fresh, twin_copy, twin_clear, twin_new, twin_left, twin_right, twin_setleft, twin_setright,
-    twin_setvalue, twin_value, twin_same, twin_collect, twin_collect_tally, twin_collect_stack,
-    twin_collect_recursive, twin_save, twin_load, twin_check_image, twin_occupancy
+    baseline_fresh, baseline_copy, baseline_clear, baseline_new, baseline_left, baseline_right, baseline_setleft, baseline_setright,
+    baseline_setvalue, baseline_value, baseline_same, baseline_collect, baseline_collect_tally, baseline_collect_stack,
+    baseline_collect_recursive, baseline_save, baseline_load, baseline_check_image, baseline_occupancy
 }

@@ -1,5 +1,5 @@
 //! The header from C and C++, the example, and the fuzz target with pseudo-random inputs, against the library.
-#![cfg(all(feature = "archive", c_twin))]
+#![cfg(all(feature = "archive", c_baseline))]
 
 use cellpool_compare::random::{rounds, seed};
 use std::path::{Path, PathBuf};
@@ -15,10 +15,12 @@ fn compile(name: &str, compiler: &str, options: &[&str], source: &Path) -> PathB
     let output = Command::new(compiler)
         .args(["-O2", "-Wall", "-Wextra", "-Wpedantic", "-Werror"])
         .args(options)
-        .arg("-I").arg(root().join("include"))
+        .arg("-I")
+        .arg(root().join("include"))
         .arg(source)
         .arg(env!("CELLPOOL_ARCHIVE"))
-        .arg("-o").arg(&program)
+        .arg("-o")
+        .arg(&program)
         .output()
         .unwrap_or_else(|error| panic!("{compiler}: {error}"));
     assert!(output.status.success(), "{}", String::from_utf8_lossy(&output.stderr));
@@ -38,7 +40,7 @@ fn cc() -> String {
 }
 
 #[test]
-fn the_example_meets_no_surprise() {
+fn the_example_ends_as_expected() {
     let program = compile("firmware", &cc(), &["-std=c99"], &root().join("examples/firmware.c"));
     let text = run(&program, &[]);
     assert_eq!(text.lines().last(), Some("all as expected"), "{text}");

@@ -18,8 +18,8 @@ fn calls_on_any_words_answer_as_the_model() {
 }
 
 #[test]
-fn lists_of_calls_answer_as_the_ledger_exactly_where_the_limits_are_not_told_apart() {
-    on_each(3, |pool, random| checks::against_ledger(pool, random, rounds(15_000)));
+fn lists_of_calls_answer_as_the_reference_model_exactly_where_the_limits_are_not_told_apart() {
+    on_each(3, |pool, random| checks::against_reference(pool, random, rounds(15_000)));
 }
 
 #[test]
@@ -38,7 +38,7 @@ fn saves_with_every_nearby_length() {
 }
 
 #[test]
-fn images_whole_and_damaged() {
+fn images_complete_and_damaged() {
     on_each(7, |pool, random| checks::images(pool, random, rounds(30_000)));
 }
 

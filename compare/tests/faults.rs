@@ -1,8 +1,8 @@
 //! The comparisons find faults: each fault below is put into a correct implementation and must be noticed.
 
+use cellpool_compare::baseline::PlainRust;
 use cellpool_compare::checks::{self, Outcome};
 use cellpool_compare::random::Random;
-use cellpool_compare::twin::Twin;
 use cellpool_compare::{cell_at, Interface, Tally, FREE, HEADER, USED};
 
 #[derive(Clone, Copy, Debug, PartialEq, Eq)]
@@ -10,15 +10,15 @@ enum Fault {
     CollectKeepsAll,
     CollectLosesFreeCell,
     CollectAnswersWrongVisits,
-    CollectJudgesFreeLinks,
+    CollectChecksFreeLinks,
     CollectLeavesFreeValue,
     NewNeverCollects,
     NewClearsItsRegisterFirst,
     NewReportsNoVisits,
     NewIgnoresLeftOfHead,
     NewSwapsLinks,
-    LeftIgnoresSoundness,
-    SetLeftAsksNilFirst,
+    LeftIgnoresValidity,
+    SetLeftChecksNilFirst,
     ClearDoesNothing,
     CopyReadsItsTarget,
     SameDistinguishesNils,
@@ -29,7 +29,7 @@ enum Fault {
     StackTooShortEarly,
     StackNotCleared,
     StackFallbackSwapsLinks,
-    RecursiveAsksSoundnessFirst,
+    RecursiveChecksLinksFirst,
     RecursiveLimitOneLess,
     SaveConstant,
     SaveRightFirst,
@@ -41,7 +41,7 @@ enum Fault {
     LoadAnswersRestOfRefused,
     LoadDropsBytesBehind,
     LoadLeavesHead,
-    LoadAsksLinksBeforeCells,
+    LoadChecksLinksBeforeCells,
     CheckIgnoresLimit,
     OccupancyRoundsUp,
     FreshLeavesRegister,
@@ -53,15 +53,15 @@ const FAULTS: [Fault; 38] = [
     CollectKeepsAll,
     CollectLosesFreeCell,
     CollectAnswersWrongVisits,
-    CollectJudgesFreeLinks,
+    CollectChecksFreeLinks,
     CollectLeavesFreeValue,
     NewNeverCollects,
     NewClearsItsRegisterFirst,
     NewReportsNoVisits,
     NewIgnoresLeftOfHead,
     NewSwapsLinks,
-    LeftIgnoresSoundness,
-    SetLeftAsksNilFirst,
+    LeftIgnoresValidity,
+    SetLeftChecksNilFirst,
     ClearDoesNothing,
     CopyReadsItsTarget,
     SameDistinguishesNils,
@@ -72,7 +72,7 @@ const FAULTS: [Fault; 38] = [
     StackTooShortEarly,
     StackNotCleared,
     StackFallbackSwapsLinks,
-    RecursiveAsksSoundnessFirst,
+    RecursiveChecksLinksFirst,
     RecursiveLimitOneLess,
     SaveConstant,
     SaveRightFirst,
@@ -84,14 +84,14 @@ const FAULTS: [Fault; 38] = [
     LoadAnswersRestOfRefused,
     LoadDropsBytesBehind,
     LoadLeavesHead,
-    LoadAsksLinksBeforeCells,
+    LoadChecksLinksBeforeCells,
     CheckIgnoresLimit,
     OccupancyRoundsUp,
     FreshLeavesRegister,
 ];
 
 /// Faults that the answers to a list of calls show, without a look at the words.
-const SEEN_BY_LEDGER: [Fault; 10] = [
+const SEEN_BY_REFERENCE: [Fault; 10] = [
     CollectKeepsAll,
     CollectAnswersWrongVisits,
     NewNeverCollects,
@@ -108,7 +108,11 @@ struct Faulty(Fault);
 
 impl Faulty {
     fn refuses(&self) -> Result<(), u32> {
-        if self.0 == EveryCallRefused { Err(3) } else { Ok(()) }
+        if self.0 == EveryCallRefused {
+            Err(3)
+        } else {
+            Ok(())
+        }
     }
 }
 
@@ -123,7 +127,7 @@ fn register(words: &[u32], number: u32) -> u32 {
 impl Interface for Faulty {
     fn fresh(&self, words: &mut [u32]) -> Result<u32, u32> {
         let kept = words.get(17).copied();
-        let n = Twin.fresh(words)?;
+        let n = PlainRust.fresh(words)?;
         if let (FreshLeavesRegister, Some(kept)) = (self.0, kept) {
             words[17] = kept;
             words[16] = 1;
@@ -133,44 +137,47 @@ impl Interface for Faulty {
 
     fn copy(&self, words: &mut [u32], r: u32, a: u32) -> Result<(), u32> {
         self.refuses()?;
-        if self.0 == CopyReadsItsTarget && r < 16 && Twin.same(words, r, r) == Err(3) {
+        if self.0 == CopyReadsItsTarget && r < 16 && PlainRust.same(words, r, r) == Err(3) {
             return Err(3);
         }
-        Twin.copy(words, r, a)
+        PlainRust.copy(words, r, a)
     }
 
     fn clear(&self, words: &mut [u32], r: u32) -> Result<(), u32> {
         self.refuses()?;
         if self.0 == ClearDoesNothing {
-            return Twin.clear(&mut words.to_vec(), r);
+            return PlainRust.clear(&mut words.to_vec(), r);
         }
-        Twin.clear(words, r)
+        PlainRust.clear(words, r)
     }
 
     fn new_cell(&self, words: &mut [u32], r: u32, a: u32, b: u32, v: u32) -> Result<u32, u32> {
         self.refuses()?;
         let before = words.to_vec();
         let empty = words.get(1) == Some(&0);
-        if self.0 == NewClearsItsRegisterFirst && empty && r < 16 && a != r && b != r {
-            if Twin.new_cell(&mut before.clone(), r, a, b, v).err().is_none_or(|code| code == 5) {
-                words[2 + r as usize] = 0;
-            }
+        let clears = self.0 == NewClearsItsRegisterFirst && empty && r < 16 && a != r && b != r;
+        if clears && PlainRust.new_cell(&mut before.clone(), r, a, b, v).err().is_none_or(|code| code == 5) {
+            words[2 + r as usize] = 0;
         }
         let answer = match self.0 {
-            NewSwapsLinks => Twin.new_cell(words, r, b, a, v),
+            NewSwapsLinks => PlainRust.new_cell(words, r, b, a, v),
             NewIgnoresLeftOfHead => {
                 let head = words.get(1).copied().unwrap_or(0);
                 let n = cells(words);
-                if (1..=n).contains(&head) && words[0] == n && words[cell_at(head)] == FREE && words[cell_at(head) + 1] > n {
+                if (1..=n).contains(&head)
+                    && words[0] == n
+                    && words[cell_at(head)] == FREE
+                    && words[cell_at(head) + 1] > n
+                {
                     words[cell_at(head) + 1] = 0;
                 }
-                let answer = Twin.new_cell(words, r, a, b, v);
+                let answer = PlainRust.new_cell(words, r, a, b, v);
                 if answer.is_err() {
                     words.copy_from_slice(&before);
                 }
                 answer
             }
-            _ => Twin.new_cell(words, r, a, b, v),
+            _ => PlainRust.new_cell(words, r, a, b, v),
         };
         match (self.0, answer) {
             (NewNeverCollects, Ok(_)) if empty => {
@@ -184,8 +191,8 @@ impl Interface for Faulty {
 
     fn left(&self, words: &mut [u32], r: u32, a: u32) -> Result<(), u32> {
         self.refuses()?;
-        let answer = Twin.left(words, r, a);
-        if self.0 == LeftIgnoresSoundness && answer == Err(3) && Twin.value(words, a).is_ok() {
+        let answer = PlainRust.left(words, r, a);
+        if self.0 == LeftIgnoresValidity && answer == Err(3) && PlainRust.value(words, a).is_ok() {
             words[2 + r as usize] = words[cell_at(register(words, a)) + 1];
             return Ok(());
         }
@@ -194,13 +201,13 @@ impl Interface for Faulty {
 
     fn right(&self, words: &mut [u32], r: u32, a: u32) -> Result<(), u32> {
         self.refuses()?;
-        Twin.right(words, r, a)
+        PlainRust.right(words, r, a)
     }
 
     fn setleft(&self, words: &mut [u32], a: u32, b: u32) -> Result<(), u32> {
         self.refuses()?;
-        let answer = Twin.setleft(words, a, b);
-        if self.0 == SetLeftAsksNilFirst && answer == Err(3) && register(words, a) == 0 {
+        let answer = PlainRust.setleft(words, a, b);
+        if self.0 == SetLeftChecksNilFirst && answer == Err(3) && register(words, a) == 0 {
             return Err(4);
         }
         answer
@@ -208,17 +215,17 @@ impl Interface for Faulty {
 
     fn setright(&self, words: &mut [u32], a: u32, b: u32) -> Result<(), u32> {
         self.refuses()?;
-        Twin.setright(words, a, b)
+        PlainRust.setright(words, a, b)
     }
 
     fn setvalue(&self, words: &mut [u32], a: u32, v: u32) -> Result<(), u32> {
         self.refuses()?;
-        Twin.setvalue(words, a, v)
+        PlainRust.setvalue(words, a, v)
     }
 
     fn value(&self, words: &mut [u32], a: u32) -> Result<u32, u32> {
         self.refuses()?;
-        match Twin.value(words, a) {
+        match PlainRust.value(words, a) {
             Err(4) if self.0 == ValueOfNilIsZero => Ok(0),
             answer => answer,
         }
@@ -226,7 +233,7 @@ impl Interface for Faulty {
 
     fn same(&self, words: &mut [u32], a: u32, b: u32) -> Result<u32, u32> {
         self.refuses()?;
-        match Twin.same(words, a, b) {
+        match PlainRust.same(words, a, b) {
             Ok(_) if self.0 == SameDistinguishesNils && register(words, a) == 0 => Ok(0),
             answer => answer,
         }
@@ -235,7 +242,7 @@ impl Interface for Faulty {
     fn collect(&self, words: &mut [u32]) -> Result<(u32, u32), u32> {
         self.refuses()?;
         let before = words.to_vec();
-        let (kept, visits) = Twin.collect(words)?;
+        let (kept, visits) = PlainRust.collect(words)?;
         let n = cells(words);
         match self.0 {
             CollectKeepsAll => {
@@ -247,11 +254,9 @@ impl Interface for Faulty {
                 words[1] = words[cell_at(words[1]) + 1];
             }
             CollectAnswersWrongVisits if kept > 3 => return Ok((kept, visits - 1)),
-            CollectJudgesFreeLinks => {
-                if (1..=n).any(|i| before[cell_at(i)] == FREE && before[cell_at(i) + 1] > n) {
-                    words.copy_from_slice(&before);
-                    return Err(3);
-                }
+            CollectChecksFreeLinks if (1..=n).any(|i| before[cell_at(i)] == FREE && before[cell_at(i) + 1] > n) => {
+                words.copy_from_slice(&before);
+                return Err(3);
             }
             CollectLeavesFreeValue if words[1] != 0 => {
                 let at = cell_at(words[1]) + 3;
@@ -264,7 +269,7 @@ impl Interface for Faulty {
 
     fn collect_tally(&self, words: &mut [u32], tally: &mut Tally) -> Result<(u32, u32), u32> {
         let before = *tally;
-        let answer = Twin.collect_tally(words, tally);
+        let answer = PlainRust.collect_tally(words, tally);
         match (self.0, answer) {
             (TallySkipsAtLimit, Ok((_, visits))) if before.visits.checked_add(visits).is_none() => {
                 tally.visits = before.visits;
@@ -278,7 +283,7 @@ impl Interface for Faulty {
     fn collect_stack(&self, words: &mut [u32], stack: &mut [u32]) -> Result<(u32, u32), u32> {
         let length = stack.len();
         let shorter = if self.0 == StackTooShortEarly { length.saturating_sub(1) } else { length };
-        let (kept, enough) = Twin.collect_stack(words, &mut stack[..shorter])?;
+        let (kept, enough) = PlainRust.collect_stack(words, &mut stack[..shorter])?;
         stack[shorter..].fill(0);
         match self.0 {
             StackNotCleared if length > 2 => stack[length - 1] = 1,
@@ -292,8 +297,10 @@ impl Interface for Faulty {
     }
 
     fn collect_recursive(&self, words: &mut [u32]) -> Result<(u32, u32), u32> {
-        match Twin.collect_recursive(words) {
-            Err(11) if self.0 == RecursiveAsksSoundnessFirst && Twin.collect(&mut words.to_vec()) == Err(3) => Err(3),
+        match PlainRust.collect_recursive(words) {
+            Err(11) if self.0 == RecursiveChecksLinksFirst && PlainRust.collect(&mut words.to_vec()) == Err(3) => {
+                Err(3)
+            }
             Ok(_) if self.0 == RecursiveLimitOneLess && cells(words) == 64 => Err(11),
             answer => answer,
         }
@@ -305,15 +312,15 @@ impl Interface for Faulty {
         let answer = match self.0 {
             SaveRightFirst => {
                 swap(words);
-                let answer = Twin.save(words, scratch, out);
+                let answer = PlainRust.save(words, scratch, out);
                 swap(words);
                 answer
             }
             SaveNeedsOneByteMore if !out.is_empty() => {
                 let shorter = out.len() - 1;
-                Twin.save(words, scratch, &mut out[..shorter])
+                PlainRust.save(words, scratch, &mut out[..shorter])
             }
-            _ => Twin.save(words, scratch, out),
+            _ => PlainRust.save(words, scratch, out),
         };
         match (self.0, answer) {
             (SaveConstant, Ok(_)) => {
@@ -333,7 +340,7 @@ impl Interface for Faulty {
 
     fn load(&self, words: &mut [u32], bytes: &[u8]) -> (Result<(), u32>, usize) {
         let before = words.get(1).copied();
-        let (answer, rest) = Twin.load(words, bytes);
+        let (answer, rest) = PlainRust.load(words, bytes);
         match (self.0, answer) {
             (LoadConfusesCutAndLarge, Err(7)) => (Err(6), rest),
             (LoadAnswersRestOfRefused, Err(_)) => (answer, 0),
@@ -342,18 +349,18 @@ impl Interface for Faulty {
                 words[1] = before.unwrap_or(0);
                 (answer, rest)
             }
-            (LoadAsksLinksBeforeCells, Err(9)) if bytes.len() > 1 && bytes[1] > bytes[0] => (Err(8), rest),
+            (LoadChecksLinksBeforeCells, Err(9)) if bytes.len() > 1 && bytes[1] > bytes[0] => (Err(8), rest),
             _ => (answer, rest),
         }
     }
 
     fn check_image(&self, bytes: &[u8], n: u32) -> Result<(), u32> {
         let n = if self.0 == CheckIgnoresLimit && n == 4001 { 4000 } else { n };
-        Twin.check_image(bytes, n)
+        PlainRust.check_image(bytes, n)
     }
 
     fn occupancy(&self, kept: u32, n: u32) -> Result<u32, u32> {
-        let percent = Twin.occupancy(kept, n)?;
+        let percent = PlainRust.occupancy(kept, n)?;
         Ok(if self.0 == OccupancyRoundsUp { (100 * kept).div_ceil(n) } else { percent })
     }
 }
@@ -363,7 +370,7 @@ fn random() -> Random {
 }
 
 fn all_checks(pool: &dyn Interface) -> Outcome {
-    checks::against_ledger(pool, &mut random(), 300)?;
+    checks::against_reference(pool, &mut random(), 300)?;
     checks::call_lists(pool, &mut random(), 100)?;
     checks::any_words(pool, &mut random(), 1_500)?;
     checks::collections(pool, &mut random(), 1_500)?;
@@ -374,7 +381,7 @@ fn all_checks(pool: &dyn Interface) -> Outcome {
 
 #[test]
 fn no_difference_is_found_without_a_fault() {
-    assert_eq!(all_checks(&Twin), Ok(()));
+    assert_eq!(all_checks(&PlainRust), Ok(()));
 }
 
 #[test]
@@ -385,9 +392,9 @@ fn every_fault_is_found() {
 }
 
 #[test]
-fn the_ledger_finds_the_faults_that_answers_show() {
+fn the_reference_model_finds_the_faults_that_answers_show() {
     for fault in FAULTS {
-        let found = checks::against_ledger(&Faulty(fault), &mut random(), 300).is_err();
-        assert_eq!(found, SEEN_BY_LEDGER.contains(&fault), "{fault:?}");
+        let found = checks::against_reference(&Faulty(fault), &mut random(), 300).is_err();
+        assert_eq!(found, SEEN_BY_REFERENCE.contains(&fault), "{fault:?}");
     }
 }

@@ -1,4 +1,4 @@
-//! The model against itself, against the ledger, and what the generated inputs reach.
+//! The model against itself, against the reference model, and what the generated inputs reach.
 
 mod common;
 
@@ -14,12 +14,12 @@ fn random(stream: u64) -> Random {
     Random::new(seed().wrapping_mul(1_000).wrapping_add(100 + stream))
 }
 
-/// Whole pools of many kinds.
-fn whole_pools(random: &mut Random, count: usize) -> Vec<Pool> {
+/// Well-formed pools of many kinds.
+fn well_formed_pools(random: &mut Random, count: usize) -> Vec<Pool> {
     let mut pools: Vec<Pool> = (0..count)
         .map(|_| {
             let n = generate::cells(random);
-            Pool::decode(&generate::whole(random, n)).expect("the size is right")
+            Pool::decode(&generate::well_formed(random, n)).expect("the size is right")
         })
         .collect();
     for shape in SHAPES {
@@ -32,8 +32,8 @@ fn whole_pools(random: &mut Random, count: usize) -> Vec<Pool> {
 
 #[test]
 fn three_markers_of_the_model_agree() {
-    for pool in whole_pools(&mut random(1), rounds(20_000)) {
-        assert!(pool.whole());
+    for pool in well_formed_pools(&mut random(1), rounds(20_000)) {
+        assert!(pool.well_formed());
         let reached = pool.reached();
         assert_eq!(reached, pool.reached_recursively());
         assert_eq!(reached, pool.depth_first().into_iter().collect());
@@ -52,7 +52,7 @@ fn the_depth_first_order_is_that_of_the_recursive_procedure() {
             visit(pool, pool.cell(link).right, order);
         }
     }
-    for pool in whole_pools(&mut random(2), rounds(5_000)) {
+    for pool in well_formed_pools(&mut random(2), rounds(5_000)) {
         let mut order = Vec::new();
         for link in pool.registers {
             visit(&pool, link, &mut order);
@@ -82,20 +82,20 @@ fn stack_words_of_the_known_shapes() {
 
 #[test]
 fn a_saved_image_loads_as_the_pool_that_saves_the_same_image() {
-    for pool in whole_pools(&mut random(4), rounds(5_000)) {
+    for pool in well_formed_pools(&mut random(4), rounds(5_000)) {
         let image = pool.image();
         let mut words = vec![7; 18 + 4 * pool.cells.len()];
         assert_eq!(Model.load(&mut words, &image), (Ok(()), image.len()));
         let loaded = Pool::decode(&words).expect("the size is right");
-        assert!(loaded.whole());
+        assert!(loaded.well_formed());
         assert_eq!(loaded.image(), image);
         assert_eq!(loaded.reached(), (1..=pool.reached().len() as u32).collect());
     }
 }
 
 #[test]
-fn the_model_answers_as_the_ledger() {
-    checks::against_ledger(&Model, &mut random(5), rounds(10_000)).unwrap();
+fn the_model_answers_as_the_reference_model() {
+    checks::against_reference(&Model, &mut random(5), rounds(10_000)).unwrap();
 }
 
 /// The model, counting every answer of every function.

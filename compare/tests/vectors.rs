@@ -69,11 +69,8 @@ fn numbers_are_written_in_the_fewest_groups() {
 #[test]
 fn numbers_are_read_in_up_to_five_groups() {
     on_all(|pool| {
-        let longer: [(u32, &[u8]); 3] = [
-            (0, &[0x80, 0x80, 0x80, 0x80, 0x00]),
-            (5, &[0x85, 0x00]),
-            (127, &[0xFF, 0x80, 0x00]),
-        ];
+        let longer: [(u32, &[u8]); 3] =
+            [(0, &[0x80, 0x80, 0x80, 0x80, 0x00]), (5, &[0x85, 0x00]), (127, &[0xFF, 0x80, 0x00])];
         for (value, written) in VALUES.iter().chain(&longer) {
             let mut cells = vec![0, 1];
             cells.extend(*written);
@@ -190,11 +187,11 @@ fn save_refusals_and_its_scratch() {
         assert_eq!(run(&words, 2, 19), (Err(10), vec![0; 2], vec![8; 19]));
         assert_eq!(run(&words, 4, 0), (Err(10), vec![0; 4], vec![]));
         assert_eq!(run(&words, 4, 20), (Ok(20), vec![0; 4], image(1, &[1], &[0, 0, 5])));
-        // The scratch is asked before the pool, and an unsound pool leaves it.
-        let mut unsound = words.clone();
-        unsound[19] = 2;
-        assert_eq!(run(&unsound, 1, 20), (Err(10), vec![6; 1], vec![8; 20]));
-        assert_eq!(run(&unsound, 2, 20), (Err(3), vec![6; 2], vec![8; 20]));
+        // The scratch is checked before the pool, and an malformed pool leaves it.
+        let mut malformed = words.clone();
+        malformed[19] = 2;
+        assert_eq!(run(&malformed, 1, 20), (Err(10), vec![6; 1], vec![8; 20]));
+        assert_eq!(run(&malformed, 2, 20), (Err(3), vec![6; 2], vec![8; 20]));
         assert_eq!(run(&words[..21], 0, 20), (Err(1), vec![], vec![8; 20]));
     });
 }
@@ -287,15 +284,7 @@ fn a_chain_with_equal_links_needs_one_word_less_than_its_cells() {
 fn marks_are_cleared_where_the_stack_overflows_and_links_are_restored() {
     on_all(|pool| {
         // Cell 1 leads to 2 and 3, cell 2 to 4 and 5; cell 6 is garbage, cell 7 free.
-        let cells = [
-            [0, 2, 3, 1],
-            [0, 4, 5, 2],
-            [0, 1, 0, 3],
-            [0, 0, 3, 4],
-            [0, 5, 5, 5],
-            [0, 1, 2, 6],
-            [4, 0, 0, 0],
-        ];
+        let cells = [[0, 2, 3, 1], [0, 4, 5, 2], [0, 1, 0, 3], [0, 0, 3, 4], [0, 5, 5, 5], [0, 1, 2, 6], [4, 0, 0, 0]];
         let mut after = cells;
         after[5] = [4, 7, 0, 0];
         for length in 0..4 {
@@ -306,9 +295,9 @@ fn marks_are_cleared_where_the_stack_overflows_and_links_are_restored() {
             assert_eq!(stack, vec![0; length]);
         }
         // A refused one leaves the stack.
-        let mut unsound = pool_words(7, &[0, 0, 0, 7], &cells);
+        let mut malformed = pool_words(7, &[0, 0, 0, 7], &cells);
         let mut stack = [3; 2];
-        assert_eq!(pool.collect_stack(&mut unsound, &mut stack), Err(3));
+        assert_eq!(pool.collect_stack(&mut malformed, &mut stack), Err(3));
         assert_eq!(stack, [3; 2]);
     });
 }
@@ -329,9 +318,9 @@ fn new_collects_with_the_old_content_of_its_register_as_a_root() {
 }
 
 #[test]
-fn new_takes_the_head_and_judges_only_it() {
+fn new_takes_the_head_and_checks_only_it() {
     on_all(|pool| {
-        // The head is asked to be free with a left of at most N; nothing else is.
+        // The head has to be free with a left of at most N; nothing else is.
         let cells = [[0, 9, 9, 1], [4, 3, 8, 8], [4, 0, 0, 0]];
         let mut words = pool_words(2, &[0, 0, 77], &cells);
         assert_eq!(pool.new_cell(&mut words, 5, 0, 1, 6), Ok(0));
@@ -381,7 +370,7 @@ fn links_are_read_and_written() {
 }
 
 #[test]
-fn the_questions_come_in_their_order() {
+fn refusals_come_in_the_order_of_the_document() {
     on_all(|pool| {
         // Register 1 is nil, register 2 holds a free cell, register 3 a number above N; cell 1 leads to a free cell.
         let words = pool_words(2, &[1, 0, 2, 3], &[[0, 2, 9, 7], [4, 0, 0, 0]]);
@@ -408,7 +397,7 @@ fn the_questions_come_in_their_order() {
         refused(4, &|words| code(pool.left(words, 0, 1)));
         refused(3, &|words| code(pool.left(words, 0, 0)));
         refused(3, &|words| code(pool.right(words, 0, 0)));
-        // b is judged before a is found nil.
+        // b is checked before a is found nil.
         refused(3, &|words| code(pool.setleft(words, 1, 2)));
         refused(3, &|words| code(pool.setright(words, 1, 3)));
         refused(4, &|words| code(pool.setright(words, 1, 1)));
@@ -431,7 +420,7 @@ fn the_questions_come_in_their_order() {
 }
 
 #[test]
-fn states_of_a_collection_make_a_pool_unsound() {
+fn states_of_a_collection_make_a_pool_malformed() {
     on_all(|pool| {
         for state in [1, 2, 3, 5, u32::MAX] {
             let words = pool_words(0, &[1], &[[0, 0, 0, 7], [state, 0, 0, 0]]);
@@ -467,7 +456,9 @@ fn the_tally_stops_at_its_limit() {
     on_all(|pool| {
         let words = pool_words(0, &[1], &[[0, 0, 0, 7]]);
         let most = u32::MAX;
-        for (before, after) in [((0, 0), (1, 3)), ((most - 1, most - 3), (most, most)), ((most, most - 2), (most, most))] {
+        for (before, after) in
+            [((0, 0), (1, 3)), ((most - 1, most - 3), (most, most)), ((most, most - 2), (most, most))]
+        {
             let mut tally = Tally { collections: before.0, visits: before.1 };
             let mut lent = words.clone();
             assert_eq!(pool.collect_tally(&mut lent, &mut tally), Ok((1, 3)));
@@ -475,8 +466,8 @@ fn the_tally_stops_at_its_limit() {
             assert_eq!(lent, words);
         }
         let mut tally = Tally { collections: 5, visits: 6 };
-        let mut unsound = pool_words(0, &[2], &[[0, 0, 0, 7]]);
-        assert_eq!(pool.collect_tally(&mut unsound, &mut tally), Err(3));
+        let mut malformed = pool_words(0, &[2], &[[0, 0, 0, 7]]);
+        assert_eq!(pool.collect_tally(&mut malformed, &mut tally), Err(3));
         assert_eq!(tally, Tally { collections: 5, visits: 6 });
     });
 }

@@ -3,10 +3,10 @@
 //! Each figure is the median of several samples of processor time. The samples of the implementations take turns, and a
 //! ratio is the median of the ratios of one turn. BENCH_SAMPLES sets the number of samples.
 
+use cellpool_compare::baseline::PlainRust;
 use cellpool_compare::generate::{Shape, SHAPES};
 use cellpool_compare::pool::Archive;
 use cellpool_compare::random::Random;
-use cellpool_compare::twin::Twin;
 use cellpool_compare::{words_for, Interface};
 use std::hint::black_box;
 use std::time::Duration;
@@ -68,8 +68,8 @@ impl Bench {
         let samples = std::env::var("BENCH_SAMPLES").ok().map_or(25, |text| text.parse().expect("BENCH_SAMPLES"));
         let pools: Vec<(&'static str, &'static dyn Interface)> = vec![
             ("library", &Archive),
-            ("plain Rust", &Twin),
-            #[cfg(c_twin)]
+            ("plain Rust", &PlainRust),
+            #[cfg(c_baseline)]
             ("plain C", &cellpool_compare::pool::PlainC),
         ];
         Bench { pools, samples }
@@ -128,7 +128,7 @@ impl Bench {
         let mut stack = vec![0; length];
         let mut enough = 0;
         let figures = self.repeat(|pool| {
-            enough = pool.collect_stack(black_box(words), &mut stack).expect("the pool is whole").1;
+            enough = pool.collect_stack(black_box(words), &mut stack).expect("the pool is well-formed").1;
         });
         (figures, enough)
     }

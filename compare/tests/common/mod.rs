@@ -1,14 +1,14 @@
 //! The implementations that every comparison runs on.
 
+use cellpool_compare::baseline::PlainRust;
 use cellpool_compare::guard::Guarded;
 use cellpool_compare::random::{seed, Random};
-use cellpool_compare::twin::Twin;
 use cellpool_compare::Interface;
 
 pub fn implementations() -> Vec<(&'static str, Box<dyn Interface>)> {
     vec![
-        ("plain Rust", Box::new(Guarded(Twin))),
-        #[cfg(c_twin)]
+        ("plain Rust", Box::new(Guarded(PlainRust))),
+        #[cfg(c_baseline)]
         ("plain C", Box::new(Guarded(cellpool_compare::pool::PlainC))),
         #[cfg(feature = "archive")]
         ("library", Box::new(Guarded(cellpool_compare::pool::Archive))),

@@ -1,4 +1,4 @@
-//! The ledger of the customer's document: a list of cells that only grows, sixteen registers, and a limit.
+//! The reference model of the customer's document: a list of cells that only grows, sixteen registers, and a limit.
 
 use crate::refusal::*;
 use crate::{Answer, Call, REGISTERS};
@@ -12,16 +12,16 @@ struct Cell {
 }
 
 #[derive(Clone, Debug)]
-pub struct Ledger {
+pub struct Reference {
     cells: Vec<Cell>,
     registers: [Option<usize>; REGISTERS],
     limit: u64,
 }
 
-impl Ledger {
+impl Reference {
     /// No cells, all registers nil.
-    pub fn new(limit: u64) -> Ledger {
-        Ledger { cells: Vec::new(), registers: [None; REGISTERS], limit }
+    pub fn new(limit: u64) -> Reference {
+        Reference { cells: Vec::new(), registers: [None; REGISTERS], limit }
     }
 
     /// The number of cells reached from the registers over left and right.
@@ -114,5 +114,9 @@ impl Ledger {
 }
 
 fn valid(numbers: &[u32]) -> Result<(), u32> {
-    if numbers.iter().all(|&number| (number as usize) < REGISTERS) { Ok(()) } else { Err(REGISTER) }
+    if numbers.iter().all(|&number| (number as usize) < REGISTERS) {
+        Ok(())
+    } else {
+        Err(REGISTER)
+    }
 }

@@ -6,7 +6,7 @@ use crate::refusal::*;
 use crate::{cell_at, Interface, Tally, CELL, FREE, HEADER, MOST_CELLS, MOST_RECURSIVE, REGISTERS, USED};
 
 #[derive(Clone, Copy, Debug, Default)]
-pub struct Twin;
+pub struct PlainRust;
 
 /// State of a marked cell.
 const MARKED: u32 = 3;
@@ -23,7 +23,7 @@ const REGISTER_0: usize = 2;
 fn size_of_length(len: usize) -> Result<u32, u32> {
     let cells = len.wrapping_sub(HEADER);
     let n = cells / CELL;
-    if len < HEADER || cells % CELL != 0 || n < 1 || n > MOST_CELLS {
+    if len < HEADER || !cells.is_multiple_of(CELL) || !(1..=MOST_CELLS).contains(&n) {
         return Err(SIZE);
     }
     Ok(n as u32)
@@ -31,20 +31,32 @@ fn size_of_length(len: usize) -> Result<u32, u32> {
 
 fn size(words: &[u32]) -> Result<u32, u32> {
     let n = size_of_length(words.len())?;
-    if words[0] == n { Ok(n) } else { Err(SIZE) }
+    if words[0] == n {
+        Ok(n)
+    } else {
+        Err(SIZE)
+    }
 }
 
 fn registers_valid(highest: u32) -> Result<(), u32> {
-    if (highest as usize) < REGISTERS { Ok(()) } else { Err(REGISTER) }
+    if (highest as usize) < REGISTERS {
+        Ok(())
+    } else {
+        Err(REGISTER)
+    }
 }
 
-fn sound(words: &[u32], n: u32, link: u32) -> bool {
+fn valid_link(words: &[u32], n: u32, link: u32) -> bool {
     link == 0 || (link <= n && words[cell_at(link)] == USED)
 }
 
 fn read(words: &[u32], n: u32, register: u32) -> Result<u32, u32> {
     let link = words[REGISTER_0 + register as usize];
-    if sound(words, n, link) { Ok(link) } else { Err(UNSOUND) }
+    if valid_link(words, n, link) {
+        Ok(link)
+    } else {
+        Err(MALFORMED)
+    }
 }
 
 fn held(words: &[u32], n: u32, register: u32) -> Result<usize, u32> {
@@ -54,20 +66,20 @@ fn held(words: &[u32], n: u32, register: u32) -> Result<usize, u32> {
     }
 }
 
-fn whole(words: &[u32], n: u32) -> Result<(), u32> {
+fn well_formed(words: &[u32], n: u32) -> Result<(), u32> {
     for &link in &words[REGISTER_0..HEADER] {
-        if !sound(words, n, link) {
-            return Err(UNSOUND);
+        if !valid_link(words, n, link) {
+            return Err(MALFORMED);
         }
     }
     for cell in words[HEADER..].chunks_exact(CELL) {
         let fine = match cell[STATE] {
-            USED => sound(words, n, cell[LEFT]) && sound(words, n, cell[RIGHT]),
+            USED => valid_link(words, n, cell[LEFT]) && valid_link(words, n, cell[RIGHT]),
             FREE => true,
             _ => false,
         };
         if !fine {
-            return Err(UNSOUND);
+            return Err(MALFORMED);
         }
     }
     Ok(())
@@ -178,7 +190,7 @@ fn sweep(words: &mut [u32], n: u32) -> u32 {
     kept
 }
 
-fn collect_whole(words: &mut [u32], n: u32) -> (u32, u32) {
+fn collect_well_formed(words: &mut [u32], n: u32) -> (u32, u32) {
     let visits = mark_by_reversal(words);
     (sweep(words, n), visits)
 }
@@ -187,8 +199,8 @@ fn follow(words: &mut [u32], r: u32, a: u32, side: usize) -> Result<(), u32> {
     let n = size(words)?;
     registers_valid(r.max(a))?;
     let link = words[held(words, n, a)? + side];
-    if !sound(words, n, link) {
-        return Err(UNSOUND);
+    if !valid_link(words, n, link) {
+        return Err(MALFORMED);
     }
     words[REGISTER_0 + r as usize] = link;
     Ok(())
@@ -213,10 +225,10 @@ impl Reader<'_> {
     fn number(&mut self) -> Result<u32, u32> {
         let mut number = 0;
         for place in 0..5 {
-            let byte = *self.bytes.get(self.at).ok_or(CUT)?;
+            let byte = *self.bytes.get(self.at).ok_or(TRUNCATED)?;
             self.at += 1;
             if place == 4 && byte > 0x0F {
-                return Err(LARGE);
+                return Err(OUT_OF_RANGE);
             }
             number |= u32::from(byte & 0x7F) << (7 * place);
             if byte < 0x80 {
@@ -228,16 +240,20 @@ impl Reader<'_> {
 
     fn link(&mut self, k: u32) -> Result<u32, u32> {
         let link = self.number()?;
-        if link <= k { Ok(link) } else { Err(LINK) }
+        if link <= k {
+            Ok(link)
+        } else {
+            Err(LINK_RANGE)
+        }
     }
 }
 
-/// Judge an image for `n` cells; answers where it ends.
-fn judge(bytes: &[u8], n: u32) -> Result<usize, u32> {
+/// Check an image for `n` cells; answers where it ends.
+fn validate(bytes: &[u8], n: u32) -> Result<usize, u32> {
     let mut reader = Reader { bytes, at: 0 };
     let k = reader.number()?;
     if k > n {
-        return Err(CELLS);
+        return Err(TOO_MANY_CELLS);
     }
     for _ in 0..REGISTERS {
         reader.link(k)?;
@@ -286,17 +302,17 @@ fn write_image(words: &[u32], numbers: &[u32], order: &[u32], mut out: Option<&m
 fn number_cells(words: &[u32], numbers: &mut [u32], order: &mut [u32]) -> usize {
     let mut count = 0;
     for &register in &words[REGISTER_0..HEADER] {
-        let mut in_hand = register;
+        let mut current = register;
         let mut pending = order.len();
         loop {
-            if in_hand != 0 && numbers[in_hand as usize - 1] == 0 {
+            if current != 0 && numbers[current as usize - 1] == 0 {
                 count += 1;
-                numbers[in_hand as usize - 1] = count as u32;
+                numbers[current as usize - 1] = count as u32;
                 pending -= 1;
-                order[pending] = in_hand;
-                in_hand = words[cell_at(in_hand) + LEFT];
+                order[pending] = current;
+                current = words[cell_at(current) + LEFT];
             } else if pending < order.len() {
-                in_hand = words[cell_at(order[pending]) + RIGHT];
+                current = words[cell_at(order[pending]) + RIGHT];
                 pending += 1;
             } else {
                 break;
@@ -311,7 +327,7 @@ fn number_cells(words: &[u32], numbers: &mut [u32], order: &mut [u32]) -> usize 
     count
 }
 
-impl Interface for Twin {
+impl Interface for PlainRust {
     fn fresh(&self, words: &mut [u32]) -> Result<u32, u32> {
         let n = size_of_length(words.len())?;
         words[0] = n;
@@ -342,19 +358,19 @@ impl Interface for Twin {
         let right = read(words, n, b)?;
         let mut visits = 0;
         if words[HEAD] == 0 {
-            whole(words, n)?;
-            visits = collect_whole(words, n).1;
+            well_formed(words, n)?;
+            visits = collect_well_formed(words, n).1;
             if words[HEAD] == 0 {
                 return Err(FULL);
             }
         }
         let head = words[HEAD];
         if head > n {
-            return Err(UNSOUND);
+            return Err(MALFORMED);
         }
         let at = cell_at(head);
         if words[at] != FREE || words[at + LEFT] > n {
-            return Err(UNSOUND);
+            return Err(MALFORMED);
         }
         words[HEAD] = words[at + LEFT];
         words[at..at + CELL].copy_from_slice(&[USED, left, right, v]);
@@ -401,8 +417,8 @@ impl Interface for Twin {
 
     fn collect(&self, words: &mut [u32]) -> Result<(u32, u32), u32> {
         let n = size(words)?;
-        whole(words, n)?;
-        Ok(collect_whole(words, n))
+        well_formed(words, n)?;
+        Ok(collect_well_formed(words, n))
     }
 
     fn collect_tally(&self, words: &mut [u32], tally: &mut Tally) -> Result<(u32, u32), u32> {
@@ -414,7 +430,7 @@ impl Interface for Twin {
 
     fn collect_stack(&self, words: &mut [u32], stack: &mut [u32]) -> Result<(u32, u32), u32> {
         let n = size(words)?;
-        whole(words, n)?;
+        well_formed(words, n)?;
         let enough = mark_with_stack(words, stack);
         if !enough {
             for cell in words[HEADER..].chunks_exact_mut(CELL) {
@@ -431,9 +447,9 @@ impl Interface for Twin {
     fn collect_recursive(&self, words: &mut [u32]) -> Result<(u32, u32), u32> {
         let n = size(words)?;
         if n as usize > MOST_RECURSIVE {
-            return Err(DEPTH);
+            return Err(TOO_LARGE);
         }
-        whole(words, n)?;
+        well_formed(words, n)?;
         for register in REGISTER_0..HEADER {
             if unmarked(words, words[register]) {
                 mark_recursively(words, words[register], n);
@@ -446,9 +462,9 @@ impl Interface for Twin {
     fn save(&self, words: &mut [u32], scratch: &mut [u32], out: &mut [u8]) -> Result<usize, u32> {
         let n = size(words)?;
         if scratch.len() < 2 * n as usize {
-            return Err(SPACE);
+            return Err(NO_ROOM);
         }
-        whole(words, n)?;
+        well_formed(words, n)?;
         scratch.fill(0);
         let (numbers, rest) = scratch.split_at_mut(n as usize);
         let order = &mut rest[..n as usize];
@@ -459,13 +475,17 @@ impl Interface for Twin {
             write_image(words, numbers, &order[..count], Some(out));
         }
         scratch.fill(0);
-        if fits { Ok(bytes) } else { Err(SPACE) }
+        if fits {
+            Ok(bytes)
+        } else {
+            Err(NO_ROOM)
+        }
     }
 
     fn load(&self, words: &mut [u32], bytes: &[u8]) -> (Result<(), u32>, usize) {
-        let judged = size_of_length(words.len()).and_then(|n| Ok((n, judge(bytes, n)?)));
-        let (n, end) = match judged {
-            Ok(judged) => judged,
+        let checked = size_of_length(words.len()).and_then(|n| Ok((n, validate(bytes, n)?)));
+        let (n, end) = match checked {
+            Ok(checked) => checked,
             Err(refusal) => return (Err(refusal), bytes.len()),
         };
         let mut reader = Reader { bytes, at: 0 };
@@ -492,7 +512,7 @@ impl Interface for Twin {
         if n < 1 || n as usize > MOST_CELLS {
             return Err(SIZE);
         }
-        judge(bytes, n).map(|_| ())
+        validate(bytes, n).map(|_| ())
     }
 
     fn occupancy(&self, kept: u32, n: u32) -> Result<u32, u32> {

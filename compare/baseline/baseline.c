@@ -1,36 +1,36 @@
 /*
  * The functions of cellpool.h in plain C, with the algorithms of the source documents: the benchmark's C baseline.
- * Its functions are named twin_*; with -DTWIN_AS_CELLPOOL they take the names of cellpool.h, which makes an archive
+ * Its functions are named baseline_*; with -DBASELINE_AS_CELLPOOL they take the names of cellpool.h, which makes an archive
  * to try the tests with.
  */
 #include "cellpool.h"
 
 #include <string.h>
 
-#ifdef TWIN_AS_CELLPOOL
+#ifdef BASELINE_AS_CELLPOOL
 #define NAME(name) cellpool_##name
 #else
-#define NAME(name) twin_##name
+#define NAME(name) baseline_##name
 /* Every function is declared before it is defined. */
-uint32_t twin_fresh(uint32_t *, size_t, uint32_t *);
-uint32_t twin_copy(uint32_t *, size_t, uint32_t, uint32_t);
-uint32_t twin_clear(uint32_t *, size_t, uint32_t);
-uint32_t twin_new(uint32_t *, size_t, uint32_t, uint32_t, uint32_t, uint32_t, uint32_t *);
-uint32_t twin_left(uint32_t *, size_t, uint32_t, uint32_t);
-uint32_t twin_right(uint32_t *, size_t, uint32_t, uint32_t);
-uint32_t twin_setleft(uint32_t *, size_t, uint32_t, uint32_t);
-uint32_t twin_setright(uint32_t *, size_t, uint32_t, uint32_t);
-uint32_t twin_setvalue(uint32_t *, size_t, uint32_t, uint32_t);
-uint32_t twin_value(uint32_t *, size_t, uint32_t, uint32_t *);
-uint32_t twin_same(uint32_t *, size_t, uint32_t, uint32_t, uint32_t *);
-uint32_t twin_collect(uint32_t *, size_t, uint32_t *, uint32_t *);
-uint32_t twin_collect_tally(uint32_t *, size_t, uint32_t *, uint32_t *, uint32_t *, uint32_t *);
-uint32_t twin_collect_stack(uint32_t *, size_t, uint32_t *, size_t, uint32_t *, uint32_t *);
-uint32_t twin_collect_recursive(uint32_t *, size_t, uint32_t *, uint32_t *);
-uint32_t twin_save(uint32_t *, size_t, uint32_t *, size_t, uint8_t *, size_t, size_t *);
-uint32_t twin_load(uint32_t *, size_t, const uint8_t *, size_t, size_t *);
-uint32_t twin_check_image(const uint8_t *, size_t, uint32_t);
-uint32_t twin_occupancy(uint32_t, uint32_t, uint32_t *);
+uint32_t baseline_fresh(uint32_t *, size_t, uint32_t *);
+uint32_t baseline_copy(uint32_t *, size_t, uint32_t, uint32_t);
+uint32_t baseline_clear(uint32_t *, size_t, uint32_t);
+uint32_t baseline_new(uint32_t *, size_t, uint32_t, uint32_t, uint32_t, uint32_t, uint32_t *);
+uint32_t baseline_left(uint32_t *, size_t, uint32_t, uint32_t);
+uint32_t baseline_right(uint32_t *, size_t, uint32_t, uint32_t);
+uint32_t baseline_setleft(uint32_t *, size_t, uint32_t, uint32_t);
+uint32_t baseline_setright(uint32_t *, size_t, uint32_t, uint32_t);
+uint32_t baseline_setvalue(uint32_t *, size_t, uint32_t, uint32_t);
+uint32_t baseline_value(uint32_t *, size_t, uint32_t, uint32_t *);
+uint32_t baseline_same(uint32_t *, size_t, uint32_t, uint32_t, uint32_t *);
+uint32_t baseline_collect(uint32_t *, size_t, uint32_t *, uint32_t *);
+uint32_t baseline_collect_tally(uint32_t *, size_t, uint32_t *, uint32_t *, uint32_t *, uint32_t *);
+uint32_t baseline_collect_stack(uint32_t *, size_t, uint32_t *, size_t, uint32_t *, uint32_t *);
+uint32_t baseline_collect_recursive(uint32_t *, size_t, uint32_t *, uint32_t *);
+uint32_t baseline_save(uint32_t *, size_t, uint32_t *, size_t, uint8_t *, size_t, size_t *);
+uint32_t baseline_load(uint32_t *, size_t, const uint8_t *, size_t, size_t *);
+uint32_t baseline_check_image(const uint8_t *, size_t, uint32_t);
+uint32_t baseline_occupancy(uint32_t, uint32_t, uint32_t *);
 #endif
 
 #define USED 0u
@@ -56,17 +56,17 @@ static uint32_t size_of(const uint32_t *words, size_t len) {
     return n != 0 && words[0] == n ? n : 0;
 }
 
-static int sound(uint32_t *words, uint32_t n, uint32_t link) {
+static int valid_link(uint32_t *words, uint32_t n, uint32_t link) {
     return link == 0 || (link <= n && cell(words, link)[STATE] == USED);
 }
 
-static int whole(uint32_t *words, uint32_t n) {
+static int well_formed(uint32_t *words, uint32_t n) {
     for (uint32_t i = 0; i < CELLPOOL_REGISTERS; i++)
-        if (!sound(words, n, REGISTER(i))) return 0;
+        if (!valid_link(words, n, REGISTER(i))) return 0;
     for (uint32_t i = 1; i <= n; i++) {
         uint32_t *at = cell(words, i);
         if (at[STATE] == USED) {
-            if (!sound(words, n, at[LEFT]) || !sound(words, n, at[RIGHT])) return 0;
+            if (!valid_link(words, n, at[LEFT]) || !valid_link(words, n, at[RIGHT])) return 0;
         } else if (at[STATE] != FREE) {
             return 0;
         }
@@ -171,7 +171,7 @@ uint32_t NAME(copy)(uint32_t *words, size_t len, uint32_t r, uint32_t a) {
     uint32_t n = size_of(words, len);
     if (n == 0) return CELLPOOL_REFUSED_SIZE;
     if (r >= CELLPOOL_REGISTERS || a >= CELLPOOL_REGISTERS) return CELLPOOL_REFUSED_REGISTER;
-    if (!sound(words, n, REGISTER(a))) return CELLPOOL_REFUSED_UNSOUND;
+    if (!valid_link(words, n, REGISTER(a))) return CELLPOOL_REFUSED_MALFORMED;
     REGISTER(r) = REGISTER(a);
     return CELLPOOL_OK;
 }
@@ -188,17 +188,17 @@ uint32_t NAME(new)(uint32_t *words, size_t len, uint32_t r, uint32_t a, uint32_t
     if (n == 0) return CELLPOOL_REFUSED_SIZE;
     if (r >= CELLPOOL_REGISTERS || a >= CELLPOOL_REGISTERS || b >= CELLPOOL_REGISTERS) return CELLPOOL_REFUSED_REGISTER;
     uint32_t left = REGISTER(a), right = REGISTER(b);
-    if (!sound(words, n, left) || !sound(words, n, right)) return CELLPOOL_REFUSED_UNSOUND;
+    if (!valid_link(words, n, left) || !valid_link(words, n, right)) return CELLPOOL_REFUSED_MALFORMED;
     if (words[1] == 0) {
-        if (!whole(words, n)) return CELLPOOL_REFUSED_UNSOUND;
+        if (!well_formed(words, n)) return CELLPOOL_REFUSED_MALFORMED;
         made = mark_by_reversal(words);
         sweep(words, n);
         if (words[1] == 0) return CELLPOOL_REFUSED_FULL;
     }
     uint32_t head = words[1];
-    if (head > n) return CELLPOOL_REFUSED_UNSOUND;
+    if (head > n) return CELLPOOL_REFUSED_MALFORMED;
     uint32_t *at = cell(words, head);
-    if (at[STATE] != FREE || at[LEFT] > n) return CELLPOOL_REFUSED_UNSOUND;
+    if (at[STATE] != FREE || at[LEFT] > n) return CELLPOOL_REFUSED_MALFORMED;
     words[1] = at[LEFT];
     at[STATE] = USED;
     at[LEFT] = left;
@@ -213,10 +213,10 @@ static uint32_t follow(uint32_t *words, size_t len, uint32_t r, uint32_t a, int 
     uint32_t n = size_of(words, len);
     if (n == 0) return CELLPOOL_REFUSED_SIZE;
     if (r >= CELLPOOL_REGISTERS || a >= CELLPOOL_REGISTERS) return CELLPOOL_REFUSED_REGISTER;
-    if (!sound(words, n, REGISTER(a))) return CELLPOOL_REFUSED_UNSOUND;
+    if (!valid_link(words, n, REGISTER(a))) return CELLPOOL_REFUSED_MALFORMED;
     if (REGISTER(a) == 0) return CELLPOOL_REFUSED_NIL;
     uint32_t link = cell(words, REGISTER(a))[side];
-    if (!sound(words, n, link)) return CELLPOOL_REFUSED_UNSOUND;
+    if (!valid_link(words, n, link)) return CELLPOOL_REFUSED_MALFORMED;
     REGISTER(r) = link;
     return CELLPOOL_OK;
 }
@@ -229,7 +229,7 @@ static uint32_t relink(uint32_t *words, size_t len, uint32_t a, uint32_t b, int 
     if (n == 0) return CELLPOOL_REFUSED_SIZE;
     if (a >= CELLPOOL_REGISTERS || b >= CELLPOOL_REGISTERS) return CELLPOOL_REFUSED_REGISTER;
     uint32_t to = REGISTER(a), link = REGISTER(b);
-    if (!sound(words, n, to) || !sound(words, n, link)) return CELLPOOL_REFUSED_UNSOUND;
+    if (!valid_link(words, n, to) || !valid_link(words, n, link)) return CELLPOOL_REFUSED_MALFORMED;
     if (to == 0) return CELLPOOL_REFUSED_NIL;
     cell(words, to)[side] = link;
     return CELLPOOL_OK;
@@ -243,7 +243,7 @@ static uint32_t held(uint32_t *words, size_t len, uint32_t a, uint32_t **at) {
     uint32_t n = size_of(words, len);
     if (n == 0) return CELLPOOL_REFUSED_SIZE;
     if (a >= CELLPOOL_REGISTERS) return CELLPOOL_REFUSED_REGISTER;
-    if (!sound(words, n, REGISTER(a))) return CELLPOOL_REFUSED_UNSOUND;
+    if (!valid_link(words, n, REGISTER(a))) return CELLPOOL_REFUSED_MALFORMED;
     if (REGISTER(a) == 0) return CELLPOOL_REFUSED_NIL;
     *at = cell(words, REGISTER(a));
     return CELLPOOL_OK;
@@ -267,7 +267,7 @@ uint32_t NAME(same)(uint32_t *words, size_t len, uint32_t a, uint32_t b, uint32_
     uint32_t n = size_of(words, len);
     if (n == 0) return CELLPOOL_REFUSED_SIZE;
     if (a >= CELLPOOL_REGISTERS || b >= CELLPOOL_REGISTERS) return CELLPOOL_REFUSED_REGISTER;
-    if (!sound(words, n, REGISTER(a)) || !sound(words, n, REGISTER(b))) return CELLPOOL_REFUSED_UNSOUND;
+    if (!valid_link(words, n, REGISTER(a)) || !valid_link(words, n, REGISTER(b))) return CELLPOOL_REFUSED_MALFORMED;
     *same = REGISTER(a) == REGISTER(b);
     return CELLPOOL_OK;
 }
@@ -275,7 +275,7 @@ uint32_t NAME(same)(uint32_t *words, size_t len, uint32_t a, uint32_t b, uint32_
 uint32_t NAME(collect)(uint32_t *words, size_t len, uint32_t *kept, uint32_t *visits) {
     uint32_t n = size_of(words, len);
     if (n == 0) return CELLPOOL_REFUSED_SIZE;
-    if (!whole(words, n)) return CELLPOOL_REFUSED_UNSOUND;
+    if (!well_formed(words, n)) return CELLPOOL_REFUSED_MALFORMED;
     *visits = mark_by_reversal(words);
     *kept = sweep(words, n);
     return CELLPOOL_OK;
@@ -297,7 +297,7 @@ uint32_t NAME(collect_stack)(uint32_t *words, size_t len, uint32_t *stack, size_
                              uint32_t *enough) {
     uint32_t n = size_of(words, len);
     if (n == 0) return CELLPOOL_REFUSED_SIZE;
-    if (!whole(words, n)) return CELLPOOL_REFUSED_UNSOUND;
+    if (!well_formed(words, n)) return CELLPOOL_REFUSED_MALFORMED;
     *enough = (uint32_t)mark_with_stack(words, stack, stack_len);
     if (!*enough) {
         for (uint32_t i = 1; i <= n; i++)
@@ -312,8 +312,8 @@ uint32_t NAME(collect_stack)(uint32_t *words, size_t len, uint32_t *stack, size_
 uint32_t NAME(collect_recursive)(uint32_t *words, size_t len, uint32_t *kept, uint32_t *visits) {
     uint32_t n = size_of(words, len);
     if (n == 0) return CELLPOOL_REFUSED_SIZE;
-    if (n > CELLPOOL_MOST_RECURSIVE) return CELLPOOL_REFUSED_DEPTH;
-    if (!whole(words, n)) return CELLPOOL_REFUSED_UNSOUND;
+    if (n > CELLPOOL_MOST_RECURSIVE) return CELLPOOL_REFUSED_TOO_LARGE;
+    if (!well_formed(words, n)) return CELLPOOL_REFUSED_MALFORMED;
     for (uint32_t i = 0; i < CELLPOOL_REGISTERS; i++)
         if (unmarked(words, REGISTER(i))) mark_recursively(words, REGISTER(i));
     *kept = sweep(words, n);
@@ -363,10 +363,10 @@ static uint32_t number_cells(uint32_t *words, uint32_t n, uint32_t *numbers, uin
 
 uint32_t NAME(save)(uint32_t *words, size_t len, uint32_t *scratch, size_t scratch_len, uint8_t *out, size_t out_len,
                     size_t *bytes) {
-    uint32_t n = size_of(words, len), answer = CELLPOOL_REFUSED_SPACE;
+    uint32_t n = size_of(words, len), answer = CELLPOOL_REFUSED_NO_ROOM;
     if (n == 0) return CELLPOOL_REFUSED_SIZE;
-    if (scratch_len < 2 * (size_t)n) return CELLPOOL_REFUSED_SPACE;
-    if (!whole(words, n)) return CELLPOOL_REFUSED_UNSOUND;
+    if (scratch_len < 2 * (size_t)n) return CELLPOOL_REFUSED_NO_ROOM;
+    if (!well_formed(words, n)) return CELLPOOL_REFUSED_MALFORMED;
     memset(scratch, 0, scratch_len * sizeof *scratch);
     uint32_t *numbers = scratch, *order = scratch + n;
     uint32_t k = number_cells(words, n, numbers, order);
@@ -398,9 +398,9 @@ uint32_t NAME(save)(uint32_t *words, size_t len, uint32_t *scratch, size_t scrat
 static uint32_t read_number(const uint8_t *bytes, size_t len, size_t *at, uint32_t *number) {
     uint32_t sum = 0;
     for (unsigned place = 0; place < 5; place++) {
-        if (*at == len) return CELLPOOL_REFUSED_CUT;
+        if (*at == len) return CELLPOOL_REFUSED_TRUNCATED;
         uint8_t byte = bytes[(*at)++];
-        if (place == 4 && byte > 0x0F) return CELLPOOL_REFUSED_NUMBER;
+        if (place == 4 && byte > 0x0F) return CELLPOOL_REFUSED_OUT_OF_RANGE;
         sum |= (uint32_t)(byte & 0x7F) << (7 * place);
         if (byte < 0x80) break;
     }
@@ -410,14 +410,14 @@ static uint32_t read_number(const uint8_t *bytes, size_t len, size_t *at, uint32
 
 static uint32_t read_link(const uint8_t *bytes, size_t len, size_t *at, uint32_t k) {
     uint32_t link, answer = read_number(bytes, len, at, &link);
-    return answer == CELLPOOL_OK && link > k ? CELLPOOL_REFUSED_LINK : answer;
+    return answer == CELLPOOL_OK && link > k ? CELLPOOL_REFUSED_LINK_RANGE : answer;
 }
 
-static uint32_t judge(const uint8_t *bytes, size_t len, uint32_t n, size_t *end) {
+static uint32_t validate(const uint8_t *bytes, size_t len, uint32_t n, size_t *end) {
     size_t at = 0;
     uint32_t k, value, answer = read_number(bytes, len, &at, &k);
     if (answer != CELLPOOL_OK) return answer;
-    if (k > n) return CELLPOOL_REFUSED_CELLS;
+    if (k > n) return CELLPOOL_REFUSED_TOO_MANY_CELLS;
     for (uint32_t i = 0; i < CELLPOOL_REGISTERS; i++)
         if ((answer = read_link(bytes, len, &at, k)) != CELLPOOL_OK) return answer;
     for (uint32_t i = 0; i < k; i++) {
@@ -434,7 +434,7 @@ uint32_t NAME(load)(uint32_t *words, size_t len, const uint8_t *bytes, size_t by
     size_t at = 0;
     *rest = bytes_len;
     if (n == 0) return CELLPOOL_REFUSED_SIZE;
-    answer = judge(bytes, bytes_len, n, rest);
+    answer = validate(bytes, bytes_len, n, rest);
     if (answer != CELLPOOL_OK) return answer;
     words[0] = n;
     read_number(bytes, bytes_len, &at, &k);
@@ -454,7 +454,7 @@ uint32_t NAME(load)(uint32_t *words, size_t len, const uint8_t *bytes, size_t by
 uint32_t NAME(check_image)(const uint8_t *bytes, size_t bytes_len, uint32_t n) {
     size_t end;
     if (n < 1 || n > CELLPOOL_MOST_CELLS) return CELLPOOL_REFUSED_SIZE;
-    return judge(bytes, bytes_len, n, &end);
+    return validate(bytes, bytes_len, n, &end);
 }
 
 uint32_t NAME(occupancy)(uint32_t kept, uint32_t n, uint32_t *percent) {
