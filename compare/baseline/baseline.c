@@ -1,0 +1,464 @@
+/*
+ * The functions of cellpool.h in plain C, with the algorithms of the source documents: the benchmark's C baseline.
+ * Its functions are named baseline_*; with -DBASELINE_AS_CELLPOOL they take the names of cellpool.h, which makes an archive
+ * to try the tests with.
+ */
+#include "cellpool.h"
+
+#include <string.h>
+
+#ifdef BASELINE_AS_CELLPOOL
+#define NAME(name) cellpool_##name
+#else
+#define NAME(name) baseline_##name
+/* Every function is declared before it is defined. */
+uint32_t baseline_fresh(uint32_t *, size_t, uint32_t *);
+uint32_t baseline_copy(uint32_t *, size_t, uint32_t, uint32_t);
+uint32_t baseline_clear(uint32_t *, size_t, uint32_t);
+uint32_t baseline_new(uint32_t *, size_t, uint32_t, uint32_t, uint32_t, uint32_t, uint32_t *);
+uint32_t baseline_left(uint32_t *, size_t, uint32_t, uint32_t);
+uint32_t baseline_right(uint32_t *, size_t, uint32_t, uint32_t);
+uint32_t baseline_setleft(uint32_t *, size_t, uint32_t, uint32_t);
+uint32_t baseline_setright(uint32_t *, size_t, uint32_t, uint32_t);
+uint32_t baseline_setvalue(uint32_t *, size_t, uint32_t, uint32_t);
+uint32_t baseline_value(uint32_t *, size_t, uint32_t, uint32_t *);
+uint32_t baseline_same(uint32_t *, size_t, uint32_t, uint32_t, uint32_t *);
+uint32_t baseline_collect(uint32_t *, size_t, uint32_t *, uint32_t *);
+uint32_t baseline_collect_tally(uint32_t *, size_t, uint32_t *, uint32_t *, uint32_t *, uint32_t *);
+uint32_t baseline_collect_stack(uint32_t *, size_t, uint32_t *, size_t, uint32_t *, uint32_t *);
+uint32_t baseline_collect_recursive(uint32_t *, size_t, uint32_t *, uint32_t *);
+uint32_t baseline_save(uint32_t *, size_t, uint32_t *, size_t, uint8_t *, size_t, size_t *);
+uint32_t baseline_load(uint32_t *, size_t, const uint8_t *, size_t, size_t *);
+uint32_t baseline_check_image(const uint8_t *, size_t, uint32_t);
+uint32_t baseline_occupancy(uint32_t, uint32_t, uint32_t *);
+#endif
+
+#define USED 0u
+#define FREE 4u
+#define MARKED 3u
+#define ROOT UINT32_MAX
+#define REGISTER(i) words[2 + (i)]
+
+enum { HEADER = 18, CELL = 4, STATE = 0, LEFT = 1, RIGHT = 2, VALUE = 3 };
+
+static uint32_t *cell(uint32_t *words, uint32_t i) { return words + HEADER + CELL * ((size_t)i - 1); }
+
+/* N by the length, 0 where it is refused. */
+static uint32_t cells_of(size_t len) {
+    if (len < HEADER + CELL || (len - HEADER) % CELL != 0) return 0;
+    size_t n = (len - HEADER) / CELL;
+    return n <= CELLPOOL_MOST_CELLS ? (uint32_t)n : 0;
+}
+
+/* N by the length and word 0, 0 where it is refused. */
+static uint32_t size_of(const uint32_t *words, size_t len) {
+    uint32_t n = cells_of(len);
+    return n != 0 && words[0] == n ? n : 0;
+}
+
+static int valid_link(uint32_t *words, uint32_t n, uint32_t link) {
+    return link == 0 || (link <= n && cell(words, link)[STATE] == USED);
+}
+
+static int well_formed(uint32_t *words, uint32_t n) {
+    for (uint32_t i = 0; i < CELLPOOL_REGISTERS; i++)
+        if (!valid_link(words, n, REGISTER(i))) return 0;
+    for (uint32_t i = 1; i <= n; i++) {
+        uint32_t *at = cell(words, i);
+        if (at[STATE] == USED) {
+            if (!valid_link(words, n, at[LEFT]) || !valid_link(words, n, at[RIGHT])) return 0;
+        } else if (at[STATE] != FREE) {
+            return 0;
+        }
+    }
+    return 1;
+}
+
+static int unmarked(uint32_t *words, uint32_t link) { return link != 0 && cell(words, link)[STATE] == USED; }
+
+static uint32_t mark_by_reversal(uint32_t *words) {
+    uint32_t visits = 0;
+    for (uint32_t i = 0; i < CELLPOOL_REGISTERS; i++) {
+        if (!unmarked(words, REGISTER(i))) continue;
+        uint32_t p = REGISTER(i), q = ROOT;
+        while (p != ROOT) {
+            uint32_t *at = cell(words, p);
+            uint32_t left = at[LEFT];
+            visits++;
+            at[STATE]++;
+            at[LEFT] = at[RIGHT];
+            at[RIGHT] = q;
+            if (at[STATE] == MARKED || unmarked(words, left)) {
+                q = p;
+                p = left;
+            } else {
+                q = left;
+            }
+        }
+    }
+    return visits;
+}
+
+static int mark_with_stack(uint32_t *words, uint32_t *stack, size_t stack_len) {
+    for (uint32_t i = 0; i < CELLPOOL_REGISTERS; i++) {
+        uint32_t node = REGISTER(i);
+        size_t height = 0;
+        if (!unmarked(words, node)) continue;
+        cell(words, node)[STATE] = MARKED;
+        for (;;) {
+            uint32_t left = cell(words, node)[LEFT], right = cell(words, node)[RIGHT];
+            int go_left = unmarked(words, left), go_right = unmarked(words, right);
+            if (go_left && go_right) {
+                if (height == stack_len) return 0;
+                cell(words, left)[STATE] = MARKED;
+                cell(words, right)[STATE] = MARKED;
+                stack[height++] = right;
+                node = left;
+            } else if (go_left) {
+                cell(words, left)[STATE] = MARKED;
+                node = left;
+            } else if (go_right) {
+                cell(words, right)[STATE] = MARKED;
+                node = right;
+            } else if (height == 0) {
+                break;
+            } else {
+                node = stack[--height];
+            }
+        }
+    }
+    return 1;
+}
+
+static void mark_recursively(uint32_t *words, uint32_t link) {
+    uint32_t *at = cell(words, link);
+    at[STATE] = MARKED;
+    if (unmarked(words, at[LEFT])) mark_recursively(words, at[LEFT]);
+    if (unmarked(words, at[RIGHT])) mark_recursively(words, at[RIGHT]);
+}
+
+static uint32_t sweep(uint32_t *words, uint32_t n) {
+    uint32_t kept = 0, next = 0;
+    for (uint32_t i = n; i >= 1; i--) {
+        uint32_t *at = cell(words, i);
+        if (at[STATE] == MARKED) {
+            at[STATE] = USED;
+            kept++;
+        } else {
+            at[STATE] = FREE;
+            at[LEFT] = next;
+            at[RIGHT] = 0;
+            at[VALUE] = 0;
+            next = i;
+        }
+    }
+    words[1] = next;
+    return kept;
+}
+
+uint32_t NAME(fresh)(uint32_t *words, size_t len, uint32_t *cells) {
+    uint32_t n = cells_of(len);
+    if (n == 0) return CELLPOOL_REFUSED_SIZE;
+    memset(words, 0, len * sizeof *words);
+    words[0] = n;
+    for (uint32_t i = 1; i <= n; i++) cell(words, i)[STATE] = FREE;
+    sweep(words, n);
+    *cells = n;
+    return CELLPOOL_OK;
+}
+
+uint32_t NAME(copy)(uint32_t *words, size_t len, uint32_t r, uint32_t a) {
+    uint32_t n = size_of(words, len);
+    if (n == 0) return CELLPOOL_REFUSED_SIZE;
+    if (r >= CELLPOOL_REGISTERS || a >= CELLPOOL_REGISTERS) return CELLPOOL_REFUSED_REGISTER;
+    if (!valid_link(words, n, REGISTER(a))) return CELLPOOL_REFUSED_MALFORMED;
+    REGISTER(r) = REGISTER(a);
+    return CELLPOOL_OK;
+}
+
+uint32_t NAME(clear)(uint32_t *words, size_t len, uint32_t r) {
+    if (size_of(words, len) == 0) return CELLPOOL_REFUSED_SIZE;
+    if (r >= CELLPOOL_REGISTERS) return CELLPOOL_REFUSED_REGISTER;
+    REGISTER(r) = 0;
+    return CELLPOOL_OK;
+}
+
+uint32_t NAME(new)(uint32_t *words, size_t len, uint32_t r, uint32_t a, uint32_t b, uint32_t v, uint32_t *visits) {
+    uint32_t n = size_of(words, len), made = 0;
+    if (n == 0) return CELLPOOL_REFUSED_SIZE;
+    if (r >= CELLPOOL_REGISTERS || a >= CELLPOOL_REGISTERS || b >= CELLPOOL_REGISTERS) return CELLPOOL_REFUSED_REGISTER;
+    uint32_t left = REGISTER(a), right = REGISTER(b);
+    if (!valid_link(words, n, left) || !valid_link(words, n, right)) return CELLPOOL_REFUSED_MALFORMED;
+    if (words[1] == 0) {
+        if (!well_formed(words, n)) return CELLPOOL_REFUSED_MALFORMED;
+        made = mark_by_reversal(words);
+        sweep(words, n);
+        if (words[1] == 0) return CELLPOOL_REFUSED_FULL;
+    }
+    uint32_t head = words[1];
+    if (head > n) return CELLPOOL_REFUSED_MALFORMED;
+    uint32_t *at = cell(words, head);
+    if (at[STATE] != FREE || at[LEFT] > n) return CELLPOOL_REFUSED_MALFORMED;
+    words[1] = at[LEFT];
+    at[STATE] = USED;
+    at[LEFT] = left;
+    at[RIGHT] = right;
+    at[VALUE] = v;
+    REGISTER(r) = head;
+    *visits = made;
+    return CELLPOOL_OK;
+}
+
+static uint32_t follow(uint32_t *words, size_t len, uint32_t r, uint32_t a, int side) {
+    uint32_t n = size_of(words, len);
+    if (n == 0) return CELLPOOL_REFUSED_SIZE;
+    if (r >= CELLPOOL_REGISTERS || a >= CELLPOOL_REGISTERS) return CELLPOOL_REFUSED_REGISTER;
+    if (!valid_link(words, n, REGISTER(a))) return CELLPOOL_REFUSED_MALFORMED;
+    if (REGISTER(a) == 0) return CELLPOOL_REFUSED_NIL;
+    uint32_t link = cell(words, REGISTER(a))[side];
+    if (!valid_link(words, n, link)) return CELLPOOL_REFUSED_MALFORMED;
+    REGISTER(r) = link;
+    return CELLPOOL_OK;
+}
+
+uint32_t NAME(left)(uint32_t *words, size_t len, uint32_t r, uint32_t a) { return follow(words, len, r, a, LEFT); }
+uint32_t NAME(right)(uint32_t *words, size_t len, uint32_t r, uint32_t a) { return follow(words, len, r, a, RIGHT); }
+
+static uint32_t relink(uint32_t *words, size_t len, uint32_t a, uint32_t b, int side) {
+    uint32_t n = size_of(words, len);
+    if (n == 0) return CELLPOOL_REFUSED_SIZE;
+    if (a >= CELLPOOL_REGISTERS || b >= CELLPOOL_REGISTERS) return CELLPOOL_REFUSED_REGISTER;
+    uint32_t to = REGISTER(a), link = REGISTER(b);
+    if (!valid_link(words, n, to) || !valid_link(words, n, link)) return CELLPOOL_REFUSED_MALFORMED;
+    if (to == 0) return CELLPOOL_REFUSED_NIL;
+    cell(words, to)[side] = link;
+    return CELLPOOL_OK;
+}
+
+uint32_t NAME(setleft)(uint32_t *words, size_t len, uint32_t a, uint32_t b) { return relink(words, len, a, b, LEFT); }
+uint32_t NAME(setright)(uint32_t *words, size_t len, uint32_t a, uint32_t b) { return relink(words, len, a, b, RIGHT); }
+
+/* The cell in register a. */
+static uint32_t held(uint32_t *words, size_t len, uint32_t a, uint32_t **at) {
+    uint32_t n = size_of(words, len);
+    if (n == 0) return CELLPOOL_REFUSED_SIZE;
+    if (a >= CELLPOOL_REGISTERS) return CELLPOOL_REFUSED_REGISTER;
+    if (!valid_link(words, n, REGISTER(a))) return CELLPOOL_REFUSED_MALFORMED;
+    if (REGISTER(a) == 0) return CELLPOOL_REFUSED_NIL;
+    *at = cell(words, REGISTER(a));
+    return CELLPOOL_OK;
+}
+
+uint32_t NAME(setvalue)(uint32_t *words, size_t len, uint32_t a, uint32_t v) {
+    uint32_t *at;
+    uint32_t answer = held(words, len, a, &at);
+    if (answer == CELLPOOL_OK) at[VALUE] = v;
+    return answer;
+}
+
+uint32_t NAME(value)(uint32_t *words, size_t len, uint32_t a, uint32_t *value) {
+    uint32_t *at;
+    uint32_t answer = held(words, len, a, &at);
+    if (answer == CELLPOOL_OK) *value = at[VALUE];
+    return answer;
+}
+
+uint32_t NAME(same)(uint32_t *words, size_t len, uint32_t a, uint32_t b, uint32_t *same) {
+    uint32_t n = size_of(words, len);
+    if (n == 0) return CELLPOOL_REFUSED_SIZE;
+    if (a >= CELLPOOL_REGISTERS || b >= CELLPOOL_REGISTERS) return CELLPOOL_REFUSED_REGISTER;
+    if (!valid_link(words, n, REGISTER(a)) || !valid_link(words, n, REGISTER(b))) return CELLPOOL_REFUSED_MALFORMED;
+    *same = REGISTER(a) == REGISTER(b);
+    return CELLPOOL_OK;
+}
+
+uint32_t NAME(collect)(uint32_t *words, size_t len, uint32_t *kept, uint32_t *visits) {
+    uint32_t n = size_of(words, len);
+    if (n == 0) return CELLPOOL_REFUSED_SIZE;
+    if (!well_formed(words, n)) return CELLPOOL_REFUSED_MALFORMED;
+    *visits = mark_by_reversal(words);
+    *kept = sweep(words, n);
+    return CELLPOOL_OK;
+}
+
+static uint32_t add(uint32_t sum, uint32_t more) { return more > UINT32_MAX - sum ? UINT32_MAX : sum + more; }
+
+uint32_t NAME(collect_tally)(uint32_t *words, size_t len, uint32_t *collections, uint32_t *total_visits,
+                             uint32_t *kept, uint32_t *visits) {
+    uint32_t answer = NAME(collect)(words, len, kept, visits);
+    if (answer == CELLPOOL_OK) {
+        *collections = add(*collections, 1);
+        *total_visits = add(*total_visits, *visits);
+    }
+    return answer;
+}
+
+uint32_t NAME(collect_stack)(uint32_t *words, size_t len, uint32_t *stack, size_t stack_len, uint32_t *kept,
+                             uint32_t *enough) {
+    uint32_t n = size_of(words, len);
+    if (n == 0) return CELLPOOL_REFUSED_SIZE;
+    if (!well_formed(words, n)) return CELLPOOL_REFUSED_MALFORMED;
+    *enough = (uint32_t)mark_with_stack(words, stack, stack_len);
+    if (!*enough) {
+        for (uint32_t i = 1; i <= n; i++)
+            if (cell(words, i)[STATE] == MARKED) cell(words, i)[STATE] = USED;
+        mark_by_reversal(words);
+    }
+    memset(stack, 0, stack_len * sizeof *stack);
+    *kept = sweep(words, n);
+    return CELLPOOL_OK;
+}
+
+uint32_t NAME(collect_recursive)(uint32_t *words, size_t len, uint32_t *kept, uint32_t *visits) {
+    uint32_t n = size_of(words, len);
+    if (n == 0) return CELLPOOL_REFUSED_SIZE;
+    if (n > CELLPOOL_MOST_RECURSIVE) return CELLPOOL_REFUSED_TOO_LARGE;
+    if (!well_formed(words, n)) return CELLPOOL_REFUSED_MALFORMED;
+    for (uint32_t i = 0; i < CELLPOOL_REGISTERS; i++)
+        if (unmarked(words, REGISTER(i))) mark_recursively(words, REGISTER(i));
+    *kept = sweep(words, n);
+    *visits = 3 * *kept;
+    return CELLPOOL_OK;
+}
+
+static size_t bytes_of(uint32_t number) {
+    size_t count = 1;
+    while (number > 0x7F) {
+        number >>= 7;
+        count++;
+    }
+    return count;
+}
+
+static uint8_t *write_number(uint8_t *out, uint32_t number) {
+    while (number > 0x7F) {
+        *out++ = (uint8_t)(number | 0x80);
+        number >>= 7;
+    }
+    *out++ = (uint8_t)number;
+    return out;
+}
+
+/* Number the reached cells depth first; order also holds the pending cells, from its end. Answers their count. */
+static uint32_t number_cells(uint32_t *words, uint32_t n, uint32_t *numbers, uint32_t *order) {
+    uint32_t count = 0;
+    for (uint32_t i = 0; i < CELLPOOL_REGISTERS; i++) {
+        uint32_t node = REGISTER(i), pending = n;
+        for (;;) {
+            if (node != 0 && numbers[node - 1] == 0) {
+                numbers[node - 1] = ++count;
+                order[--pending] = node;
+                node = cell(words, node)[LEFT];
+            } else if (pending < n) {
+                node = cell(words, order[pending++])[RIGHT];
+            } else {
+                break;
+            }
+        }
+    }
+    for (uint32_t i = 1; i <= n; i++)
+        if (numbers[i - 1] != 0) order[numbers[i - 1] - 1] = i;
+    return count;
+}
+
+uint32_t NAME(save)(uint32_t *words, size_t len, uint32_t *scratch, size_t scratch_len, uint8_t *out, size_t out_len,
+                    size_t *bytes) {
+    uint32_t n = size_of(words, len), answer = CELLPOOL_REFUSED_NO_ROOM;
+    if (n == 0) return CELLPOOL_REFUSED_SIZE;
+    if (scratch_len < 2 * (size_t)n) return CELLPOOL_REFUSED_NO_ROOM;
+    if (!well_formed(words, n)) return CELLPOOL_REFUSED_MALFORMED;
+    memset(scratch, 0, scratch_len * sizeof *scratch);
+    uint32_t *numbers = scratch, *order = scratch + n;
+    uint32_t k = number_cells(words, n, numbers, order);
+    size_t size = bytes_of(k);
+#define RENUMBER(link) ((link) == 0 ? 0 : numbers[(link) - 1])
+    for (uint32_t i = 0; i < CELLPOOL_REGISTERS; i++) size += bytes_of(RENUMBER(REGISTER(i)));
+    for (uint32_t i = 0; i < k; i++) {
+        uint32_t *at = cell(words, order[i]);
+        size += bytes_of(RENUMBER(at[LEFT])) + bytes_of(RENUMBER(at[RIGHT])) + bytes_of(at[VALUE]);
+    }
+    if (size <= out_len) {
+        out = write_number(out, k);
+        for (uint32_t i = 0; i < CELLPOOL_REGISTERS; i++) out = write_number(out, RENUMBER(REGISTER(i)));
+        for (uint32_t i = 0; i < k; i++) {
+            uint32_t *at = cell(words, order[i]);
+            out = write_number(out, RENUMBER(at[LEFT]));
+            out = write_number(out, RENUMBER(at[RIGHT]));
+            out = write_number(out, at[VALUE]);
+        }
+        *bytes = size;
+        answer = CELLPOOL_OK;
+    }
+#undef RENUMBER
+    memset(scratch, 0, 2 * (size_t)n * sizeof *scratch);
+    return answer;
+}
+
+/* Read one number at *at and advance. */
+static uint32_t read_number(const uint8_t *bytes, size_t len, size_t *at, uint32_t *number) {
+    uint32_t sum = 0;
+    for (unsigned place = 0; place < 5; place++) {
+        if (*at == len) return CELLPOOL_REFUSED_TRUNCATED;
+        uint8_t byte = bytes[(*at)++];
+        if (place == 4 && byte > 0x0F) return CELLPOOL_REFUSED_OUT_OF_RANGE;
+        sum |= (uint32_t)(byte & 0x7F) << (7 * place);
+        if (byte < 0x80) break;
+    }
+    *number = sum;
+    return CELLPOOL_OK;
+}
+
+static uint32_t read_link(const uint8_t *bytes, size_t len, size_t *at, uint32_t k) {
+    uint32_t link, answer = read_number(bytes, len, at, &link);
+    return answer == CELLPOOL_OK && link > k ? CELLPOOL_REFUSED_LINK_RANGE : answer;
+}
+
+static uint32_t validate(const uint8_t *bytes, size_t len, uint32_t n, size_t *end) {
+    size_t at = 0;
+    uint32_t k, value, answer = read_number(bytes, len, &at, &k);
+    if (answer != CELLPOOL_OK) return answer;
+    if (k > n) return CELLPOOL_REFUSED_TOO_MANY_CELLS;
+    for (uint32_t i = 0; i < CELLPOOL_REGISTERS; i++)
+        if ((answer = read_link(bytes, len, &at, k)) != CELLPOOL_OK) return answer;
+    for (uint32_t i = 0; i < k; i++) {
+        if ((answer = read_link(bytes, len, &at, k)) != CELLPOOL_OK) return answer;
+        if ((answer = read_link(bytes, len, &at, k)) != CELLPOOL_OK) return answer;
+        if ((answer = read_number(bytes, len, &at, &value)) != CELLPOOL_OK) return answer;
+    }
+    *end = at;
+    return CELLPOOL_OK;
+}
+
+uint32_t NAME(load)(uint32_t *words, size_t len, const uint8_t *bytes, size_t bytes_len, size_t *rest) {
+    uint32_t n = cells_of(len), k = 0, answer;
+    size_t at = 0;
+    *rest = bytes_len;
+    if (n == 0) return CELLPOOL_REFUSED_SIZE;
+    answer = validate(bytes, bytes_len, n, rest);
+    if (answer != CELLPOOL_OK) return answer;
+    words[0] = n;
+    read_number(bytes, bytes_len, &at, &k);
+    for (uint32_t i = 0; i < CELLPOOL_REGISTERS; i++) read_number(bytes, bytes_len, &at, &REGISTER(i));
+    for (uint32_t i = 1; i <= n; i++) {
+        uint32_t *to = cell(words, i);
+        to[STATE] = i <= k ? MARKED : FREE;
+        if (i > k) continue;
+        read_number(bytes, bytes_len, &at, &to[LEFT]);
+        read_number(bytes, bytes_len, &at, &to[RIGHT]);
+        read_number(bytes, bytes_len, &at, &to[VALUE]);
+    }
+    sweep(words, n);
+    return CELLPOOL_OK;
+}
+
+uint32_t NAME(check_image)(const uint8_t *bytes, size_t bytes_len, uint32_t n) {
+    size_t end;
+    if (n < 1 || n > CELLPOOL_MOST_CELLS) return CELLPOOL_REFUSED_SIZE;
+    return validate(bytes, bytes_len, n, &end);
+}
+
+uint32_t NAME(occupancy)(uint32_t kept, uint32_t n, uint32_t *percent) {
+    if (n < 1 || n > CELLPOOL_MOST_CELLS || kept > n) return CELLPOOL_REFUSED_SIZE;
+    *percent = 100 * kept / n;
+    return CELLPOOL_OK;
+}

@@ -1,0 +1,72 @@
+//! With the feature `archive`: link libcellpool.a, and the C baseline of the benchmark where a C compiler is found.
+//!
+//! CELLPOOL_LIB_DIR names another directory of the archive; CC another C compiler.
+
+use std::env;
+use std::path::PathBuf;
+use std::process::Command;
+
+fn main() {
+    println!("cargo:rustc-check-cfg=cfg(c_baseline)");
+    println!("cargo:rerun-if-changed=build.rs");
+    println!("cargo:rerun-if-env-changed=CELLPOOL_LIB_DIR");
+    println!("cargo:rerun-if-env-changed=CC");
+    if env::var_os("CARGO_FEATURE_ARCHIVE").is_none() {
+        return;
+    }
+    link_archive();
+    if build_c_baseline() {
+        println!("cargo:rustc-cfg=c_baseline");
+    } else {
+        println!("cargo:warning=no C compiler: the benchmark runs without its C baseline");
+    }
+}
+
+fn manifest_dir() -> PathBuf {
+    PathBuf::from(env::var_os("CARGO_MANIFEST_DIR").expect("cargo sets CARGO_MANIFEST_DIR"))
+}
+
+fn link_archive() {
+    let dir = match env::var_os("CELLPOOL_LIB_DIR") {
+        Some(dir) => PathBuf::from(dir),
+        None => manifest_dir().join("../target/staticlib"),
+    };
+    let archive = dir.join("libcellpool.a");
+    if !archive.is_file() {
+        panic!("{} is missing: build the static library first", archive.display());
+    }
+    println!("cargo:rerun-if-changed={}", archive.display());
+    println!("cargo:rustc-link-search=native={}", dir.display());
+    println!("cargo:rustc-link-lib=static=cellpool");
+    println!("cargo:rustc-env=CELLPOOL_ARCHIVE={}", archive.display());
+}
+
+fn build_c_baseline() -> bool {
+    let source = manifest_dir().join("baseline/baseline.c");
+    let include = manifest_dir().join("../include");
+    println!("cargo:rerun-if-changed={}", source.display());
+    println!("cargo:rerun-if-changed={}", include.display());
+    let out = PathBuf::from(env::var_os("OUT_DIR").expect("cargo sets OUT_DIR"));
+    let object = out.join("baseline.o");
+    let archive = out.join("libcellpool_baseline.a");
+    let cc = env::var_os("CC").unwrap_or_else(|| "cc".into());
+    let compiled = Command::new(cc)
+        .args(["-std=c99", "-O2", "-Wall", "-Wextra", "-Werror", "-fPIC", "-c"])
+        .arg("-I")
+        .arg(&include)
+        .arg(&source)
+        .arg("-o")
+        .arg(&object)
+        .status();
+    if !matches!(compiled, Ok(status) if status.success()) {
+        return false;
+    }
+    let _ = std::fs::remove_file(&archive);
+    let packed = Command::new("ar").arg("crs").arg(&archive).arg(&object).status();
+    if !matches!(packed, Ok(status) if status.success()) {
+        return false;
+    }
+    println!("cargo:rustc-link-search=native={}", out.display());
+    println!("cargo:rustc-link-lib=static=cellpool_baseline");
+    true
+}

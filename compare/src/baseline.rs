@@ -1,0 +1,524 @@
+//! A second implementation, in plain Rust, with the algorithms of the source documents working in place on the words:
+//! marking by link reversal, marking with a lent stack, recursive marking. The tests compare it with the model, so
+//! that the comparisons run without the library too, and it is the benchmark's baseline.
+
+use crate::refusal::*;
+use crate::{cell_at, Interface, Tally, CELL, FREE, HEADER, MOST_CELLS, MOST_RECURSIVE, REGISTERS, USED};
+
+#[derive(Clone, Copy, Debug, Default)]
+pub struct PlainRust;
+
+/// State of a marked cell.
+const MARKED: u32 = 3;
+/// The virtual root: no cell.
+const ROOT: u32 = u32::MAX;
+
+const STATE: usize = 0;
+const LEFT: usize = 1;
+const RIGHT: usize = 2;
+const VALUE: usize = 3;
+const HEAD: usize = 1;
+const REGISTER_0: usize = 2;
+
+fn size_of_length(len: usize) -> Result<u32, u32> {
+    let cells = len.wrapping_sub(HEADER);
+    let n = cells / CELL;
+    if len < HEADER || !cells.is_multiple_of(CELL) || !(1..=MOST_CELLS).contains(&n) {
+        return Err(SIZE);
+    }
+    Ok(n as u32)
+}
+
+fn size(words: &[u32]) -> Result<u32, u32> {
+    let n = size_of_length(words.len())?;
+    if words[0] == n {
+        Ok(n)
+    } else {
+        Err(SIZE)
+    }
+}
+
+fn registers_valid(highest: u32) -> Result<(), u32> {
+    if (highest as usize) < REGISTERS {
+        Ok(())
+    } else {
+        Err(REGISTER)
+    }
+}
+
+fn valid_link(words: &[u32], n: u32, link: u32) -> bool {
+    link == 0 || (link <= n && words[cell_at(link)] == USED)
+}
+
+fn read(words: &[u32], n: u32, register: u32) -> Result<u32, u32> {
+    let link = words[REGISTER_0 + register as usize];
+    if valid_link(words, n, link) {
+        Ok(link)
+    } else {
+        Err(MALFORMED)
+    }
+}
+
+fn held(words: &[u32], n: u32, register: u32) -> Result<usize, u32> {
+    match read(words, n, register)? {
+        0 => Err(NIL),
+        link => Ok(cell_at(link)),
+    }
+}
+
+fn well_formed(words: &[u32], n: u32) -> Result<(), u32> {
+    for &link in &words[REGISTER_0..HEADER] {
+        if !valid_link(words, n, link) {
+            return Err(MALFORMED);
+        }
+    }
+    for cell in words[HEADER..].chunks_exact(CELL) {
+        let fine = match cell[STATE] {
+            USED => valid_link(words, n, cell[LEFT]) && valid_link(words, n, cell[RIGHT]),
+            FREE => true,
+            _ => false,
+        };
+        if !fine {
+            return Err(MALFORMED);
+        }
+    }
+    Ok(())
+}
+
+fn unmarked(words: &[u32], link: u32) -> bool {
+    link != 0 && words[cell_at(link)] == USED
+}
+
+/// Mark by link reversal from every register; answers the visits.
+pub fn mark_by_reversal(words: &mut [u32]) -> u32 {
+    let mut visits = 0;
+    for register in REGISTER_0..HEADER {
+        if !unmarked(words, words[register]) {
+            continue;
+        }
+        let (mut p, mut q) = (words[register], ROOT);
+        while p != ROOT {
+            let at = cell_at(p);
+            visits += 1;
+            words[at + STATE] += 1;
+            let (l, r) = (words[at + LEFT], words[at + RIGHT]);
+            words[at + LEFT] = r;
+            words[at + RIGHT] = q;
+            if words[at + STATE] == MARKED || unmarked(words, l) {
+                q = p;
+                p = l;
+            } else {
+                q = l;
+            }
+        }
+    }
+    visits
+}
+
+/// Mark by Algorithm 2 of source document 003; answers whether the stack was enough.
+fn mark_with_stack(words: &mut [u32], stack: &mut [u32]) -> bool {
+    for register in REGISTER_0..HEADER {
+        let mut node = words[register];
+        if !unmarked(words, node) {
+            continue;
+        }
+        words[cell_at(node)] = MARKED;
+        let mut height = 0;
+        loop {
+            let at = cell_at(node);
+            let (l, r) = (words[at + LEFT], words[at + RIGHT]);
+            match (unmarked(words, l), unmarked(words, r)) {
+                (false, false) => {
+                    if height == 0 {
+                        break;
+                    }
+                    height -= 1;
+                    node = stack[height];
+                }
+                (false, true) => {
+                    words[cell_at(r)] = MARKED;
+                    node = r;
+                }
+                (true, false) => {
+                    words[cell_at(l)] = MARKED;
+                    node = l;
+                }
+                (true, true) => {
+                    if height == stack.len() {
+                        return false;
+                    }
+                    words[cell_at(l)] = MARKED;
+                    words[cell_at(r)] = MARKED;
+                    stack[height] = r;
+                    height += 1;
+                    node = l;
+                }
+            }
+        }
+    }
+    true
+}
+
+/// The recursive procedure of source document 000; the depth left falls at each call.
+fn mark_recursively(words: &mut [u32], link: u32, depth: u32) {
+    assert!(depth > 0, "a chain of at most N cells has depth N");
+    let at = cell_at(link);
+    words[at] = MARKED;
+    let (l, r) = (words[at + LEFT], words[at + RIGHT]);
+    if unmarked(words, l) {
+        mark_recursively(words, l, depth - 1);
+    }
+    if unmarked(words, r) {
+        mark_recursively(words, r, depth - 1);
+    }
+}
+
+/// Free every unmarked cell and rebuild the ascending chain; answers the kept cells.
+fn sweep(words: &mut [u32], n: u32) -> u32 {
+    let (mut kept, mut next) = (0, 0);
+    for i in (1..=n).rev() {
+        let at = cell_at(i);
+        if words[at] == MARKED {
+            words[at] = USED;
+            kept += 1;
+        } else {
+            words[at..at + CELL].copy_from_slice(&[FREE, next, 0, 0]);
+            next = i;
+        }
+    }
+    words[HEAD] = next;
+    kept
+}
+
+fn collect_well_formed(words: &mut [u32], n: u32) -> (u32, u32) {
+    let visits = mark_by_reversal(words);
+    (sweep(words, n), visits)
+}
+
+fn follow(words: &mut [u32], r: u32, a: u32, side: usize) -> Result<(), u32> {
+    let n = size(words)?;
+    registers_valid(r.max(a))?;
+    let link = words[held(words, n, a)? + side];
+    if !valid_link(words, n, link) {
+        return Err(MALFORMED);
+    }
+    words[REGISTER_0 + r as usize] = link;
+    Ok(())
+}
+
+fn relink(words: &mut [u32], a: u32, b: u32, side: usize) -> Result<(), u32> {
+    let n = size(words)?;
+    registers_valid(a.max(b))?;
+    let link = read(words, n, b)?;
+    let at = held(words, n, a)?;
+    words[at + side] = link;
+    Ok(())
+}
+
+/// A reader laid over an image.
+struct Reader<'a> {
+    bytes: &'a [u8],
+    at: usize,
+}
+
+impl Reader<'_> {
+    fn number(&mut self) -> Result<u32, u32> {
+        let mut number = 0;
+        for place in 0..5 {
+            let byte = *self.bytes.get(self.at).ok_or(TRUNCATED)?;
+            self.at += 1;
+            if place == 4 && byte > 0x0F {
+                return Err(OUT_OF_RANGE);
+            }
+            number |= u32::from(byte & 0x7F) << (7 * place);
+            if byte < 0x80 {
+                break;
+            }
+        }
+        Ok(number)
+    }
+
+    fn link(&mut self, k: u32) -> Result<u32, u32> {
+        let link = self.number()?;
+        if link <= k {
+            Ok(link)
+        } else {
+            Err(LINK_RANGE)
+        }
+    }
+}
+
+/// Check an image for `n` cells; answers where it ends.
+fn validate(bytes: &[u8], n: u32) -> Result<usize, u32> {
+    let mut reader = Reader { bytes, at: 0 };
+    let k = reader.number()?;
+    if k > n {
+        return Err(TOO_MANY_CELLS);
+    }
+    for _ in 0..REGISTERS {
+        reader.link(k)?;
+    }
+    for _ in 0..k {
+        reader.link(k)?;
+        reader.link(k)?;
+        reader.number()?;
+    }
+    Ok(reader.at)
+}
+
+/// Write a number, or only count its bytes.
+fn write(out: &mut Option<&mut [u8]>, at: &mut usize, mut number: u32) {
+    loop {
+        let more = number > 0x7F;
+        if let Some(out) = out {
+            out[*at] = (number & 0x7F) as u8 | if more { 0x80 } else { 0 };
+        }
+        *at += 1;
+        number >>= 7;
+        if !more {
+            return;
+        }
+    }
+}
+
+/// Write the image of the first `count` cells of `order`, or only count its bytes.
+fn write_image(words: &[u32], numbers: &[u32], order: &[u32], mut out: Option<&mut [u8]>) -> usize {
+    let renumber = |link: u32| if link == 0 { 0 } else { numbers[link as usize - 1] };
+    let mut at = 0;
+    write(&mut out, &mut at, order.len() as u32);
+    for &link in &words[REGISTER_0..HEADER] {
+        write(&mut out, &mut at, renumber(link));
+    }
+    for &i in order {
+        let cell = cell_at(i);
+        write(&mut out, &mut at, renumber(words[cell + LEFT]));
+        write(&mut out, &mut at, renumber(words[cell + RIGHT]));
+        write(&mut out, &mut at, words[cell + VALUE]);
+    }
+    at
+}
+
+/// Number the reached cells: `numbers` by cell, `order` by number. The top end of `order` holds the pending cells.
+fn number_cells(words: &[u32], numbers: &mut [u32], order: &mut [u32]) -> usize {
+    let mut count = 0;
+    for &register in &words[REGISTER_0..HEADER] {
+        let mut current = register;
+        let mut pending = order.len();
+        loop {
+            if current != 0 && numbers[current as usize - 1] == 0 {
+                count += 1;
+                numbers[current as usize - 1] = count as u32;
+                pending -= 1;
+                order[pending] = current;
+                current = words[cell_at(current) + LEFT];
+            } else if pending < order.len() {
+                current = words[cell_at(order[pending]) + RIGHT];
+                pending += 1;
+            } else {
+                break;
+            }
+        }
+    }
+    for i in 1..=numbers.len() {
+        if numbers[i - 1] != 0 {
+            order[numbers[i - 1] as usize - 1] = i as u32;
+        }
+    }
+    count
+}
+
+impl Interface for PlainRust {
+    fn fresh(&self, words: &mut [u32]) -> Result<u32, u32> {
+        let n = size_of_length(words.len())?;
+        words[0] = n;
+        words[REGISTER_0..HEADER].fill(0);
+        words[HEADER..].fill(FREE);
+        sweep(words, n);
+        Ok(n)
+    }
+
+    fn copy(&self, words: &mut [u32], r: u32, a: u32) -> Result<(), u32> {
+        let n = size(words)?;
+        registers_valid(r.max(a))?;
+        words[REGISTER_0 + r as usize] = read(words, n, a)?;
+        Ok(())
+    }
+
+    fn clear(&self, words: &mut [u32], r: u32) -> Result<(), u32> {
+        size(words)?;
+        registers_valid(r)?;
+        words[REGISTER_0 + r as usize] = 0;
+        Ok(())
+    }
+
+    fn new_cell(&self, words: &mut [u32], r: u32, a: u32, b: u32, v: u32) -> Result<u32, u32> {
+        let n = size(words)?;
+        registers_valid(r.max(a).max(b))?;
+        let left = read(words, n, a)?;
+        let right = read(words, n, b)?;
+        let mut visits = 0;
+        if words[HEAD] == 0 {
+            well_formed(words, n)?;
+            visits = collect_well_formed(words, n).1;
+            if words[HEAD] == 0 {
+                return Err(FULL);
+            }
+        }
+        let head = words[HEAD];
+        if head > n {
+            return Err(MALFORMED);
+        }
+        let at = cell_at(head);
+        if words[at] != FREE || words[at + LEFT] > n {
+            return Err(MALFORMED);
+        }
+        words[HEAD] = words[at + LEFT];
+        words[at..at + CELL].copy_from_slice(&[USED, left, right, v]);
+        words[REGISTER_0 + r as usize] = head;
+        Ok(visits)
+    }
+
+    fn left(&self, words: &mut [u32], r: u32, a: u32) -> Result<(), u32> {
+        follow(words, r, a, LEFT)
+    }
+
+    fn right(&self, words: &mut [u32], r: u32, a: u32) -> Result<(), u32> {
+        follow(words, r, a, RIGHT)
+    }
+
+    fn setleft(&self, words: &mut [u32], a: u32, b: u32) -> Result<(), u32> {
+        relink(words, a, b, LEFT)
+    }
+
+    fn setright(&self, words: &mut [u32], a: u32, b: u32) -> Result<(), u32> {
+        relink(words, a, b, RIGHT)
+    }
+
+    fn setvalue(&self, words: &mut [u32], a: u32, v: u32) -> Result<(), u32> {
+        let n = size(words)?;
+        registers_valid(a)?;
+        let at = held(words, n, a)?;
+        words[at + VALUE] = v;
+        Ok(())
+    }
+
+    fn value(&self, words: &mut [u32], a: u32) -> Result<u32, u32> {
+        let n = size(words)?;
+        registers_valid(a)?;
+        Ok(words[held(words, n, a)? + VALUE])
+    }
+
+    fn same(&self, words: &mut [u32], a: u32, b: u32) -> Result<u32, u32> {
+        let n = size(words)?;
+        registers_valid(a.max(b))?;
+        let first = read(words, n, a)?;
+        Ok(u32::from(first == read(words, n, b)?))
+    }
+
+    fn collect(&self, words: &mut [u32]) -> Result<(u32, u32), u32> {
+        let n = size(words)?;
+        well_formed(words, n)?;
+        Ok(collect_well_formed(words, n))
+    }
+
+    fn collect_tally(&self, words: &mut [u32], tally: &mut Tally) -> Result<(u32, u32), u32> {
+        let (kept, visits) = self.collect(words)?;
+        tally.collections = tally.collections.saturating_add(1);
+        tally.visits = tally.visits.saturating_add(visits);
+        Ok((kept, visits))
+    }
+
+    fn collect_stack(&self, words: &mut [u32], stack: &mut [u32]) -> Result<(u32, u32), u32> {
+        let n = size(words)?;
+        well_formed(words, n)?;
+        let enough = mark_with_stack(words, stack);
+        if !enough {
+            for cell in words[HEADER..].chunks_exact_mut(CELL) {
+                if cell[STATE] == MARKED {
+                    cell[STATE] = USED;
+                }
+            }
+            mark_by_reversal(words);
+        }
+        stack.fill(0);
+        Ok((sweep(words, n), u32::from(enough)))
+    }
+
+    fn collect_recursive(&self, words: &mut [u32]) -> Result<(u32, u32), u32> {
+        let n = size(words)?;
+        if n as usize > MOST_RECURSIVE {
+            return Err(TOO_LARGE);
+        }
+        well_formed(words, n)?;
+        for register in REGISTER_0..HEADER {
+            if unmarked(words, words[register]) {
+                mark_recursively(words, words[register], n);
+            }
+        }
+        let kept = sweep(words, n);
+        Ok((kept, 3 * kept))
+    }
+
+    fn save(&self, words: &mut [u32], scratch: &mut [u32], out: &mut [u8]) -> Result<usize, u32> {
+        let n = size(words)?;
+        if scratch.len() < 2 * n as usize {
+            return Err(NO_ROOM);
+        }
+        well_formed(words, n)?;
+        scratch.fill(0);
+        let (numbers, rest) = scratch.split_at_mut(n as usize);
+        let order = &mut rest[..n as usize];
+        let count = number_cells(words, numbers, order);
+        let bytes = write_image(words, numbers, &order[..count], None);
+        let fits = bytes <= out.len();
+        if fits {
+            write_image(words, numbers, &order[..count], Some(out));
+        }
+        scratch.fill(0);
+        if fits {
+            Ok(bytes)
+        } else {
+            Err(NO_ROOM)
+        }
+    }
+
+    fn load(&self, words: &mut [u32], bytes: &[u8]) -> (Result<(), u32>, usize) {
+        let checked = size_of_length(words.len()).and_then(|n| Ok((n, validate(bytes, n)?)));
+        let (n, end) = match checked {
+            Ok(checked) => checked,
+            Err(refusal) => return (Err(refusal), bytes.len()),
+        };
+        let mut reader = Reader { bytes, at: 0 };
+        let mut next = || reader.number().unwrap_or(0);
+        words[0] = n;
+        let k = next();
+        for register in &mut words[REGISTER_0..HEADER] {
+            *register = next();
+        }
+        for i in 1..=n {
+            let at = cell_at(i);
+            words[at] = if i <= k { MARKED } else { FREE };
+            if i <= k {
+                words[at + LEFT] = next();
+                words[at + RIGHT] = next();
+                words[at + VALUE] = next();
+            }
+        }
+        sweep(words, n);
+        (Ok(()), end)
+    }
+
+    fn check_image(&self, bytes: &[u8], n: u32) -> Result<(), u32> {
+        if n < 1 || n as usize > MOST_CELLS {
+            return Err(SIZE);
+        }
+        validate(bytes, n).map(|_| ())
+    }
+
+    fn occupancy(&self, kept: u32, n: u32) -> Result<u32, u32> {
+        if n < 1 || n as usize > MOST_CELLS || kept > n {
+            return Err(SIZE);
+        }
+        Ok(100 * kept / n)
+    }
+}

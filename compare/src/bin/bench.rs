@@ -1,0 +1,264 @@
+//! Times of the library beside the same algorithms in plain Rust and plain C, on the same words in one run.
+//!
+//! Each figure is the median of several samples of processor time. The samples of the implementations take turns, and a
+//! ratio is the median of the ratios of one turn. BENCH_SAMPLES sets the number of samples.
+
+use cellpool_compare::baseline::PlainRust;
+use cellpool_compare::generate::{Shape, SHAPES};
+use cellpool_compare::pool::Archive;
+use cellpool_compare::random::Random;
+use cellpool_compare::{words_for, Interface};
+use std::hint::black_box;
+use std::time::Duration;
+
+/// Processor time of one sample: long beside the clock's resolution.
+const SAMPLE: Duration = Duration::from_millis(1);
+
+/// Processor time of this thread, so that other work on the machine counts little.
+#[cfg(target_os = "linux")]
+fn now() -> Duration {
+    #[repr(C)]
+    struct Timespec {
+        seconds: std::ffi::c_long,
+        nanoseconds: std::ffi::c_long,
+    }
+    extern "C" {
+        fn clock_gettime(clock: std::ffi::c_int, time: *mut Timespec) -> std::ffi::c_int;
+    }
+    const THREAD_CPU_TIME: std::ffi::c_int = 3;
+    let mut time = Timespec { seconds: 0, nanoseconds: 0 };
+    // SAFETY: the pointer is to a local structure of the layout that the function writes.
+    let answer = unsafe { clock_gettime(THREAD_CPU_TIME, &mut time) };
+    assert_eq!(answer, 0, "the clock is there");
+    Duration::new(time.seconds as u64, time.nanoseconds as u32)
+}
+
+#[cfg(not(target_os = "linux"))]
+fn now() -> Duration {
+    use std::sync::OnceLock;
+    use std::time::Instant;
+    static START: OnceLock<Instant> = OnceLock::new();
+    START.get_or_init(Instant::now).elapsed()
+}
+
+struct Bench {
+    pools: Vec<(&'static str, &'static dyn Interface)>,
+    samples: usize,
+}
+
+/// Nanoseconds of one run of the library, and its time over that of each other implementation.
+struct Figures {
+    library: f64,
+    ratios: Vec<f64>,
+}
+
+impl Figures {
+    fn ratios(&self) -> String {
+        self.ratios.iter().map(|ratio| format!(" {ratio:.2} |")).collect()
+    }
+}
+
+fn median(mut list: Vec<f64>) -> f64 {
+    list.sort_by(f64::total_cmp);
+    list[list.len() / 2]
+}
+
+impl Bench {
+    fn new() -> Bench {
+        let samples = std::env::var("BENCH_SAMPLES").ok().map_or(25, |text| text.parse().expect("BENCH_SAMPLES"));
+        let pools: Vec<(&'static str, &'static dyn Interface)> = vec![
+            ("library", &Archive),
+            ("plain Rust", &PlainRust),
+            #[cfg(c_baseline)]
+            ("plain C", &cellpool_compare::pool::PlainC),
+        ];
+        Bench { pools, samples }
+    }
+
+    fn others(&self) -> String {
+        self.pools[1..].iter().map(|(name, _)| format!(" library / {name} |")).collect()
+    }
+
+    /// The line under a table's heads: columns of text, then of numbers.
+    fn rule(&self, text: usize, numbers: usize) {
+        println!("|{}{}", "---|".repeat(text), "---:|".repeat(numbers + self.pools.len() - 1));
+    }
+
+    /// `run` works so many times and answers how long that took.
+    fn measure(&self, mut run: impl FnMut(&dyn Interface, usize) -> Duration) -> Figures {
+        // Warm up, and find how many runs make a sample long enough.
+        let mut repeats = 1;
+        for (_, pool) in &self.pools {
+            run(*pool, 1);
+            let once = run(*pool, 4).max(Duration::from_nanos(4)) / 4;
+            repeats = repeats.max((SAMPLE.as_nanos() / once.as_nanos().max(1)) as usize);
+        }
+        let rounds: Vec<Vec<f64>> = (0..self.samples)
+            .map(|_| {
+                let time = |pool: &dyn Interface| run(pool, repeats).as_nanos() as f64 / repeats as f64;
+                self.pools.iter().map(|(_, pool)| *pool).map(time).collect()
+            })
+            .collect();
+        Figures {
+            library: median(rounds.iter().map(|times| times[0]).collect()),
+            ratios: (1..self.pools.len())
+                .map(|other| median(rounds.iter().map(|times| times[0] / times[other]).collect()))
+                .collect(),
+        }
+    }
+
+    /// Repeat `run`, which must leave what it needs to run again.
+    fn repeat(&self, mut run: impl FnMut(&dyn Interface)) -> Figures {
+        self.measure(|pool, repeats| {
+            let start = now();
+            (0..repeats).for_each(|_| run(pool));
+            now() - start
+        })
+    }
+
+    /// A collection leaves the words of a collected pool as they are.
+    fn collect(&self, words: &mut [u32]) -> Figures {
+        self.repeat(|pool| {
+            let answer = pool.collect(black_box(words));
+            assert!(answer.is_ok_and(|(kept, visits)| visits == 3 * kept));
+        })
+    }
+
+    fn stack(&self, words: &mut [u32], length: usize) -> (Figures, u32) {
+        let mut stack = vec![0; length];
+        let mut enough = 0;
+        let figures = self.repeat(|pool| {
+            enough = pool.collect_stack(black_box(words), &mut stack).expect("the pool is well-formed").1;
+        });
+        (figures, enough)
+    }
+
+    fn save(&self, words: &mut [u32]) -> (Figures, Vec<u8>) {
+        let n = words[0] as usize;
+        let (mut scratch, mut out, mut bytes) = (vec![0; 2 * n], vec![0; 34 + 9 * n], 0);
+        let figures = self.repeat(|pool| {
+            bytes = pool.save(black_box(words), &mut scratch, &mut out).expect("the output is long enough");
+        });
+        out.truncate(bytes);
+        (figures, out)
+    }
+
+    fn load(&self, n: usize, image: &[u8]) -> Figures {
+        let mut words = vec![0; words_for(n)];
+        self.repeat(|pool| assert_eq!(pool.load(&mut words, black_box(image)), (Ok(()), image.len())))
+    }
+
+    fn check(&self, n: usize, image: &[u8]) -> Figures {
+        self.repeat(|pool| assert_eq!(pool.check_image(black_box(image), n as u32), Ok(())))
+    }
+
+    /// One of `count` calls that are timed together; `prepare` is not timed.
+    fn calls(
+        &self,
+        count: usize,
+        prepare: impl Fn(&dyn Interface, &mut [u32]),
+        call: impl Fn(&dyn Interface, &mut [u32], u32) -> bool,
+        words: &mut [u32],
+    ) -> Figures {
+        let figures = self.measure(|pool, repeats| {
+            let once = |_| {
+                prepare(pool, words);
+                let start = now();
+                let done = (0..count as u32).all(|place| call(pool, black_box(words), place));
+                let time = now() - start;
+                assert!(done);
+                time
+            };
+            (0..repeats).map(once).sum()
+        });
+        Figures { library: figures.library / count as f64, ..figures }
+    }
+}
+
+fn main() {
+    let bench = Bench::new();
+    let mut random = Random::new(7);
+    let n = 4000;
+    println!("Median of {} samples; every cell of a graph is reached, except in the random one.\n", bench.samples);
+
+    println!("### Collect by link reversal, {n} cells\n");
+    println!("| graph | library, µs |{}", bench.others());
+    bench.rule(1, 1);
+    for shape in SHAPES {
+        let mut words = shape.words(n, &mut random);
+        let figures = bench.collect(&mut words);
+        println!("| {} | {:.1} |{}", shape.name(), figures.library / 1e3, figures.ratios());
+    }
+
+    println!("\n### Collect with a lent stack, {n} cells\n");
+    println!("| graph | stack words | enough | library, µs | library's reversal / stack |{}", bench.others());
+    bench.rule(3, 2);
+    for shape in SHAPES {
+        let words = shape.words(n, &mut random);
+        let reversal = bench.collect(&mut words.clone());
+        for length in [n, 16] {
+            let (figures, enough) = bench.stack(&mut words.clone(), length);
+            println!(
+                "| {} | {length} | {} | {:.1} | {:.2} |{}",
+                shape.name(),
+                if enough == 1 { "yes" } else { "no" },
+                figures.library / 1e3,
+                reversal.library / figures.library,
+                figures.ratios()
+            );
+        }
+    }
+
+    println!("\n### Calls, {n} cells\n");
+    println!("| call | library, ns |{}", bench.others());
+    bench.rule(1, 1);
+    let mut words = vec![0; words_for(n)];
+    let fresh = |pool: &dyn Interface, words: &mut [u32]| {
+        pool.fresh(words).expect("the size is right");
+    };
+    let figures = bench.calls(n, fresh, |pool, words, v| pool.new_cell(words, 0, 0, 1, v).is_ok(), &mut words);
+    println!("| new, a cell is free | {:.1} |{}", figures.library, figures.ratios());
+    let figures = bench.calls(8 * n, fresh, |pool, words, v| pool.new_cell(words, 0, 1, 1, v).is_ok(), &mut words);
+    println!("| new, its collections shared out, one cell live | {:.1} |{}", figures.library, figures.ratios());
+    let chain = Shape::LeftChain.words(n, &mut random);
+    let restart = |_: &dyn Interface, words: &mut [u32]| words.copy_from_slice(&chain);
+    let figures = bench.calls(n - 1, restart, |pool, words, _| pool.left(words, 0, 0).is_ok(), &mut words);
+    println!("| left, down a chain | {:.1} |{}", figures.library, figures.ratios());
+    let figures = bench.calls(n, restart, |pool, words, v| pool.setright(words, 0, v & 1).is_ok(), &mut words);
+    println!("| setright | {:.1} |{}", figures.library, figures.ratios());
+    let figures = bench.calls(n, restart, |pool, words, _| pool.value(words, 0).is_ok(), &mut words);
+    println!("| value | {:.1} |{}", figures.library, figures.ratios());
+
+    println!("\n### Images, {n} cells\n");
+    println!("| graph | function | library, ns a cell |{}", bench.others());
+    bench.rule(2, 1);
+    for shape in [Shape::Balanced, Shape::LeftChain, Shape::Random] {
+        let mut words = shape.words(n, &mut random);
+        let (save, image) = bench.save(&mut words);
+        let (load, check) = (bench.load(n, &image), bench.check(n, &image));
+        for (name, figures) in [("save", save), ("load", load), ("check", check)] {
+            println!("| {} | {name} | {:.1} |{}", shape.name(), figures.library / n as f64, figures.ratios());
+        }
+    }
+
+    println!("\n### Growth with the number of cells: the library's ns a cell (library / plain Rust)\n");
+    let sizes = [500, 1000, 2000, 4000];
+    println!("| graph | function |{}", sizes.map(|n| format!(" N = {n} |")).concat());
+    println!("|---|---|{}", "---:|".repeat(sizes.len()));
+    for shape in [Shape::Balanced, Shape::LeftChain, Shape::Ladder, Shape::Random] {
+        let mut rows = ["collect", "collect with a stack", "save", "load"].map(|name| (name, String::new()));
+        for n in sizes {
+            let mut words = shape.words(n, &mut random);
+            let (save, image) = bench.save(&mut words);
+            let load = bench.load(n, &image);
+            let collect = bench.collect(&mut words);
+            let (stack, _) = bench.stack(&mut words, n);
+            for (row, figures) in rows.iter_mut().zip([collect, stack, save, load]) {
+                row.1 += &format!(" {:.1} ({:.2}) |", figures.library / n as f64, figures.ratios[0]);
+            }
+        }
+        for (name, cells) in rows {
+            println!("| {} | {name} |{cells}", shape.name());
+        }
+    }
+}

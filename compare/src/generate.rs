@@ -1,0 +1,352 @@
+//! Random calls, words and images, and graphs of known shape.
+
+use crate::model::{groups, Model};
+use crate::random::Random;
+use crate::{apply, cell_at, words_for, Call, Interface, CELL, FREE, HEADER, REGISTERS, USED};
+
+/// A register number: mostly one of the first few, seldom one that is refused.
+fn register(random: &mut Random, among: usize) -> u32 {
+    if random.once_in(60) {
+        random.pick(&[16, 17, 31, 255, 65_536, u32::MAX])
+    } else {
+        random.below(among) as u32
+    }
+}
+
+pub fn value(random: &mut Random) -> u32 {
+    match random.below(4) {
+        0 => random.below(4) as u32,
+        1 => random.pick(&[0, 127, 128, 300, 16_383, 16_384, 2_097_151, 2_097_152, 268_435_455, 268_435_456, u32::MAX]),
+        2 => random.word() >> random.below(32),
+        _ => random.word(),
+    }
+}
+
+/// One call on `among` registers; `new` comes `weight` times as often as another.
+pub fn call(random: &mut Random, among: usize, weight: usize) -> Call {
+    let mut one = || register(random, among);
+    let (r, a, b) = (one(), one(), one());
+    let v = value(random);
+    match random.below(11 + weight) {
+        0 | 10 => Call::Copy { r, a },
+        1 => Call::Clear { r },
+        2 => Call::Left { r, a },
+        3 => Call::Right { r, a },
+        4 => Call::SetLeft { a, b },
+        5 => Call::SetRight { a, b },
+        6 => Call::SetValue { a, v },
+        7 => Call::Value { a },
+        8 => Call::Same { a, b },
+        9 => {
+            if random.once_in(4) {
+                Call::Collect
+            } else {
+                Call::Clear { r }
+            }
+        }
+        _ => Call::New { r, a, b, v },
+    }
+}
+
+pub fn calls(random: &mut Random, count: usize) -> Vec<Call> {
+    let among = random.pick(&[1, 2, 3, 4, 8, REGISTERS]);
+    let weight = random.pick(&[3, 8, 20]);
+    (0..count).map(|_| call(random, among, weight)).collect()
+}
+
+/// A small number of cells, now and then more.
+pub fn cells(random: &mut Random) -> usize {
+    match random.below(20) {
+        0..=11 => random.between(1, 8),
+        12..=17 => random.between(1, 40),
+        18 => random.between(60, 70),
+        _ => random.between(1, 200),
+    }
+}
+
+/// Words of a pool of `n` cells with every word random.
+pub fn noise(random: &mut Random, n: usize) -> Vec<u32> {
+    (0..words_for(n)).map(|_| random.word()).collect()
+}
+
+/// A well-formed pool: random used cells, valid links, any content of the free cells, and a head of several kinds.
+pub fn well_formed(random: &mut Random, n: usize) -> Vec<u32> {
+    let share = random.pick(&[0, 1, 2, 5, 9, 10, 10]);
+    let used: Vec<u32> = (1..=n as u32).filter(|_| random.below(10) < share).collect();
+    let nils = random.pick(&[1, 3, 8]);
+    let link = |random: &mut Random| {
+        if used.is_empty() || random.once_in(1 + nils) {
+            0
+        } else {
+            random.pick(&used)
+        }
+    };
+    let mut words = vec![0; words_for(n)];
+    words[0] = n as u32;
+    let held = random.pick(&[0, 1, 2, 4, 8, REGISTERS, 2 * REGISTERS]);
+    for _ in 0..held {
+        let register = random.below(REGISTERS);
+        words[2 + register] = link(random);
+    }
+    for _ in 0..random.below(4) {
+        words[2 + random.below(4)] = words[2 + random.below(REGISTERS)];
+    }
+    for i in 1..=n as u32 {
+        let at = cell_at(i);
+        if used.contains(&i) {
+            let left = link(random);
+            let right = if random.once_in(4) { left } else { link(random) };
+            words[at..at + CELL].copy_from_slice(&[USED, left, right, value(random)]);
+        } else {
+            let left = if random.once_in(8) { random.word() } else { random.below(n + 1) as u32 };
+            words[at..at + CELL].copy_from_slice(&[FREE, left, value(random), value(random)]);
+        }
+    }
+    words[1] = match random.below(5) {
+        0 => 0,
+        1 => random.below(n + 2) as u32,
+        2 => random.pick(&[1, n as u32, n as u32 + 1, u32::MAX]),
+        _ => (1..=n as u32).find(|i| !used.contains(i)).unwrap_or(0),
+    };
+    words
+}
+
+/// A pool that calls have made.
+pub fn built_by_calls(random: &mut Random, n: usize) -> Vec<u32> {
+    let mut words = vec![0; words_for(n)];
+    Model.fresh(&mut words).expect("the length is right");
+    let count = random.between(0, 4 * n.min(60));
+    for call in calls(random, count) {
+        apply(&Model, &mut words, call);
+    }
+    words
+}
+
+/// Change one to three places so that the words may be malformed, or of a wrong size.
+pub fn damage(random: &mut Random, words: &mut Vec<u32>) {
+    let n = (words.len() - HEADER) / CELL;
+    for _ in 0..random.between(1, 3) {
+        let bad = |random: &mut Random| {
+            let n = n as u32;
+            let near = random.below(n as usize + 2) as u32;
+            random.pick(&[0, 1, n, n + 1, n + 2, near, near, near, 4000, 4001, 1 << 30, 1 << 31, u32::MAX])
+        };
+        if words.len() != words_for(n) {
+            return;
+        }
+        let cell = cell_at(random.between(1, n) as u32);
+        match random.below(12) {
+            0 => words[0] = bad(random),
+            1 => words[0] = (n as u32).wrapping_add(random.pick(&[1, 2, u32::MAX])),
+            2 | 3 => words[1] = bad(random),
+            4 => words[2 + random.below(REGISTERS)] = bad(random),
+            5 | 6 => words[cell] = random.pick(&[0, 1, 2, 3, 4, 5, u32::MAX]),
+            7 | 8 => words[cell + 1] = bad(random),
+            9 => words[cell + 2] = bad(random),
+            10 => {
+                let place = random.below(words.len());
+                words[place] = random.word();
+            }
+            _ => {
+                if random.once_in(3) {
+                    let length = random.between(words.len().saturating_sub(5), words.len() + 5);
+                    words.resize(length, 0);
+                }
+            }
+        }
+    }
+}
+
+/// Words of any kind.
+pub fn words(random: &mut Random) -> Vec<u32> {
+    let n = cells(random);
+    match random.below(10) {
+        0 => {
+            let mut words = noise(random, n);
+            if !random.once_in(3) {
+                words[0] = n as u32;
+            }
+            words
+        }
+        1 | 2 => built_by_calls(random, n),
+        3..=5 => well_formed(random, n),
+        6 | 7 => {
+            let mut words = built_by_calls(random, n);
+            damage(random, &mut words);
+            words
+        }
+        _ => {
+            let mut words = well_formed(random, n);
+            damage(random, &mut words);
+            words
+        }
+    }
+}
+
+/// A number in at least its fewest groups, seldom more.
+fn padded(random: &mut Random, number: u32, bytes: &mut Vec<u8>) {
+    let mut written = groups(number);
+    if random.once_in(12) {
+        let last = written.len() - 1;
+        written[last] |= 0x80;
+        while written.len() < 4 && random.once_in(2) {
+            written.push(0x80);
+        }
+        if written.len() < 5 {
+            written.push(0);
+        } else {
+            written[last] &= 0x7F;
+        }
+    }
+    bytes.extend(written);
+}
+
+/// An image for about `n` cells: complete, cut, with more bytes behind it, with damaged bytes, or with numbers too large.
+pub fn image(random: &mut Random, n: usize) -> Vec<u8> {
+    if random.once_in(12) {
+        return (0..random.below(80)).map(|_| random.word() as u8 >> random.below(8)).collect();
+    }
+    let most = if random.once_in(10) { n + 2 } else { n };
+    let k = random.between(0, most) as u32;
+    let faults = random.once_in(3);
+    let link = |random: &mut Random| {
+        if faults && random.once_in(20) {
+            k.wrapping_add(random.pick(&[1, 2, 1000, u32::MAX - 4000]))
+        } else {
+            random.below(k as usize + 1) as u32
+        }
+    };
+    let mut bytes = Vec::new();
+    padded(random, k, &mut bytes);
+    for _ in 0..REGISTERS {
+        let register = link(random);
+        padded(random, register, &mut bytes);
+    }
+    for _ in 0..k {
+        for _ in 0..2 {
+            let link = link(random);
+            padded(random, link, &mut bytes);
+        }
+        let number = value(random);
+        padded(random, number, &mut bytes);
+    }
+    match random.below(8) {
+        0 => bytes.truncate(random.below(bytes.len() + 1)),
+        1 => {
+            let more = random.between(1, 9);
+            bytes.extend((0..more).map(|_| random.word() as u8));
+        }
+        2 | 3 => {
+            for _ in 0..random.between(1, 3) {
+                let place = random.below(bytes.len());
+                let any = random.word() as u8;
+                bytes[place] = random.pick(&[0x00, 0x01, 0x0F, 0x10, 0x7F, 0x80, 0x81, 0x8F, 0xFF, any]);
+            }
+        }
+        4 => {
+            let place = random.below(bytes.len());
+            let large = random.pick(&[
+                [0xFF, 0xFF, 0xFF, 0xFF, 0x0F],
+                [0xFF, 0xFF, 0xFF, 0xFF, 0x10],
+                [0x80, 0x80, 0x80, 0x80, 0x80],
+                [0x80, 0x80, 0x80, 0x80, 0x00],
+                [0x80, 0x80, 0x80, 0x80, 0x1F],
+                [0xFF, 0xFF, 0xFF, 0xFF, 0x8F],
+            ]);
+            bytes.splice(place..place, large);
+        }
+        _ => {}
+    }
+    bytes
+}
+
+/// Graphs of the tables of source document 003, and two more.
+#[derive(Clone, Copy, Debug, PartialEq, Eq)]
+pub enum Shape {
+    /// A complete binary tree.
+    Balanced,
+    /// Every left link leads to the next cell.
+    LeftChain,
+    /// Every right link leads to the next cell, every left link to the last one.
+    RightChain,
+    /// A left chain where every cell has two cells on its right side.
+    PseudoChain,
+    /// A left chain of half the cells, each with a leaf of its own on its right.
+    Fork,
+    /// Two rails: each cell has the next of its own rail and the one across.
+    Ladder,
+    /// Both links of every cell lead to the next.
+    EqualChain,
+    /// Every link leads to a random cell.
+    Random,
+}
+
+pub const SHAPES: [Shape; 8] = [
+    Shape::Balanced,
+    Shape::LeftChain,
+    Shape::RightChain,
+    Shape::PseudoChain,
+    Shape::Fork,
+    Shape::Ladder,
+    Shape::EqualChain,
+    Shape::Random,
+];
+
+impl Shape {
+    pub fn name(self) -> &'static str {
+        match self {
+            Shape::Balanced => "balanced tree",
+            Shape::LeftChain => "left chain",
+            Shape::RightChain => "revised (right) chain",
+            Shape::PseudoChain => "pseudo chain",
+            Shape::Fork => "fork",
+            Shape::Ladder => "ladder",
+            Shape::EqualChain => "chain of equal links",
+            Shape::Random => "random graph",
+        }
+    }
+
+    /// Left and right of cell `i`, links above `n` standing for nil.
+    fn links(self, i: usize, n: usize, random: &mut Random) -> (usize, usize) {
+        match self {
+            Shape::Balanced => (2 * i, 2 * i + 1),
+            Shape::LeftChain => (i + 1, 0),
+            Shape::RightChain => (if i < n { n } else { 0 }, i + 1),
+            Shape::PseudoChain => match i % 3 {
+                1 => (i + 3, i + 1),
+                2 => (i + 1, 0),
+                _ => (0, 0),
+            },
+            Shape::Fork => {
+                if i % 2 == 1 {
+                    (i + 2, i + 1)
+                } else {
+                    (0, 0)
+                }
+            }
+            Shape::Ladder => {
+                if i % 2 == 1 {
+                    (i + 2, i + 1)
+                } else {
+                    (i + 2, 0)
+                }
+            }
+            Shape::EqualChain => (i + 1, i + 1),
+            Shape::Random => (random.between(1, n), random.between(1, n)),
+        }
+    }
+
+    /// All `n` cells used, register 0 holds cell 1.
+    pub fn words(self, n: usize, random: &mut Random) -> Vec<u32> {
+        let mut words = vec![0; words_for(n)];
+        words[0] = n as u32;
+        words[2] = 1;
+        for i in 1..=n {
+            let (left, right) = self.links(i, n, random);
+            let link = |to: usize| if to <= n { to as u32 } else { 0 };
+            let at = cell_at(i as u32);
+            words[at..at + CELL].copy_from_slice(&[USED, link(left), link(right), value(random)]);
+        }
+        words
+    }
+}

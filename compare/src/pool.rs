@@ -1,0 +1,243 @@
+//! The library under test, and the C baseline, behind safe functions.
+//!
+//! Every result is lent with a number that no call writes by chance, so that a refusal that writes it is noticed.
+
+use crate::{Interface, Tally};
+
+const UNSET: u32 = 0xA5A5_1234;
+const UNSET_SIZE: usize = usize::MAX - 0x1234;
+
+fn done(answer: u32) -> Result<(), u32> {
+    if answer == 0 {
+        Ok(())
+    } else {
+        Err(answer)
+    }
+}
+
+fn one(answer: u32, number: u32) -> Result<u32, u32> {
+    if answer != 0 {
+        assert_eq!(number, UNSET, "refusal {answer} wrote its result");
+        return Err(answer);
+    }
+    Ok(number)
+}
+
+fn two(answer: u32, first: u32, second: u32) -> Result<(u32, u32), u32> {
+    let first = one(answer, first);
+    let second = one(answer, second);
+    Ok((first?, second?))
+}
+
+/// Declare the functions of one library and give them the common interface.
+//
+// SAFETY, for every call below: each pointer comes from a reference or slice that lives through the call, with its
+// length in elements beside it; no two of them overlap; pointers of empty slices are aligned and not null.
+macro_rules! bind {
+    (
+        $(#[$about:meta])* $type:ident:
+        $fresh:ident, $copy:ident, $clear:ident, $new:ident, $left:ident, $right:ident, $setleft:ident,
+        $setright:ident, $setvalue:ident, $value:ident, $same:ident, $collect:ident, $collect_tally:ident,
+        $collect_stack:ident, $collect_recursive:ident, $save:ident, $load:ident, $check_image:ident,
+        $occupancy:ident $(,)?
+    ) => {
+        extern "C" {
+            fn $fresh(words: *mut u32, len: usize, cells: *mut u32) -> u32;
+            fn $copy(words: *mut u32, len: usize, r: u32, a: u32) -> u32;
+            fn $clear(words: *mut u32, len: usize, r: u32) -> u32;
+            fn $new(words: *mut u32, len: usize, r: u32, a: u32, b: u32, v: u32, visits: *mut u32) -> u32;
+            fn $left(words: *mut u32, len: usize, r: u32, a: u32) -> u32;
+            fn $right(words: *mut u32, len: usize, r: u32, a: u32) -> u32;
+            fn $setleft(words: *mut u32, len: usize, a: u32, b: u32) -> u32;
+            fn $setright(words: *mut u32, len: usize, a: u32, b: u32) -> u32;
+            fn $setvalue(words: *mut u32, len: usize, a: u32, v: u32) -> u32;
+            fn $value(words: *mut u32, len: usize, a: u32, value: *mut u32) -> u32;
+            fn $same(words: *mut u32, len: usize, a: u32, b: u32, same: *mut u32) -> u32;
+            fn $collect(words: *mut u32, len: usize, kept: *mut u32, visits: *mut u32) -> u32;
+            fn $collect_tally(
+                words: *mut u32,
+                len: usize,
+                collections: *mut u32,
+                total_visits: *mut u32,
+                kept: *mut u32,
+                visits: *mut u32,
+            ) -> u32;
+            fn $collect_stack(
+                words: *mut u32,
+                len: usize,
+                stack: *mut u32,
+                stack_len: usize,
+                kept: *mut u32,
+                enough: *mut u32,
+            ) -> u32;
+            fn $collect_recursive(words: *mut u32, len: usize, kept: *mut u32, visits: *mut u32) -> u32;
+            fn $save(
+                words: *mut u32,
+                len: usize,
+                scratch: *mut u32,
+                scratch_len: usize,
+                out: *mut u8,
+                out_len: usize,
+                bytes: *mut usize,
+            ) -> u32;
+            fn $load(words: *mut u32, len: usize, bytes: *const u8, bytes_len: usize, rest: *mut usize) -> u32;
+            fn $check_image(bytes: *const u8, bytes_len: usize, n: u32) -> u32;
+            fn $occupancy(kept: u32, n: u32, percent: *mut u32) -> u32;
+        }
+
+        $(#[$about])*
+        #[derive(Clone, Copy, Debug, Default)]
+        pub struct $type;
+
+        impl Interface for $type {
+            fn fresh(&self, words: &mut [u32]) -> Result<u32, u32> {
+                let mut cells = UNSET;
+                let answer = unsafe { $fresh(words.as_mut_ptr(), words.len(), &mut cells) };
+                one(answer, cells)
+            }
+
+            fn copy(&self, words: &mut [u32], r: u32, a: u32) -> Result<(), u32> {
+                done(unsafe { $copy(words.as_mut_ptr(), words.len(), r, a) })
+            }
+
+            fn clear(&self, words: &mut [u32], r: u32) -> Result<(), u32> {
+                done(unsafe { $clear(words.as_mut_ptr(), words.len(), r) })
+            }
+
+            fn new_cell(&self, words: &mut [u32], r: u32, a: u32, b: u32, v: u32) -> Result<u32, u32> {
+                let mut visits = UNSET;
+                let answer = unsafe { $new(words.as_mut_ptr(), words.len(), r, a, b, v, &mut visits) };
+                one(answer, visits)
+            }
+
+            fn left(&self, words: &mut [u32], r: u32, a: u32) -> Result<(), u32> {
+                done(unsafe { $left(words.as_mut_ptr(), words.len(), r, a) })
+            }
+
+            fn right(&self, words: &mut [u32], r: u32, a: u32) -> Result<(), u32> {
+                done(unsafe { $right(words.as_mut_ptr(), words.len(), r, a) })
+            }
+
+            fn setleft(&self, words: &mut [u32], a: u32, b: u32) -> Result<(), u32> {
+                done(unsafe { $setleft(words.as_mut_ptr(), words.len(), a, b) })
+            }
+
+            fn setright(&self, words: &mut [u32], a: u32, b: u32) -> Result<(), u32> {
+                done(unsafe { $setright(words.as_mut_ptr(), words.len(), a, b) })
+            }
+
+            fn setvalue(&self, words: &mut [u32], a: u32, v: u32) -> Result<(), u32> {
+                done(unsafe { $setvalue(words.as_mut_ptr(), words.len(), a, v) })
+            }
+
+            fn value(&self, words: &mut [u32], a: u32) -> Result<u32, u32> {
+                let mut value = UNSET;
+                let answer = unsafe { $value(words.as_mut_ptr(), words.len(), a, &mut value) };
+                one(answer, value)
+            }
+
+            fn same(&self, words: &mut [u32], a: u32, b: u32) -> Result<u32, u32> {
+                let mut same = UNSET;
+                let answer = unsafe { $same(words.as_mut_ptr(), words.len(), a, b, &mut same) };
+                one(answer, same)
+            }
+
+            fn collect(&self, words: &mut [u32]) -> Result<(u32, u32), u32> {
+                let (mut kept, mut visits) = (UNSET, UNSET);
+                let answer = unsafe { $collect(words.as_mut_ptr(), words.len(), &mut kept, &mut visits) };
+                two(answer, kept, visits)
+            }
+
+            fn collect_tally(&self, words: &mut [u32], tally: &mut Tally) -> Result<(u32, u32), u32> {
+                let (mut kept, mut visits) = (UNSET, UNSET);
+                let answer = unsafe {
+                    $collect_tally(
+                        words.as_mut_ptr(),
+                        words.len(),
+                        &mut tally.collections,
+                        &mut tally.visits,
+                        &mut kept,
+                        &mut visits,
+                    )
+                };
+                two(answer, kept, visits)
+            }
+
+            fn collect_stack(&self, words: &mut [u32], stack: &mut [u32]) -> Result<(u32, u32), u32> {
+                let (mut kept, mut enough) = (UNSET, UNSET);
+                let answer = unsafe {
+                    $collect_stack(
+                        words.as_mut_ptr(),
+                        words.len(),
+                        stack.as_mut_ptr(),
+                        stack.len(),
+                        &mut kept,
+                        &mut enough,
+                    )
+                };
+                two(answer, kept, enough)
+            }
+
+            fn collect_recursive(&self, words: &mut [u32]) -> Result<(u32, u32), u32> {
+                let (mut kept, mut visits) = (UNSET, UNSET);
+                let answer = unsafe { $collect_recursive(words.as_mut_ptr(), words.len(), &mut kept, &mut visits) };
+                two(answer, kept, visits)
+            }
+
+            fn save(&self, words: &mut [u32], scratch: &mut [u32], out: &mut [u8]) -> Result<usize, u32> {
+                let mut bytes = UNSET_SIZE;
+                let answer = unsafe {
+                    $save(
+                        words.as_mut_ptr(),
+                        words.len(),
+                        scratch.as_mut_ptr(),
+                        scratch.len(),
+                        out.as_mut_ptr(),
+                        out.len(),
+                        &mut bytes,
+                    )
+                };
+                if answer != 0 {
+                    assert_eq!(bytes, UNSET_SIZE, "refusal {answer} wrote its result");
+                    return Err(answer);
+                }
+                Ok(bytes)
+            }
+
+            fn load(&self, words: &mut [u32], bytes: &[u8]) -> (Result<(), u32>, usize) {
+                let mut rest = UNSET_SIZE;
+                let answer =
+                    unsafe { $load(words.as_mut_ptr(), words.len(), bytes.as_ptr(), bytes.len(), &mut rest) };
+                (done(answer), rest)
+            }
+
+            fn check_image(&self, bytes: &[u8], n: u32) -> Result<(), u32> {
+                done(unsafe { $check_image(bytes.as_ptr(), bytes.len(), n) })
+            }
+
+            fn occupancy(&self, kept: u32, n: u32) -> Result<u32, u32> {
+                let mut percent = UNSET;
+                let answer = unsafe { $occupancy(kept, n, &mut percent) };
+                one(answer, percent)
+            }
+        }
+    };
+}
+
+bind! {
+    /// The static library.
+    Archive:
+    cellpool_fresh, cellpool_copy, cellpool_clear, cellpool_new, cellpool_left, cellpool_right,
+    cellpool_setleft, cellpool_setright, cellpool_setvalue, cellpool_value, cellpool_same, cellpool_collect,
+    cellpool_collect_tally, cellpool_collect_stack, cellpool_collect_recursive, cellpool_save, cellpool_load,
+    cellpool_check_image, cellpool_occupancy
+}
+
+#[cfg(c_baseline)]
+bind! {
+    /// The same functions in plain C.
+    PlainC:
+    baseline_fresh, baseline_copy, baseline_clear, baseline_new, baseline_left, baseline_right, baseline_setleft, baseline_setright,
+    baseline_setvalue, baseline_value, baseline_same, baseline_collect, baseline_collect_tally, baseline_collect_stack,
+    baseline_collect_recursive, baseline_save, baseline_load, baseline_check_image, baseline_occupancy
+}

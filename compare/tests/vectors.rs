@@ -1,0 +1,489 @@
+//! Answers and words computed by hand from the customer's document.
+
+mod common;
+
+use cellpool_compare::model::Model;
+use cellpool_compare::{Interface, Tally};
+use common::implementations;
+
+/// Run on every implementation and on the model.
+fn on_all(check: impl Fn(&dyn Interface)) {
+    check(&Model);
+    for (_, pool) in implementations() {
+        check(pool.as_ref());
+    }
+}
+
+/// Words of a pool: N, head, the first registers (the others nil), and the cells.
+fn pool_words(head: u32, registers: &[u32], cells: &[[u32; 4]]) -> Vec<u32> {
+    let mut words = vec![cells.len() as u32, head];
+    words.extend(registers);
+    words.resize(18, 0);
+    words.extend(cells.iter().flatten());
+    words
+}
+
+fn fresh(pool: &dyn Interface, n: usize) -> Vec<u32> {
+    let mut words = vec![9; 18 + 4 * n];
+    assert_eq!(pool.fresh(&mut words), Ok(n as u32));
+    words
+}
+
+/// K, sixteen registers, and the bytes of the cells.
+fn image(k: u8, registers: &[u8], cells: &[u8]) -> Vec<u8> {
+    let mut bytes = vec![k];
+    bytes.extend(registers);
+    bytes.resize(17, 0);
+    bytes.extend(cells);
+    bytes
+}
+
+const VALUES: [(u32, &[u8]); 9] = [
+    (0, &[0x00]),
+    (127, &[0x7F]),
+    (128, &[0x80, 0x01]),
+    (300, &[0xAC, 0x02]),
+    (16_383, &[0xFF, 0x7F]),
+    (16_384, &[0x80, 0x80, 0x01]),
+    (2_097_152, &[0x80, 0x80, 0x80, 0x01]),
+    (268_435_456, &[0x80, 0x80, 0x80, 0x80, 0x01]),
+    (4_294_967_295, &[0xFF, 0xFF, 0xFF, 0xFF, 0x0F]),
+];
+
+#[test]
+fn numbers_are_written_in_the_fewest_groups() {
+    on_all(|pool| {
+        for (value, written) in VALUES {
+            let mut words = pool_words(0, &[1], &[[0, 0, 0, value]]);
+            let mut out = [0x55; 32];
+            let mut cells = vec![0, 0];
+            cells.extend(written);
+            let expected = image(1, &[1], &cells);
+            assert_eq!(pool.save(&mut words, &mut [7; 2], &mut out), Ok(expected.len()));
+            assert_eq!(out[..expected.len()], expected);
+            assert!(out[expected.len()..].iter().all(|&byte| byte == 0x55));
+        }
+    });
+}
+
+#[test]
+fn numbers_are_read_in_up_to_five_groups() {
+    on_all(|pool| {
+        let longer: [(u32, &[u8]); 3] =
+            [(0, &[0x80, 0x80, 0x80, 0x80, 0x00]), (5, &[0x85, 0x00]), (127, &[0xFF, 0x80, 0x00])];
+        for (value, written) in VALUES.iter().chain(&longer) {
+            let mut cells = vec![0, 1];
+            cells.extend(*written);
+            let bytes = image(1, &[1, 0, 1], &cells);
+            let mut words = vec![9; 22];
+            assert_eq!(pool.load(&mut words, &bytes), (Ok(()), bytes.len()));
+            assert_eq!(words, pool_words(0, &[1, 0, 1], &[[0, 0, 1, *value]]));
+            assert_eq!(pool.check_image(&bytes, 1), Ok(()));
+        }
+    });
+}
+
+#[test]
+fn numbers_that_are_refused() {
+    on_all(|pool| {
+        let cases: [(&[u8], u32); 9] = [
+            (&[], 6),
+            (&[0x80], 6),
+            (&[0x80, 0x80, 0x80, 0x80], 6),
+            (&[0xFF, 0xFF, 0xFF, 0xFF], 6),
+            (&[0xFF, 0xFF, 0xFF, 0xFF, 0x10], 7),
+            (&[0x80, 0x80, 0x80, 0x80, 0x10], 7),
+            (&[0x80, 0x80, 0x80, 0x80, 0x80], 7),
+            (&[0x80, 0x80, 0x80, 0x80, 0x80, 0x00], 7),
+            (&[0xFF, 0xFF, 0xFF, 0xFF, 0x8F], 7),
+        ];
+        for (written, refusal) in cases {
+            // As K, as a register, and as a value.
+            let as_register = image(0, &[], &[])[..3].iter().chain(written).copied().collect();
+            let mut value = image(1, &[], &[0, 0]);
+            value.extend(written);
+            for bytes in [written.to_vec(), as_register, value] {
+                let mut words = vec![9; 22];
+                assert_eq!(pool.load(&mut words, &bytes), (Err(refusal), bytes.len()), "{bytes:02X?}");
+                assert_eq!(words, vec![9; 22]);
+                assert_eq!(pool.check_image(&bytes, 1), Err(refusal));
+            }
+        }
+    });
+}
+
+#[test]
+fn the_first_fault_of_an_image_decides() {
+    on_all(|pool| {
+        let cases: [(Vec<u8>, u32, u32); 11] = [
+            // K above N, even if nothing follows.
+            (vec![2], 1, 9),
+            (vec![0xFF, 0xFF, 0xFF, 0xFF, 0x0F], 4000, 9),
+            (vec![2], 2, 6),
+            // A register above K, before the end that is missing.
+            (vec![1, 0, 2], 1, 8),
+            (vec![1, 0, 0x80], 1, 6),
+            (image(0, &[0; 16], &[])[..16].to_vec(), 1, 6),
+            // Links above K; a value may be anything.
+            (image(1, &[], &[2, 0, 0]), 1, 8),
+            (image(1, &[], &[0, 2, 0]), 1, 8),
+            (image(1, &[], &[0, 2]), 1, 8),
+            (image(1, &[], &[0, 0]), 1, 6),
+            // N out of its limits, whatever the bytes.
+            (vec![], 0, 1),
+        ];
+        for (bytes, n, refusal) in cases {
+            assert_eq!(pool.check_image(&bytes, n), Err(refusal), "{bytes:02X?}");
+            if n == 0 {
+                continue;
+            }
+            let mut words = vec![3; 18 + 4 * n as usize];
+            let before = words.clone();
+            assert_eq!(pool.load(&mut words, &bytes), (Err(refusal), bytes.len()), "{bytes:02X?}");
+            assert_eq!(words, before);
+        }
+        assert_eq!(pool.check_image(&image(0, &[], &[]), 4000), Ok(()));
+        assert_eq!(pool.check_image(&image(0, &[], &[]), 4001), Err(1));
+        // Refused for its length, load hands back the empty part at the end too.
+        assert_eq!(pool.load(&mut [0; 21], &image(0, &[], &[])), (Err(1), 17));
+    });
+}
+
+#[test]
+fn save_numbers_cells_by_their_first_depth_first_visit() {
+    on_all(|pool| {
+        // Register 1 holds cell 2; cell 2 leads to 4 and 1, 4 to 1 and 4, 1 to 2 and nil; cells 3 and 5 are garbage.
+        let cells = [[0, 2, 0, 300], [0, 4, 1, 128], [0, 1, 1, 9], [0, 1, 4, 127], [4, 99, 8, 7]];
+        let words = pool_words(77, &[0, 2, 1], &cells);
+        // The visits: 2, then its left 4, then the left of 4, which is 1.
+        let expected = image(3, &[0, 1, 3], &[2, 3, 0x80, 0x01, 3, 2, 0x7F, 1, 0, 0xAC, 0x02]);
+        let (mut lent, mut scratch, mut out) = (words.clone(), vec![5; 12], [0x55; 40]);
+        assert_eq!(pool.save(&mut lent, &mut scratch, &mut out), Ok(28));
+        assert_eq!(expected.len(), 28);
+        assert_eq!(out[..28], expected);
+        assert_eq!(out[28..], [0x55; 12]);
+        assert_eq!(scratch, [0; 12]);
+        assert_eq!(lent, words);
+
+        // Loaded: image cell i is cell i, and the rest is the ascending chain.
+        let mut loaded = vec![1; 38];
+        assert_eq!(pool.load(&mut loaded, &out), (Ok(()), 28));
+        let cells = [[0, 2, 3, 128], [0, 3, 2, 127], [0, 1, 0, 300], [4, 5, 0, 0], [4, 0, 0, 0]];
+        assert_eq!(loaded, pool_words(4, &[0, 1, 3], &cells));
+    });
+}
+
+#[test]
+fn save_refusals_and_its_scratch() {
+    on_all(|pool| {
+        let words = pool_words(0, &[1], &[[0, 0, 0, 5]]);
+        let run = |words: &[u32], scratch: usize, out: usize| {
+            let (mut lent, mut scratch, mut out) = (words.to_vec(), vec![6; scratch], vec![8; out]);
+            let answer = pool.save(&mut lent, &mut scratch, &mut out);
+            assert_eq!(lent, words);
+            (answer, scratch, out)
+        };
+        assert_eq!(run(&words, 1, 20), (Err(10), vec![6; 1], vec![8; 20]));
+        assert_eq!(run(&words, 2, 19), (Err(10), vec![0; 2], vec![8; 19]));
+        assert_eq!(run(&words, 4, 0), (Err(10), vec![0; 4], vec![]));
+        assert_eq!(run(&words, 4, 20), (Ok(20), vec![0; 4], image(1, &[1], &[0, 0, 5])));
+        // The scratch is checked before the pool, and an malformed pool leaves it.
+        let mut malformed = words.clone();
+        malformed[19] = 2;
+        assert_eq!(run(&malformed, 1, 20), (Err(10), vec![6; 1], vec![8; 20]));
+        assert_eq!(run(&malformed, 2, 20), (Err(3), vec![6; 2], vec![8; 20]));
+        assert_eq!(run(&words[..21], 0, 20), (Err(1), vec![], vec![8; 20]));
+    });
+}
+
+#[test]
+fn fresh_words() {
+    on_all(|pool| {
+        assert_eq!(fresh(pool, 1), pool_words(1, &[], &[[4, 0, 0, 0]]));
+        assert_eq!(fresh(pool, 3), pool_words(1, &[], &[[4, 2, 0, 0], [4, 3, 0, 0], [4, 0, 0, 0]]));
+        assert_eq!(pool.fresh(&mut [9; 18]), Err(1));
+        assert_eq!(pool.fresh(&mut [9; 22]), Ok(1));
+        assert_eq!(pool.fresh(&mut [9; 23]), Err(1));
+        assert_eq!(pool.fresh(&mut vec![9; 16_018]), Ok(4_000));
+        assert_eq!(pool.fresh(&mut vec![9; 16_022]), Err(1));
+        assert_eq!(pool.fresh(&mut []), Err(1));
+        let mut refused = [9; 18];
+        assert_eq!(pool.fresh(&mut refused), Err(1));
+        assert_eq!(refused, [9; 18]);
+    });
+}
+
+#[test]
+fn the_script_of_the_document() {
+    on_all(|pool| {
+        let mut words = fresh(pool, 2);
+        assert_eq!(pool.new_cell(&mut words, 0, 0, 0, 7), Ok(0));
+        assert_eq!(words, pool_words(2, &[1], &[[0, 0, 0, 7], [4, 0, 0, 0]]));
+        assert_eq!(pool.new_cell(&mut words, 1, 0, 0, 8), Ok(0));
+        let full = pool_words(0, &[1, 2], &[[0, 0, 0, 7], [0, 1, 1, 8]]);
+        assert_eq!(words, full);
+        assert_eq!(pool.new_cell(&mut words, 2, 1, 1, 9), Err(5));
+        assert_eq!(words, full);
+        assert_eq!(pool.clear(&mut words, 0), Ok(()));
+        assert_eq!(pool.clear(&mut words, 1), Ok(()));
+        assert_eq!(words, pool_words(0, &[], &[[0, 0, 0, 7], [0, 1, 1, 8]]));
+        assert_eq!(pool.new_cell(&mut words, 2, 1, 1, 9), Ok(0));
+        assert_eq!(words, pool_words(2, &[0, 0, 1], &[[0, 0, 0, 9], [4, 0, 0, 0]]));
+        assert_eq!(pool.value(&mut words, 2), Ok(9));
+        assert_eq!(pool.collect(&mut words), Ok((1, 3)));
+        assert_eq!(words, pool_words(2, &[0, 0, 1], &[[0, 0, 0, 9], [4, 0, 0, 0]]));
+    });
+}
+
+#[test]
+fn a_cell_linked_to_itself_and_nil_registers() {
+    on_all(|pool| {
+        let words = pool_words(0, &[1], &[[0, 1, 1, 5]]);
+        let mut lent = words.clone();
+        assert_eq!(pool.collect(&mut lent), Ok((1, 3)));
+        assert_eq!(lent, words);
+        assert_eq!(pool.collect_recursive(&mut lent), Ok((1, 3)));
+        assert_eq!(pool.collect_stack(&mut lent, &mut []), Ok((1, 1)));
+        assert_eq!(lent, words);
+        let mut garbage = pool_words(0, &[], &[[0, 1, 1, 5]]);
+        assert_eq!(pool.collect(&mut garbage), Ok((0, 0)));
+        assert_eq!(garbage, pool_words(1, &[], &[[4, 0, 0, 0]]));
+    });
+}
+
+#[test]
+fn both_links_to_one_leaf_need_one_stack_word() {
+    on_all(|pool| {
+        let words = pool_words(0, &[0, 2], &[[0, 0, 0, 5], [0, 1, 1, 6]]);
+        for length in 0..3 {
+            let (mut lent, mut stack) = (words.clone(), vec![7; length]);
+            assert_eq!(pool.collect_stack(&mut lent, &mut stack), Ok((2, u32::from(length >= 1))));
+            assert_eq!(lent, words);
+            assert_eq!(stack, vec![0; length]);
+        }
+    });
+}
+
+#[test]
+fn a_chain_with_equal_links_needs_one_word_less_than_its_cells() {
+    on_all(|pool| {
+        for n in [2, 3, 64, 500, 4_000] {
+            let cells: Vec<[u32; 4]> = (1..=n).map(|i| [0, (i + 1) % (n + 1), (i + 1) % (n + 1), i]).collect();
+            let words = pool_words(0, &[1], &cells);
+            for (length, enough) in [(n as usize - 2, 0), (n as usize - 1, 1), (n as usize, 1)] {
+                let (mut lent, mut stack) = (words.clone(), vec![7; length]);
+                assert_eq!(pool.collect_stack(&mut lent, &mut stack), Ok((n, enough)), "{n} cells, {length} words");
+                assert_eq!(lent, words);
+                assert!(stack.iter().all(|&word| word == 0));
+            }
+        }
+    });
+}
+
+#[test]
+fn marks_are_cleared_where_the_stack_overflows_and_links_are_restored() {
+    on_all(|pool| {
+        // Cell 1 leads to 2 and 3, cell 2 to 4 and 5; cell 6 is garbage, cell 7 free.
+        let cells = [[0, 2, 3, 1], [0, 4, 5, 2], [0, 1, 0, 3], [0, 0, 3, 4], [0, 5, 5, 5], [0, 1, 2, 6], [4, 0, 0, 0]];
+        let mut after = cells;
+        after[5] = [4, 7, 0, 0];
+        for length in 0..4 {
+            let mut words = pool_words(7, &[0, 0, 0, 1], &cells);
+            let mut stack = vec![3; length];
+            assert_eq!(pool.collect_stack(&mut words, &mut stack), Ok((5, u32::from(length >= 2))));
+            assert_eq!(words, pool_words(6, &[0, 0, 0, 1], &after));
+            assert_eq!(stack, vec![0; length]);
+        }
+        // A refused one leaves the stack.
+        let mut malformed = pool_words(7, &[0, 0, 0, 7], &cells);
+        let mut stack = [3; 2];
+        assert_eq!(pool.collect_stack(&mut malformed, &mut stack), Err(3));
+        assert_eq!(stack, [3; 2]);
+    });
+}
+
+#[test]
+fn new_collects_with_the_old_content_of_its_register_as_a_root() {
+    on_all(|pool| {
+        // Register 0 holds the only live cell and is also written: cell 2 is garbage and comes back.
+        let mut words = pool_words(0, &[1], &[[0, 0, 0, 7], [0, 1, 1, 8]]);
+        assert_eq!(pool.new_cell(&mut words, 0, 0, 0, 9), Ok(3));
+        assert_eq!(words, pool_words(0, &[2], &[[0, 0, 0, 7], [0, 1, 1, 9]]));
+        // The only cell is held by the register to be written: refused, though the cell would be garbage after.
+        let full = pool_words(0, &[1], &[[0, 0, 0, 7]]);
+        let mut words = full.clone();
+        assert_eq!(pool.new_cell(&mut words, 0, 1, 1, 9), Err(5));
+        assert_eq!(words, full);
+    });
+}
+
+#[test]
+fn new_takes_the_head_and_checks_only_it() {
+    on_all(|pool| {
+        // The head has to be free with a left of at most N; nothing else is.
+        let cells = [[0, 9, 9, 1], [4, 3, 8, 8], [4, 0, 0, 0]];
+        let mut words = pool_words(2, &[0, 0, 77], &cells);
+        assert_eq!(pool.new_cell(&mut words, 5, 0, 1, 6), Ok(0));
+        assert_eq!(words, pool_words(3, &[0, 0, 77, 0, 0, 2], &[[0, 9, 9, 1], [0, 0, 0, 6], [4, 0, 0, 0]]));
+        // A head that is used, above N, or with a left above N.
+        for (head, left, answer) in [(1, 0, Err(3)), (4, 0, Err(3)), (2, 4, Err(3)), (2, 3, Ok(0)), (2, 1, Ok(0))] {
+            let cells = [[0, 0, 0, 1], [4, left, 0, 0], [4, 0, 0, 0]];
+            let mut words = pool_words(head, &[], &cells);
+            let before = words.clone();
+            assert_eq!(pool.new_cell(&mut words, 0, 0, 0, 6), answer, "head {head}, left {left}");
+            assert_eq!(words == before, answer.is_err());
+        }
+        // One new succeeds and leaves a used cell as the head: the next is refused, and collect repairs.
+        let mut words = pool_words(2, &[1], &[[0, 0, 0, 1], [4, 1, 0, 0], [4, 0, 0, 0]]);
+        assert_eq!(pool.new_cell(&mut words, 1, 0, 0, 6), Ok(0));
+        assert_eq!(pool.new_cell(&mut words, 2, 0, 0, 6), Err(3));
+        assert_eq!(pool.collect(&mut words), Ok((2, 6)));
+        assert_eq!(words, pool_words(3, &[1, 2], &[[0, 0, 0, 1], [0, 1, 1, 6], [4, 0, 0, 0]]));
+        // Head 0 with a free cell that no chain holds: new collects and finds it.
+        let mut words = pool_words(0, &[1], &[[0, 0, 0, 1], [4, 9, 9, 9]]);
+        assert_eq!(pool.new_cell(&mut words, 1, 0, 0, 6), Ok(3));
+        assert_eq!(words, pool_words(0, &[1, 2], &[[0, 0, 0, 1], [0, 1, 1, 6]]));
+    });
+}
+
+#[test]
+fn links_are_read_and_written() {
+    on_all(|pool| {
+        let cells = [[0, 2, 0, 7], [0, 0, 1, 8], [4, 0, 0, 0]];
+        let words = || pool_words(3, &[1, 2], &cells);
+        let mut lent = words();
+        assert_eq!(pool.left(&mut lent, 3, 0), Ok(()));
+        assert_eq!(pool.right(&mut lent, 4, 1), Ok(()));
+        assert_eq!(pool.right(&mut lent, 0, 0), Ok(()));
+        assert_eq!(lent, pool_words(3, &[0, 2, 0, 2, 1], &cells));
+        let mut lent = words();
+        assert_eq!(pool.setleft(&mut lent, 1, 0), Ok(()));
+        assert_eq!(pool.setright(&mut lent, 0, 0), Ok(()));
+        assert_eq!(pool.setvalue(&mut lent, 1, 4_294_967_295), Ok(()));
+        assert_eq!(lent, pool_words(3, &[1, 2], &[[0, 2, 1, 7], [0, 1, 1, 4_294_967_295], [4, 0, 0, 0]]));
+        assert_eq!(pool.same(&mut lent, 0, 1), Ok(0));
+        assert_eq!(pool.same(&mut lent, 5, 6), Ok(1));
+        assert_eq!(pool.copy(&mut lent, 6, 1), Ok(()));
+        assert_eq!(pool.same(&mut lent, 1, 6), Ok(1));
+        assert_eq!(pool.value(&mut lent, 6), Ok(4_294_967_295));
+    });
+}
+
+#[test]
+fn refusals_come_in_the_order_of_the_document() {
+    on_all(|pool| {
+        // Register 1 is nil, register 2 holds a free cell, register 3 a number above N; cell 1 leads to a free cell.
+        let words = pool_words(2, &[1, 0, 2, 3], &[[0, 2, 9, 7], [4, 0, 0, 0]]);
+        let refused = |expected: u32, call: &dyn Fn(&mut [u32]) -> u32| {
+            let mut lent = words.clone();
+            assert_eq!(call(&mut lent), expected);
+            assert_eq!(lent, words);
+            let mut sized = words.clone();
+            sized[0] = 3;
+            assert_eq!(call(&mut sized), 1);
+            assert_eq!(call(&mut sized[..25]), 1);
+        };
+        let code = |answer: Result<(), u32>| answer.err().unwrap_or(0);
+        let number = |answer: Result<u32, u32>| answer.err().unwrap_or(0);
+        refused(2, &|words| code(pool.copy(words, 16, 2)));
+        refused(2, &|words| code(pool.copy(words, 0, 16)));
+        refused(3, &|words| code(pool.copy(words, 0, 2)));
+        refused(3, &|words| code(pool.copy(words, 0, 3)));
+        refused(2, &|words| code(pool.clear(words, 16)));
+        refused(2, &|words| number(pool.new_cell(words, 0, 3, 16, 0)));
+        refused(3, &|words| number(pool.new_cell(words, 0, 1, 3, 0)));
+        refused(2, &|words| code(pool.left(words, 4_294_967_295, 1)));
+        refused(3, &|words| code(pool.left(words, 0, 2)));
+        refused(4, &|words| code(pool.left(words, 0, 1)));
+        refused(3, &|words| code(pool.left(words, 0, 0)));
+        refused(3, &|words| code(pool.right(words, 0, 0)));
+        // b is checked before a is found nil.
+        refused(3, &|words| code(pool.setleft(words, 1, 2)));
+        refused(3, &|words| code(pool.setright(words, 1, 3)));
+        refused(4, &|words| code(pool.setright(words, 1, 1)));
+        refused(4, &|words| code(pool.setleft(words, 1, 0)));
+        refused(2, &|words| code(pool.setvalue(words, 16, 0)));
+        refused(3, &|words| code(pool.setvalue(words, 2, 0)));
+        refused(4, &|words| code(pool.setvalue(words, 1, 0)));
+        refused(4, &|words| number(pool.value(words, 1)));
+        refused(3, &|words| number(pool.value(words, 3)));
+        refused(2, &|words| number(pool.same(words, 3, 16)));
+        refused(3, &|words| number(pool.same(words, 1, 3)));
+        refused(3, &|words| pool.collect(words).err().unwrap_or(0));
+        refused(3, &|words| pool.collect_recursive(words).err().unwrap_or(0));
+        // clear and copy do not read r: they repair a register.
+        let mut lent = words.clone();
+        assert_eq!(pool.clear(&mut lent, 2), Ok(()));
+        assert_eq!(pool.copy(&mut lent, 3, 1), Ok(()));
+        assert_eq!(lent, pool_words(2, &[1], &[[0, 2, 9, 7], [4, 0, 0, 0]]));
+    });
+}
+
+#[test]
+fn states_of_a_collection_make_a_pool_malformed() {
+    on_all(|pool| {
+        for state in [1, 2, 3, 5, u32::MAX] {
+            let words = pool_words(0, &[1], &[[0, 0, 0, 7], [state, 0, 0, 0]]);
+            let mut lent = words.clone();
+            assert_eq!(pool.collect(&mut lent), Err(3));
+            assert_eq!(pool.collect_stack(&mut lent, &mut [1]), Err(3));
+            assert_eq!(pool.new_cell(&mut lent, 0, 0, 0, 1), Err(3));
+            assert_eq!(lent, words);
+            assert_eq!(pool.value(&mut lent, 0), Ok(7));
+        }
+    });
+}
+
+#[test]
+fn the_recursive_marker_has_its_own_limit() {
+    on_all(|pool| {
+        let chain = |n: u32| -> Vec<[u32; 4]> { (1..=n).map(|i| [0, 0, (i + 1) % (n + 1), i]).collect() };
+        let words = pool_words(0, &[1], &chain(64));
+        let mut lent = words.clone();
+        assert_eq!(pool.collect_recursive(&mut lent), Ok((64, 192)));
+        assert_eq!(lent, words);
+        let mut longer = pool_words(0, &[1], &chain(65));
+        assert_eq!(pool.collect_recursive(&mut longer), Err(11));
+        longer[2] = 99;
+        assert_eq!(pool.collect_recursive(&mut longer), Err(11));
+        longer[0] = 64;
+        assert_eq!(pool.collect_recursive(&mut longer), Err(1));
+    });
+}
+
+#[test]
+fn the_tally_stops_at_its_limit() {
+    on_all(|pool| {
+        let words = pool_words(0, &[1], &[[0, 0, 0, 7]]);
+        let most = u32::MAX;
+        for (before, after) in
+            [((0, 0), (1, 3)), ((most - 1, most - 3), (most, most)), ((most, most - 2), (most, most))]
+        {
+            let mut tally = Tally { collections: before.0, visits: before.1 };
+            let mut lent = words.clone();
+            assert_eq!(pool.collect_tally(&mut lent, &mut tally), Ok((1, 3)));
+            assert_eq!(tally, Tally { collections: after.0, visits: after.1 });
+            assert_eq!(lent, words);
+        }
+        let mut tally = Tally { collections: 5, visits: 6 };
+        let mut malformed = pool_words(0, &[2], &[[0, 0, 0, 7]]);
+        assert_eq!(pool.collect_tally(&mut malformed, &mut tally), Err(3));
+        assert_eq!(tally, Tally { collections: 5, visits: 6 });
+    });
+}
+
+#[test]
+fn percentages() {
+    on_all(|pool| {
+        assert_eq!(pool.occupancy(1, 3), Ok(33));
+        assert_eq!(pool.occupancy(2, 3), Ok(66));
+        assert_eq!(pool.occupancy(0, 1), Ok(0));
+        assert_eq!(pool.occupancy(1, 1), Ok(100));
+        assert_eq!(pool.occupancy(3_999, 4_000), Ok(99));
+        assert_eq!(pool.occupancy(4_000, 4_000), Ok(100));
+        assert_eq!(pool.occupancy(2, 1), Err(1));
+        assert_eq!(pool.occupancy(0, 0), Err(1));
+        assert_eq!(pool.occupancy(1, 4_001), Err(1));
+        assert_eq!(pool.occupancy(4_294_967_295, 4_294_967_295), Err(1));
+    });
+}

@@ -1,0 +1,137 @@
+/*
+ * cellpool: a pool of cells of two links and a value, in 32-bit words that the caller lends.
+ *
+ * A pool of N cells, N from 1 to 4,000, is a block of 18 + 4 * N words (CELLPOOL_WORDS):
+ *   word 0        N
+ *   word 1        head of the chain of free cells, 0 for none
+ *   words 2..17   registers 0 to 15
+ *   then four words for each cell 1 to N: state (0 used, 4 free), left, right, value
+ * A link is 0 (nil) or the number of a cell. It is valid if it is 0 or the number of a used cell. A pool is
+ * well-formed if every state is 0 or 4 and all registers and all links of used cells are valid.
+ *
+ * Every function is total: it answers CELLPOOL_OK or a refusal, for any content of the words. A refusal writes
+ * nothing, neither the words nor the numbers lent for results, except where a function says so below. A function checks
+ * for its refusals in the order in which they are listed with it.
+ *
+ * Pointers must be aligned and not null, also where a length is 0; lent blocks must not overlap. Lengths are counted
+ * in elements. No function keeps a pointer, allocates, or uses global state; two pools may be used at the same time.
+ */
+#ifndef CELLPOOL_H
+#define CELLPOOL_H
+
+#include <stddef.h>
+#include <stdint.h>
+
+#ifdef __cplusplus
+extern "C" {
+#endif
+
+/* Limits. */
+#define CELLPOOL_MOST_CELLS 4000u
+#define CELLPOOL_REGISTERS 16u
+/* Most cells of a pool for cellpool_collect_recursive. */
+#define CELLPOOL_MOST_RECURSIVE 64u
+
+/* Words of a pool of n cells, and words of scratch that cellpool_save needs. */
+#define CELLPOOL_WORDS(n) (18u + 4u * (n))
+#define CELLPOOL_SCRATCH(n) (2u * (n))
+/* Bytes that hold every image of k cells: K and 16 registers of at most 2 bytes, links of 2 and a value of 5. */
+#define CELLPOOL_IMAGE_BYTES(k) (34u + 9u * (k))
+
+/* Answers. */
+enum {
+    CELLPOOL_OK = 0,
+    /* The length is not 18 + 4 * N with N from 1 to 4,000, or word 0 is not that N; for cellpool_check_image and
+       cellpool_occupancy: N is not from 1 to 4,000, or more cells are kept than there are. */
+    CELLPOOL_REFUSED_SIZE = 1,
+    /* A register number is 16 or more. */
+    CELLPOOL_REFUSED_REGISTER = 2,
+    /* A register that is read, a link, the head or the pool is malformed: the words are damaged. */
+    CELLPOOL_REFUSED_MALFORMED = 3,
+    /* The register is nil where a cell is needed. */
+    CELLPOOL_REFUSED_NIL = 4,
+    /* No cell is free, also after a collection. */
+    CELLPOOL_REFUSED_FULL = 5,
+    /* The bytes end before the image does. */
+    CELLPOOL_REFUSED_TRUNCATED = 6,
+    /* A number of the image is 2^32 or more, or longer than five bytes. */
+    CELLPOOL_REFUSED_OUT_OF_RANGE = 7,
+    /* A register or a link of the image is above its number of cells. */
+    CELLPOOL_REFUSED_LINK_RANGE = 8,
+    /* The image has more cells than the pool. */
+    CELLPOOL_REFUSED_TOO_MANY_CELLS = 9,
+    /* The scratch or the output is too short. */
+    CELLPOOL_REFUSED_NO_ROOM = 10,
+    /* The pool has more than 64 cells: too many for the recursive marker. */
+    CELLPOOL_REFUSED_TOO_LARGE = 11
+};
+
+/* Make the words a pool: N by the length alone, all registers nil, all cells free. *cells becomes N. Refused: 1. */
+uint32_t cellpool_fresh(uint32_t *words, size_t len, uint32_t *cells);
+
+/* Register r gets the content of register a. Refused: 1, 2, 3. */
+uint32_t cellpool_copy(uint32_t *words, size_t len, uint32_t r, uint32_t a);
+
+/* Register r becomes nil, whatever it held. Refused: 1, 2. */
+uint32_t cellpool_clear(uint32_t *words, size_t len, uint32_t r);
+
+/* Register r gets a new cell with the link in register a as its left, that in b as its right, and value v. Where no
+   free cell is left it collects first, with the old content of r still a root. *visits becomes the visits of that
+   collection, 0 where there was none. Refused: 1, 2, 3, 5. */
+uint32_t cellpool_new(uint32_t *words, size_t len, uint32_t r, uint32_t a, uint32_t b, uint32_t v, uint32_t *visits);
+
+/* Register r gets the left (right) link of the cell in register a. Refused: 1, 2, 3 (the register), 4, 3 (the link). */
+uint32_t cellpool_left(uint32_t *words, size_t len, uint32_t r, uint32_t a);
+uint32_t cellpool_right(uint32_t *words, size_t len, uint32_t r, uint32_t a);
+
+/* The left (right) link of the cell in register a becomes the content of register b. Refused: 1, 2, 3, 4. */
+uint32_t cellpool_setleft(uint32_t *words, size_t len, uint32_t a, uint32_t b);
+uint32_t cellpool_setright(uint32_t *words, size_t len, uint32_t a, uint32_t b);
+
+/* The value of the cell in register a becomes v. Refused: 1, 2, 3, 4. */
+uint32_t cellpool_setvalue(uint32_t *words, size_t len, uint32_t a, uint32_t v);
+
+/* *value becomes the value of the cell in register a. Refused: 1, 2, 3, 4. */
+uint32_t cellpool_value(uint32_t *words, size_t len, uint32_t a, uint32_t *value);
+
+/* *same becomes 1 if registers a and b hold the same cell or are both nil, else 0. Refused: 1, 2, 3. */
+uint32_t cellpool_same(uint32_t *words, size_t len, uint32_t a, uint32_t b, uint32_t *same);
+
+/* Keep the cells that the registers reach, free all others, and chain the free cells in ascending order. Marks by
+   link reversal, with no further memory. *kept becomes the cells kept, *visits three times that. Refused: 1, 3. */
+uint32_t cellpool_collect(uint32_t *words, size_t len, uint32_t *kept, uint32_t *visits);
+
+/* As cellpool_collect; accepted, it also adds 1 to *collections and the visits to *total_visits, each stopping at
+   4,294,967,295. Refused: 1, 3. */
+uint32_t cellpool_collect_tally(uint32_t *words, size_t len, uint32_t *collections, uint32_t *total_visits,
+                                uint32_t *kept, uint32_t *visits);
+
+/* As cellpool_collect, marking with a stack of stack_len lent words, which end 0. Where they are too few, link
+   reversal does the work. *enough becomes 1 if they were enough, else 0. Refused: 1, 3. */
+uint32_t cellpool_collect_stack(uint32_t *words, size_t len, uint32_t *stack, size_t stack_len, uint32_t *kept,
+                                uint32_t *enough);
+
+/* As cellpool_collect, marking recursively: for the test bench and pools of at most 64 cells. Refused: 1, 11, 3. */
+uint32_t cellpool_collect_recursive(uint32_t *words, size_t len, uint32_t *kept, uint32_t *visits);
+
+/* Write an image of the cells that the registers reach to the front of out. *bytes becomes its length; bytes of out
+   behind it stay, and so do the words. scratch has 2 * N words or more; once the pool is found well-formed, all of it
+   ends 0, also where the output is then too short. Refused: 1, 10 (the scratch), 3, 10 (the output). */
+uint32_t cellpool_save(uint32_t *words, size_t len, uint32_t *scratch, size_t scratch_len, uint8_t *out,
+                       size_t out_len, size_t *bytes);
+
+/* Make the words the pool of an image, N by their length alone. *rest becomes the place of the first byte behind the
+   image; refused, it becomes bytes_len. Refused: 1, then number by number 6, 7, 9, 8. */
+uint32_t cellpool_load(uint32_t *words, size_t len, const uint8_t *bytes, size_t bytes_len, size_t *rest);
+
+/* Answer what cellpool_load would for a pool of n cells, and write nothing. Refused: 1, 6, 7, 9, 8. */
+uint32_t cellpool_check_image(const uint8_t *bytes, size_t bytes_len, uint32_t n);
+
+/* *percent becomes 100 * kept / n, rounded down. Refused: 1. */
+uint32_t cellpool_occupancy(uint32_t kept, uint32_t n, uint32_t *percent);
+
+#ifdef __cplusplus
+}
+#endif
+
+#endif
