@@ -3,7 +3,10 @@ use Prim.Native.Nat.{ℕ}
 use mathlib.Core.Path.{_≡_, ap, _∙_}
 use Rattle.pool.specs.Outcome.{Outcome}
 use mathlib.Core.List.{List}
-use Rattle.cellpool.specs.Interface.{status, lent, silent, giving, givingTwo, withStack, saving}
+use Rattle.collector.specs.Collect.{collectOf}
+use Rattle.tally.specs.declared.Tally.{Tally}
+use Rattle.tally.specs.TallyOf.{tallyAfter, tallyOf}
+use Rattle.cellpool.specs.Interface.{status, lent, silent, giving, givingTwo, tallying, withStack, saving}
 
 module _ {A : Type 0} (o : Outcome) (left : A) (x : Outcome × A) (call : _≡_ {A = Outcome × A} (o, left) x) (q : ℕ) (said : q ≡ status o) where
   pub silent-made : _≡_ {A = ℕ × A} (q, left) (silent x)
@@ -27,3 +30,11 @@ pub saving-made : (w scratch out : List ℕ) (o : Outcome) (x : Outcome × List 
     → _≡_ {A = Outcome × List ℕ × List ℕ} (o, scratch, out) x → (q v old : ℕ) → q ≡ status o → v ≡ lent o 0 old
     → _≡_ {A = ℕ × List ℕ × List ℕ × List ℕ × ℕ} (q, w, scratch, out, v) (saving w x old)
 saving-made w scratch out o x save q v old said given = rw (said, given) (ap (λ (y : Outcome × List ℕ × List ℕ). saving w y old) save)
+
+-- the same of the collection with a tally
+pub tally-made : (w w' : List ℕ) (t t' : Tally) (o a : Outcome) → _≡_ {A = Outcome × List ℕ} (o, w') (collectOf w) → t' ≡ tallyAfter t o → a ≡ o
+    → (q v u old₀ old₁ : ℕ) → q ≡ status a → v ≡ lent a 0 old₀ → u ≡ lent a 1 old₁
+    → _≡_ {A = ℕ × List ℕ × ℕ × ℕ × ℕ × ℕ} (q, w', t' .collections, t' .visits, v, u) (tallying (tallyOf w t) old₀ old₁)
+tally-made w w' t t' o a call counted same q v u old₀ old₁ said first second =
+    rw (said, first, second, counted, same)
+    (ap (λ (y : Outcome × List ℕ). tallying (y .0, y .1, tallyAfter t (y .0)) old₀ old₁) call)

@@ -4,6 +4,7 @@ use Prim.Native.Nat.{ℕ}
 use mathlib.Core.List.{List}
 use lib.ListN.{getD}
 use Rattle.pool.specs.Outcome.{Outcome, answered, refused}
+use Rattle.tally.specs.declared.Tally.{Tally}
 use Rattle.image.specs.declared.Loaded.{Loaded}
 
 -- 0 for an accepted call, or the number of the refusal.
@@ -25,6 +26,10 @@ giving x old = (status (x .0), x .1, lent (x .0) 0 old)
 
 abbrev pub givingTwo {ℓ} : {A : Type ℓ} → Outcome × A → ℕ → ℕ → ℕ × A × ℕ × ℕ
 givingTwo x first second = (status (x .0), x .1, lent (x .0) 0 first, lent (x .0) 1 second)
+
+-- The same of the collection with a tally, which is lent as two numbers.
+abbrev pub tallying : Outcome × List ℕ × Tally → ℕ → ℕ → ℕ × List ℕ × ℕ × ℕ × ℕ × ℕ
+tallying x first second = (status (x .0), x .1, x .2 .collections, x .2 .visits, lent (x .0) 0 first, lent (x .0) 1 second)
 
 -- The same of the collection that is lent a stack.
 abbrev pub withStack : Outcome × List ℕ × List ℕ → ℕ → ℕ → ℕ × List ℕ × List ℕ × ℕ × ℕ

@@ -7,6 +7,7 @@ use pool::Occupied;
 use pool::Pool;
 use save::Saved;
 use stack_marker::StackCollection;
+use tally::Tally;
 ghost use mathlib.Core.Path.{_≡_};
 ghost use Rattle.pool.specs.Outcome.{freshOutcome, occupiedOutcome};
 ghost use Rattle.pool.specs.Calls.{freshOf, occupancyOf};
@@ -16,9 +17,10 @@ ghost use Rattle.calls.specs.Calls.{callOf};
 ghost use Rattle.collector.specs.Collect.{collectionOutcome};
 ghost use Rattle.recursive_marker.specs.Recursive.{recursiveOf};
 ghost use Rattle.stack_marker.specs.StackCollect.{stackOutcome, stackOf};
+ghost use Rattle.tally.specs.TallyOf.{tallyOf};
 ghost use Rattle.image.specs.Load.{loadOf, checkOf};
 ghost use Rattle.save.specs.Save.{savedOutcome, saveOf};
-ghost use Rattle.cellpool.specs.Interface.{status, lent, silent, giving, givingTwo, withStack, number, saving, loading};
+ghost use Rattle.cellpool.specs.Interface.{status, lent, silent, giving, givingTwo, tallying, withStack, number, saving, loading};
 
 // 0, or the number of the refusal.
 fn status_of(answer: Answer) -> u32
@@ -199,6 +201,31 @@ pub extern "C" fn cellpool_collect(words: &mut [u32], kept: &mut u32, visits: &m
     ensures { λ q. ⌜ (q, now (words .exit), now (kept .exit), now (visits .exit)) ≡ givingTwo (callOf Call.Collect (now (words .entry))) (now (kept .entry)) (now (visits .entry)) ⌝ }
 {
     let answer = calls::collect(words);
+    *kept = first_of(answer, *kept);
+    *visits = second_of(answer, *visits);
+    status_of(answer)
+}
+
+// The tally is two lent numbers here.
+#[no_mangle]
+pub extern "C" fn cellpool_collect_tally(
+    words: &mut [u32],
+    collections: &mut u32,
+    total_visits: &mut u32,
+    kept: &mut u32,
+    visits: &mut u32,
+) -> u32
+    ensures { λ q. ⌜ (q, now (words .exit), now (collections .exit), now («total_visits» .exit), now (kept .exit), now (visits .exit)) ≡ tallying (tallyOf (now (words .entry)) (record { collections = now (collections .entry); visits = now («total_visits» .entry) })) (now (kept .entry)) (now (visits .entry)) ⌝ }
+{
+    let collection = collector::collect(words);
+    let before = Tally {
+        collections: *collections,
+        visits: *total_visits,
+    };
+    let after = before.after(collection);
+    *collections = after.collections;
+    *total_visits = after.visits;
+    let answer = of_collection(collection);
     *kept = first_of(answer, *kept);
     *visits = second_of(answer, *visits);
     status_of(answer)
