@@ -5,3 +5,6 @@ pub mod Filling
 pub mod Loading
 pub mod Check
 pub mod Example
+pub mod Decoding
+pub mod LoadedPool
+pub mod Accepted

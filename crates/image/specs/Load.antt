@@ -2,11 +2,12 @@
 use Prim.Native.Nat.{ℕ, zero, suc, _+_, _-_, _*_, _/_, _%_, _<_}
 use mathlib.Core.Path.{_≡_}
 use mathlib.Core.List.{List, []}
-use mathlib.Core.Bool.{cond, _&&_}
+use mathlib.Core.Bool.{true, cond, _&&_}
 use lib.ListN.{length, getD, drop}
 use lib.Dec.{eqb, leb, ltb}
 use Rattle.pool.specs.Words.{tabulate}
-use Rattle.pool.specs.Layout.{registerCount, cellLimit, poolLength, cellsOfLength, cellAt, setCell}
+use Rattle.pool.specs.Layout.{registerCount, cellLimit, poolLength, cellsOfLength, cellsOf, cellAt, setCell}
+use Rattle.pool.specs.Validity.{wellFormed}
 use Rattle.pool.specs.Retain.{retain}
 use Rattle.pool.specs.Outcome.{refusalNumber}
 use Rattle.image.specs.declared.Scan.{Scan}
@@ -82,3 +83,11 @@ markStates R k (suc i) w = markStates R k i (setCell R w (suc i) 0 (sweepState k
 -- "a judge of bytes and N, which answers 0 or the number that load would give": for every N, bytes, and words of the length of N cells.
 abbrev pub CheckIsLoad : Type 0
 CheckIsLoad = (n : ℕ) (bytes w : List ℕ) → length w ≡ poolLength registerCount n → checkOf bytes n ≡ loadOf w bytes .0 .verdict
+
+-- Every accepted load leaves a well-formed pool of as many cells as the words hold: whoever has checked an image need not check the pool.
+abbrev pub LoadIsWellFormed : Type 0
+LoadIsWellFormed =
+    (w bytes : List ℕ)
+    → let n = cellsOfLength registerCount (length w) in
+    loadOf w bytes .0 .verdict ≡ 0
+    → (cellsOf registerCount (loadOf w bytes .1) ≡ n) × (wellFormed registerCount n (loadOf w bytes .1) ≡ true)

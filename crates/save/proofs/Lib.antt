@@ -5,8 +5,6 @@ pub mod Listing
 pub mod ImageNumber
 pub mod ImageBytes
 pub mod Saving
-pub mod Decoding
-pub mod Restored
 pub mod SavedFields
 pub mod Renumbering
 pub mod RoundTrip

@@ -21,9 +21,9 @@ use Rattle.collector.specs.Collect.{reachedCells, keptCells}
 use Rattle.image.specs.Image.{numberIn, fieldCount}
 use Rattle.image.specs.Load.{loadedWords}
 use Rattle.save.proofs.Numbering.{place-none, number-member, number-placed, number-at}
-use Rattle.save.proofs.Decoding.{Allowed}
+use Rattle.image.proofs.Decoding.{Allowed}
 use Rattle.save.proofs.SavedFields.{field, field-register, field-value, field-link, saved-allowed, savedFields, saved-at}
-use Rattle.save.proofs.Restored.{loaded-register, loaded-cell, loaded-well-formed}
+use Rattle.image.proofs.LoadedPool.{loaded-register, loaded-cell, loaded-well-formed}
 
 module _ (R n : ℕ) (w : List ℕ) (m : ℕ) (few : keptCells R n w ≤ m) where
   abbrev order : List ℕ

@@ -19,11 +19,12 @@ use Rattle.collector.specs.Collect.{reachedCells, keptCells}
 use Rattle.image.specs.declared.Loaded.{Loaded}
 use Rattle.image.specs.Image.{numberIn, fieldCount, savedField, encodeAll, imageOf, Image, readImage}
 use Rattle.image.specs.Load.{scanOf, loadedWords, loadOf}
-use Rattle.image.proofs.Scanning.{Whole, image-whole}
+use Rattle.image.proofs.Scanning.{image-whole}
+use Rattle.image.proofs.Accepted.{whole-allowed}
 use Rattle.save.specs.RoundTrip.{Words, Renumbered, Restored, SaveThenLoad, LoadThenSave}
 use Rattle.save.proofs.Numbering.{place-none, number-at}
-use Rattle.save.proofs.Decoding.{Allowed, image-encoded, fields-allowed}
-use Rattle.save.proofs.Restored.{loaded-register, loaded-cell, loaded-cells, loaded-free, loaded-well-formed, register-most, link-most}
+use Rattle.image.proofs.Decoding.{Allowed, image-encoded}
+use Rattle.image.proofs.LoadedPool.{loaded-register, loaded-cell, loaded-cells, loaded-free, loaded-well-formed, register-most, link-most}
 use Rattle.save.proofs.SavedFields.{Field, field, field-register, field-value, field-link, savedFields, saved-length, saved-at, saved-small}
 use Rattle.save.proofs.Renumbering as renumbering
 
@@ -67,13 +68,7 @@ pub load-then-save : LoadThenSave
 load-then-save m bytes K start vs end e visited =
     let i = image-whole registerCount m bytes K start end (ap scanOf e) in
     let same : i .numbers ≡ vs = cc in
-    saved-again registerCount m K vs (i .few) (ap length (sym same) ∙ i .size)
-    (λ j below. rw same at (allowed i j below)) visited
-  where
-    allowed : (i : Whole registerCount m bytes K start end) (j : ℕ) → j < fieldCount registerCount K → Allowed registerCount K j (getD (i .numbers) j 0)
-    allowed i j below =
-        let this : 0 + j ≡ j = omega arith in
-        rw this at (fields-allowed registerCount K bytes (fieldCount registerCount K) 0 start (i .numbers) end (i .fields) j below)
+    saved-again registerCount m K vs (i .few) (ap length (sym same) ∙ i .size) (λ j below. rw same at (whole-allowed i j below)) visited
 
 -- The image of the pool w of n cells, loaded into a pool of m cells.
 module _ (n : ℕ) (w : List ℕ) (m : ℕ) (few : keptCells registerCount n w ≤ m) (most : n ≤ cellLimit) (well : WellFormed registerCount n w)

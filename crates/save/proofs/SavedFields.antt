@@ -14,7 +14,7 @@ use Rattle.pool.proofs.Every.{length-tabulate, getD-tabulate}
 use Rattle.image.specs.Image.{numberIn, isValue, fieldCount, savedField}
 use Rattle.save.specs.RoundTrip.{Words}
 use Rattle.save.proofs.Numbering.{number-most}
-use Rattle.save.proofs.Decoding.{Allowed}
+use Rattle.image.proofs.Decoding.{Allowed}
 
 -- What number j behind K stands for.
 pub data Field (R K : ℕ) : ℕ → Type 0 where

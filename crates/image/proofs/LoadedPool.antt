@@ -14,10 +14,10 @@ use Rattle.pool.proofs.Questions.{sized-length, same-count}
 use Rattle.pool.proofs.Retained.{length-retain, retain-count, retain-register}
 use Rattle.pool.proofs.RetainedPool.{Kept, retained-same, retained-well-formed, retained-free-list}
 use Rattle.pool.proofs.WellFormed.{WellFormed}
 use Rattle.image.specs.Image.{isValue, fieldCount}
 use Rattle.image.specs.Load.{imageWord, loadedWords}
 use Rattle.image.proofs.Loading.{Holds, image-holds}
-use Rattle.save.proofs.Decoding.{Allowed}
+use Rattle.image.proofs.Decoding.{Allowed}
 
 -- A link of an image is at most K.
 allowed-link : (R K j v : ℕ) → isValue R j ≡ false → Allowed R K j v → v ≤ K
