@@ -15,7 +15,6 @@ use Rattle.calls.specs.declared.Call.{Call}
 use Rattle.calls.specs.Calls.{callOf}
 use Rattle.batch.specs.declared.Decoded.{Decoded}
 use Rattle.batch.specs.declared.Decoded.the-variants as decoded
-use Rattle.batch.specs.declared.Ran.{Ran}
 use Rattle.batch.specs.declared.Ran.the-variants as ran
 use Rattle.batch.specs.Program.{Program, ended, malformed, then, callNumbered, thenDecoded, programOf, entryAt}
 use Rattle.batch.specs.Run.{written, runFrom, runOf}

@@ -10,10 +10,9 @@ use Rattle.pool.specs.Outcome.{Outcome}
 use Rattle.calls.specs.declared.Call.{Call}
 use Rattle.calls.specs.declared.Call.the-variants as call
 use Rattle.calls.specs.Calls.{callOf}
-use Rattle.batch.specs.declared.Ran.{Ran}
 use Rattle.batch.specs.declared.Ran.the-variants as ran
 use Rattle.batch.specs.Program.{then, programOf, whole, programWords}
-use Rattle.batch.specs.Run.{verdictOf, givenOf, written, runFrom, runOf, answersOf, afterAll, answerWords, Runs-one-after-the-other, Every-list-has-words}
+use Rattle.batch.specs.Run.{verdictOf, givenOf, written, runFrom, answersOf, afterAll, answerWords, Runs-one-after-the-other, Every-list-has-words}
 
 pub every-list-has-words : Every-list-has-words
 unfolding programOf programWords whole

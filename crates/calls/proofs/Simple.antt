@@ -1,13 +1,13 @@
 -- The calls but `new`: what a call leaves whose steps went as the equations say is what its definition leaves.
 use Prim.Native.Nat.{ℕ}
-use mathlib.Core.Path.{_≡_, refl, sym, _∙_}
+use mathlib.Core.Path.{_≡_}
 use mathlib.Core.List.{List, [], _∷_}
-use mathlib.Core.Bool.{Bool, true, false}
+use mathlib.Core.Bool.{true, false}
 use borrow.Author.Tests.{eq-eqb, ne-eqb}
-use Rattle.pool.specs.Layout.{registerCount, register, setRegister, cell, setCell}
+use Rattle.pool.specs.Layout.{registerCount, setRegister, cell, setCell}
 use Rattle.pool.specs.Validity.{validLink}
-use Rattle.pool.specs.Outcome.{Outcome, answered, refused}
-use Rattle.calls.specs.Calls.{copyIn, withCell, followIn, linkIn, setValueIn, valueIn, sameIn, holdsLink}
+use Rattle.pool.specs.Outcome.{answered, refused}
+use Rattle.calls.specs.Calls.{copyIn, followIn, linkIn, setValueIn, valueIn, sameIn, holdsLink}
 use Rattle.calls.proofs.Held.{Holds}
 
 module _ (n : ℕ) (w : List ℕ) {a x : ℕ} (h : Holds n w a x) where

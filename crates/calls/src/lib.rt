@@ -6,7 +6,7 @@ use pool::Held;
 use pool::Pool;
 use pool::Refusal;
 ghost use mathlib.Core.Path.{_≡_};
-ghost use Prim.Native.Nat.{_+_, _<_, _≤_};
+ghost use Prim.Native.Nat.{_<_, _≤_};
 ghost use lib.ListN.{length};
 ghost use Rattle.pool.specs.Layout.{cellLimit, registerCount, poolLength, head};
 ghost use Rattle.calls.specs.Answers.{answerOutcome};
@@ -182,7 +182,7 @@ fn good_head(words: &[u32], n: u32) -> bool
     }
 }
 
-// Collects, and takes the head cell if one is free then. The registers are as the caller left them, so all they hold is kept.
+// Collects, and takes the head cell if one is free then. No register is written before, so what r holds is kept too.
 fn take_collected(words: &mut [u32], n: u32, r: u32, x: u32, y: u32, v: u32) -> Answer
     requires { ⌜ (poolLength registerCount n ≤ length (now words)) × (0 < n) × (n ≤ cellLimit) × (r < registerCount) × (head (now words) ≡ 0) ⌝ }
     ensures { λ q. ⌜ (answerOutcome q, now (words .exit)) ≡ takeCollected n (now (words .entry)) r x y v ⌝ }
@@ -220,7 +220,7 @@ pub fn new_in(words: &mut [u32], n: u32, r: u32, a: u32, b: u32, v: u32) -> Answ
     }
 }
 
-// copy r a
+// copy r a: r gets what a holds.
 pub fn copy(words: &mut [u32], r: u32, a: u32) -> Answer
     ensures { λ q. ⌜ (answerOutcome q, now (words .exit)) ≡ callOf (Call.Copy r a) (now (words .entry)) ⌝ }
 {
@@ -230,7 +230,7 @@ pub fn copy(words: &mut [u32], r: u32, a: u32) -> Answer
     }
 }
 
-// clear r
+// clear r: r becomes nil.
 pub fn clear(words: &mut [u32], r: u32) -> Answer
     ensures { λ q. ⌜ (answerOutcome q, now (words .exit)) ≡ callOf (Call.Clear r) (now (words .entry)) ⌝ }
 {
@@ -240,7 +240,7 @@ pub fn clear(words: &mut [u32], r: u32) -> Answer
     }
 }
 
-// new r a b v
+// new r a b v: r gets a new cell with left from a, right from b, and value v. Where no cell is free it collects first.
 pub fn new(words: &mut [u32], r: u32, a: u32, b: u32, v: u32) -> Answer
     ensures { λ q. ⌜ (answerOutcome q, now (words .exit)) ≡ callOf (Call.New r a b v) (now (words .entry)) ⌝ }
 {
@@ -261,14 +261,14 @@ fn follow(words: &mut [u32], field: usize, r: u32, a: u32) -> Answer
     }
 }
 
-// left r a
+// left r a: r gets the left link of a's cell.
 pub fn left(words: &mut [u32], r: u32, a: u32) -> Answer
     ensures { λ q. ⌜ (answerOutcome q, now (words .exit)) ≡ callOf (Call.Left r a) (now (words .entry)) ⌝ }
 {
     follow(words, Pool::LEFT, r, a)
 }
 
-// right r a
+// right r a: r gets the right link of a's cell.
 pub fn right(words: &mut [u32], r: u32, a: u32) -> Answer
     ensures { λ q. ⌜ (answerOutcome q, now (words .exit)) ≡ callOf (Call.Right r a) (now (words .entry)) ⌝ }
 {
@@ -286,21 +286,21 @@ fn link(words: &mut [u32], field: usize, a: u32, b: u32) -> Answer
     }
 }
 
-// setleft a b
+// setleft a b: the left link of a's cell becomes what b holds.
 pub fn set_left(words: &mut [u32], a: u32, b: u32) -> Answer
     ensures { λ q. ⌜ (answerOutcome q, now (words .exit)) ≡ callOf (Call.SetLeft a b) (now (words .entry)) ⌝ }
 {
     link(words, Pool::LEFT, a, b)
 }
 
-// setright a b
+// setright a b: the right link of a's cell becomes what b holds.
 pub fn set_right(words: &mut [u32], a: u32, b: u32) -> Answer
     ensures { λ q. ⌜ (answerOutcome q, now (words .exit)) ≡ callOf (Call.SetRight a b) (now (words .entry)) ⌝ }
 {
     link(words, Pool::RIGHT, a, b)
 }
 
-// setvalue a v
+// setvalue a v: the value of a's cell becomes v.
 pub fn set_value(words: &mut [u32], a: u32, v: u32) -> Answer
     ensures { λ q. ⌜ (answerOutcome q, now (words .exit)) ≡ callOf (Call.SetValue a v) (now (words .entry)) ⌝ }
 {
@@ -310,7 +310,7 @@ pub fn set_value(words: &mut [u32], a: u32, v: u32) -> Answer
     }
 }
 
-// value a
+// value a: the value of a's cell.
 pub fn value(words: &[u32], a: u32) -> Answer
     ensures { λ q. ⌜ (answerOutcome q, now (words .entry)) ≡ callOf (Call.Value a) (now (words .entry)) ⌝ }
 {
@@ -320,7 +320,7 @@ pub fn value(words: &[u32], a: u32) -> Answer
     }
 }
 
-// same a b
+// same a b: 1 if both hold the same link, else 0.
 pub fn same(words: &[u32], a: u32, b: u32) -> Answer
     ensures { λ q. ⌜ (answerOutcome q, now (words .entry)) ≡ callOf (Call.Same a b) (now (words .entry)) ⌝ }
 {
@@ -330,7 +330,7 @@ pub fn same(words: &[u32], a: u32, b: u32) -> Answer
     }
 }
 
-// collect
+// collect: keeps exactly the cells that the registers reach, and frees all others.
 pub fn collect(words: &mut [u32]) -> Answer
     ensures { λ q. ⌜ (answerOutcome q, now (words .exit)) ≡ callOf Call.Collect (now (words .entry)) ⌝ }
 {

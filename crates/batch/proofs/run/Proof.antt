@@ -41,10 +41,14 @@ returns : tie.Need-returns Inv-loop μ-loop
 returns c = running-malformed _ (c .before .before .before .before .loop .inv) (c .before .before .before .loop-test .taken) (c .before .before .entry .ensures) (c .enum-told .given .1)
 
 mul-if1 : tie.Need-mul-if1 Inv-loop μ-loop
-mul-if1 c = omega (arith, running-inside _ (c .before .before .before .before .before .loop .inv) (c .before .before .before .before .loop-test .taken) (c .before .before .before .entry .ensures) (c .before .call .given .1))
+mul-if1 c =
+    let at-loop-test = c .before .before .before .before in
+    omega (arith, running-inside _ (at-loop-test .before .loop .inv) (at-loop-test .loop-test .taken) (c .before .before .before .entry .ensures) (c .before .call .given .1))
 
 add-if1 : tie.Need-add-if1 Inv-loop μ-loop
-add-if1 c = omega (arith, running-inside _ (c .before .before .before .before .before .loop .inv) (c .before .before .before .before .loop-test .taken) (c .before .before .before .entry .ensures) (c .before .call .given .1))
+add-if1 c =
+    let at-loop-test = c .before .before .before .before in
+    omega (arith, running-inside _ (at-loop-test .before .loop .inv) (at-loop-test .loop-test .taken) (c .before .before .before .entry .ensures) (c .before .call .given .1))
 
 same-length-3 : tie.Need-same-length-3 Inv-loop μ-loop
 same-length-3 c = c .before .before .before .before .before .before .loop .inv .words
@@ -53,7 +57,9 @@ same-length-4 : tie.Need-same-length-4 Inv-loop μ-loop
 same-length-4 c = c .before .before .before .before .before .before .loop .inv .answers
 
 returns-2 : tie.Need-returns-2 Inv-loop μ-loop
-returns-2 c = running-no-room _ (c .before .before .before .before .before .before .loop .inv) (c .before .before .before .before .before .loop-test .taken) (c .before .before .before .before .entry .ensures) (c .before .before .call .given .1) (c .if1 .taken)
+returns-2 c =
+    let at-entry = c .before .before .before .before in
+    running-no-room _ (at-entry .before .before .loop .inv) (at-entry .before .loop-test .taken) (at-entry .entry .ensures) (c .before .before .call .given .1) (c .if1 .taken)
 
 perform-requires : tie.Need-perform-requires Inv-loop μ-loop
 perform-requires c κs = search needs
@@ -62,13 +68,23 @@ write-answer-requires : tie.Need-write-answer-requires Inv-loop μ-loop
 write-answer-requires c κs = omega arith
 
 add-k : tie.Need-add-k Inv-loop μ-loop
-add-k c = omega (arith, running-inside _ (c .before .before .before .before .before .before .before .before .before .before .before .before .before .before .loop .inv) (c .before .before .before .before .before .before .before .before .before .before .before .before .before .loop-test .taken) (c .before .before .before .before .before .before .before .before .before .before .before .before .entry .ensures) (c .before .before .before .before .before .before .before .before .before .before .call .given .1))
+add-k c =
+    let at-call = c .before .before .before .before .before .before .before .before .before .before in
+    let at-loop-test = at-call .before .before .before in
+    omega (arith, running-inside _ (at-loop-test .before .loop .inv) (at-loop-test .loop-test .taken) (at-call .before .before .entry .ensures) (at-call .call .given .1))
 
 loop-less : tie.Need-loop-less Inv-loop μ-loop
-loop-less c = omega (arith, running-inside _ (c .before .before .before .before .before .before .before .before .before .before .before .before .before .before .loop .inv) (c .before .before .before .before .before .before .before .before .before .before .before .before .before .loop-test .taken) (c .before .before .before .before .before .before .before .before .before .before .before .before .entry .ensures) (c .before .before .before .before .before .before .before .before .before .before .call .given .1))
+loop-less c =
+    let at-call = c .before .before .before .before .before .before .before .before .before .before in
+    let at-loop-test = at-call .before .before .before in
+    omega (arith, running-inside _ (at-loop-test .before .loop .inv) (at-loop-test .loop-test .taken) (at-call .before .before .entry .ensures) (at-call .call .given .1))
 
 loop-again : tie.Need-loop-again Inv-loop μ-loop
-loop-again c = running-more _ (c .before .before .before .before .before .before .before .before .before .before .before .before .before .before .loop .inv) (c .before .before .before .before .before .before .before .before .before .before .before .before .before .loop-test .taken) (c .before .before .before .before .before .before .before .before .before .before .before .before .entry .ensures) (c .before .before .before .before .before .before .before .before .before .before .call .given .1) (c .before .before .before .before .before .before .before .before .if1 .left) (c .before .before .before .before .before .before .perform .ensures .1) (c .before .before .before .before .before .before .perform .kept .0) (c .before .before .write-answer .ensures) (c .before .before .write-answer .kept .0)
+loop-again c =
+    let at-perform = c .before .before .before .before .before .before in
+    let at-call = at-perform .before .before .before .before in
+    let at-loop-test = at-call .before .before .before in
+    running-more _ (at-loop-test .before .loop .inv) (at-loop-test .loop-test .taken) (at-call .before .before .entry .ensures) (at-call .call .given .1) (at-perform .before .before .if1 .left) (at-perform .perform .ensures .1) (at-perform .perform .kept .0) (c .before .before .write-answer .ensures) (c .before .before .write-answer .kept .0)
 
 same-length-5 : tie.Need-same-length-5 Inv-loop μ-loop
 same-length-5 c = c .before .loop .inv .words

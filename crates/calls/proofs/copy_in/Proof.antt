@@ -27,7 +27,9 @@ same-length-2 : tie.Need-same-length-2
 same-length-2 c = search needs
 
 returns-2 : tie.Need-returns-2
-returns-2 c = copied _ _ (holds _ _ _ (c .before .before .before .before .before .before .before .read-link .ensures) (c .before .before .before .before .before .x .given .1)) _ (c .before .before .write-register .ensures)
+returns-2 c =
+    let at-x = c .before .before .before .before .before in
+    copied _ _ (holds _ _ _ (at-x .before .before .read-link .ensures) (at-x .x .given .1)) _ (c .before .before .write-register .ensures)
 
 pub copy-in-spec : {M : Type 1} → statement M
 copy-in-spec =

@@ -41,13 +41,20 @@ same-length-3 : tie.Need-same-length-3
 same-length-3 c = search needs
 
 returns-3 : tie.Need-returns-3
-returns-3 c = followed _ _ (holds _ _ _ (c .before .before .before .before .before .before .before .before .before .before .before .before .before .read-link .ensures) (c .before .before .before .before .before .before .before .before .before .before .before .x .given .1)) (c .before .before .before .before .before .before .before .before .before .if1 .left) _ _ (c .before .before .before .before .before .before .before .read-cell .ensures) (sym (c .before .before .before .before .before .valid-link .ensures) ∙ c .before .before .before .before .if2 .taken) (c .before .before .write-register .ensures)
+returns-3 c =
+    let at-if2 = c .before .before .before .before in
+    let at-read-cell = at-if2 .before .before .before in
+    let at-x = at-read-cell .before .before .before .before in
+    followed _ _ (holds _ _ _ (at-x .before .before .read-link .ensures) (at-x .x .given .1)) (at-read-cell .before .before .if1 .left) _ _ (at-read-cell .read-cell .ensures) (sym (at-if2 .before .valid-link .ensures) ∙ at-if2 .if2 .taken) (c .before .before .write-register .ensures)
 
 same-length-4 : tie.Need-same-length-4
 same-length-4 c = search needs
 
 returns-4 : tie.Need-returns-4
-returns-4 c = follow-malformed _ _ (holds _ _ _ (c .before .before .before .before .before .before .before .before .before .read-link .ensures) (c .before .before .before .before .before .before .before .x .given .1)) (c .before .before .before .before .before .if1 .left) _ _ (c .before .before .before .read-cell .ensures) (sym (c .before .valid-link .ensures) ∙ c .if2 .left)
+returns-4 c =
+    let at-if1 = c .before .before .before .before .before in
+    let at-read-link = at-if1 .before .before .before .before in
+    follow-malformed _ _ (holds _ _ _ (at-read-link .read-link .ensures) (at-if1 .before .before .x .given .1)) (at-if1 .if1 .left) _ _ (c .before .before .before .read-cell .ensures) (sym (c .before .valid-link .ensures) ∙ c .if2 .left)
 
 pub follow-in-spec : {M : Type 1} → statement M
 follow-in-spec =

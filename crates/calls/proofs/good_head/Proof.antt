@@ -17,7 +17,9 @@ read-cell-requires-2 : tie.Need-read-cell-requires-2
 read-cell-requires-2 c κs = search needs
 
 returns-2 : tie.Need-returns-2
-returns-2 c = simp (← c .before .before .before .before .read-head .ensures, le-leb _ _ (c .before .before .before .if1 .left), ← c .before .before .read-cell .ensures, eq-eqb _ _ (c .before .if2 .taken), ← c .read-cell2 .ensures)
+returns-2 c =
+    let at-read-head = c .before .before .before .before in
+    simp (← at-read-head .read-head .ensures, le-leb _ _ (c .before .before .before .if1 .left), ← c .before .before .read-cell .ensures, eq-eqb _ _ (c .before .if2 .taken), ← c .read-cell2 .ensures)
 
 returns-3 : tie.Need-returns-3
 returns-3 c = simp (← c .before .before .before .read-head .ensures, le-leb _ _ (c .before .before .if1 .left), ← c .before .read-cell .ensures, ne-eqb _ _ (c .if2 .left))

@@ -34,13 +34,18 @@ same-length-2 : tie.Need-same-length-2
 same-length-2 c = search needs
 
 returns-2 : tie.Need-returns-2
-returns-2 c = link-malformed _ _ (holds _ _ _ (c .before .before .before .before .before .before .before .read-link .ensures) (c .before .before .before .before .before .y .given .1)) _ _ (holds-none _ _ _ (c .before .before .read-link2 .ensures) (c .enum-told2 .given .1))
+returns-2 c =
+    let at-y = c .before .before .before .before .before in
+    link-malformed _ _ (holds _ _ _ (at-y .before .before .read-link .ensures) (at-y .y .given .1)) _ _ (holds-none _ _ _ (c .before .before .read-link2 .ensures) (c .enum-told2 .given .1))
 
 same-length-3 : tie.Need-same-length-3
 same-length-3 c = search needs
 
 returns-3 : tie.Need-returns-3
-returns-3 c = link-nil _ _ (holds _ _ _ (c .before .before .before .before .read-link2 .ensures) (c .before .before .x .given .1)) (c .if1 .taken) _ (holds _ _ _ (c .before .before .before .before .before .before .before .before .before .read-link .ensures) (c .before .before .before .before .before .before .before .y .given .1))
+returns-3 c =
+    let at-read-link2 = c .before .before .before .before in
+    let at-y = at-read-link2 .before .before .before in
+    link-nil _ _ (holds _ _ _ (at-read-link2 .read-link2 .ensures) (c .before .before .x .given .1)) (c .if1 .taken) _ (holds _ _ _ (at-y .before .before .read-link .ensures) (at-y .y .given .1))
 
 write-cell-requires : tie.Need-write-cell-requires
 write-cell-requires c κs = omega (arith, holds-cell (holds _ _ _ (c .before .before .before .before .before .read-link2 .ensures) (c .before .before .before .x .given .1)) (c .before .if1 .left))
@@ -49,7 +54,11 @@ same-length-4 : tie.Need-same-length-4
 same-length-4 c = search needs
 
 returns-4 : tie.Need-returns-4
-returns-4 c = linked _ _ (holds _ _ _ (c .before .before .before .before .before .before .before .before .read-link2 .ensures) (c .before .before .before .before .before .before .x .given .1)) (c .before .before .before .before .if1 .left) _ (holds _ _ _ (c .before .before .before .before .before .before .before .before .before .before .before .before .before .read-link .ensures) (c .before .before .before .before .before .before .before .before .before .before .before .y .given .1)) (c .before .before .write-cell .ensures)
+returns-4 c =
+    let at-if1 = c .before .before .before .before in
+    let at-read-link2 = at-if1 .before .before .before .before in
+    let at-y = at-read-link2 .before .before .before in
+    linked _ _ (holds _ _ _ (at-read-link2 .read-link2 .ensures) (at-if1 .before .before .x .given .1)) (at-if1 .if1 .left) _ (holds _ _ _ (at-y .before .before .read-link .ensures) (at-y .y .given .1)) (c .before .before .write-cell .ensures)
 
 pub link-in-spec : {M : Type 1} → statement M
 link-in-spec =

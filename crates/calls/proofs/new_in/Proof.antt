@@ -35,7 +35,9 @@ same-length-2 : tie.Need-same-length-2
 same-length-2 c = search needs
 
 returns-2 : tie.Need-returns-2
-returns-2 c = new-malformed _ _ (holds _ _ _ (c .before .before .before .before .before .before .before .read-link .ensures) (c .before .before .before .before .before .x .given .1)) _ _ _ (holds-none _ _ _ (c .before .before .read-link2 .ensures) (c .enum-told2 .given .1))
+returns-2 c =
+    let at-x = c .before .before .before .before .before in
+    new-malformed _ _ (holds _ _ _ (at-x .before .before .read-link .ensures) (at-x .x .given .1)) _ _ _ (holds-none _ _ _ (c .before .before .read-link2 .ensures) (c .enum-told2 .given .1))
 
 read-head-requires : tie.Need-read-head-requires
 read-head-requires c κs = search needs
@@ -47,7 +49,11 @@ same-length-3 : tie.Need-same-length-3
 same-length-3 c = search needs
 
 returns-3 : tie.Need-returns-3
-returns-3 c = new-collected _ _ (holds _ _ _ (c .before .before .before .before .before .before .before .before .before .before .before .before .before .before .before .read-link .ensures) (c .before .before .before .before .before .before .before .before .before .before .before .before .before .x .given .1)) _ _ (holds _ _ _ (c .before .before .before .before .before .before .before .before .before .before .read-link2 .ensures) (c .before .before .before .before .before .before .before .before .y .given .1)) (c .before .before .before .before .before .read-head .ensures) (c .before .before .before .before .if1 .taken) (c .before .before .take-collected .ensures)
+returns-3 c =
+    let at-if1 = c .before .before .before .before in
+    let at-y = at-if1 .before .before .before .before in
+    let at-x = at-y .before .before .before .before .before in
+    new-collected _ _ (holds _ _ _ (at-x .before .before .read-link .ensures) (at-x .x .given .1)) _ _ (holds _ _ _ (at-y .before .before .read-link2 .ensures) (at-y .y .given .1)) (at-if1 .before .read-head .ensures) (at-if1 .if1 .taken) (c .before .before .take-collected .ensures)
 
 good-head-requires : tie.Need-good-head-requires
 good-head-requires c κs = search needs
@@ -59,13 +65,22 @@ same-length-4 : tie.Need-same-length-4
 same-length-4 c = search needs
 
 returns-4 : tie.Need-returns-4
-returns-4 c = new-taken _ _ (holds _ _ _ (c .before .before .before .before .before .before .before .before .before .before .before .before .before .before .before .before .before .before .read-link .ensures) (c .before .before .before .before .before .before .before .before .before .before .before .before .before .before .before .before .x .given .1)) _ _ (holds _ _ _ (c .before .before .before .before .before .before .before .before .before .before .before .before .before .read-link2 .ensures) (c .before .before .before .before .before .before .before .before .before .before .before .y .given .1)) (c .before .before .before .before .before .before .before .before .read-head .ensures) (c .before .before .before .before .before .before .before .if1 .left) (sym (c .before .before .before .before .before .good-head .ensures) ∙ c .before .before .before .before .if2 .taken) (c .before .before .take-head .ensures)
+returns-4 c =
+    let at-if2 = c .before .before .before .before in
+    let at-if1 = at-if2 .before .before .before in
+    let at-y = at-if1 .before .before .before .before in
+    let at-x = at-y .before .before .before .before .before in
+    new-taken _ _ (holds _ _ _ (at-x .before .before .read-link .ensures) (at-x .x .given .1)) _ _ (holds _ _ _ (at-y .before .before .read-link2 .ensures) (at-y .y .given .1)) (at-if1 .before .read-head .ensures) (at-if1 .if1 .left) (sym (at-if2 .before .good-head .ensures) ∙ at-if2 .if2 .taken) (c .before .before .take-head .ensures)
 
 same-length-5 : tie.Need-same-length-5
 same-length-5 c = search needs
 
 returns-5 : tie.Need-returns-5
-returns-5 c = new-refused _ _ (holds _ _ _ (c .before .before .before .before .before .before .before .before .before .before .before .before .before .before .read-link .ensures) (c .before .before .before .before .before .before .before .before .before .before .before .before .x .given .1)) _ _ (holds _ _ _ (c .before .before .before .before .before .before .before .before .before .read-link2 .ensures) (c .before .before .before .before .before .before .before .y .given .1)) (c .before .before .before .before .read-head .ensures) (c .before .before .before .if1 .left) (sym (c .before .good-head .ensures) ∙ c .if2 .left)
+returns-5 c =
+    let at-read-head = c .before .before .before .before in
+    let at-y = at-read-head .before .before .before in
+    let at-x = at-y .before .before .before .before .before in
+    new-refused _ _ (holds _ _ _ (at-x .before .before .read-link .ensures) (at-x .x .given .1)) _ _ (holds _ _ _ (at-y .before .before .read-link2 .ensures) (at-y .y .given .1)) (at-read-head .read-head .ensures) (c .before .before .before .if1 .left) (sym (c .before .good-head .ensures) ∙ c .if2 .left)
 
 pub new-in-spec : {M : Type 1} → statement M
 new-in-spec =

@@ -27,13 +27,21 @@ enum-told-2 : tie.Need-enum-told-2
 enum-told-2 c = search needs
 
 returns-2 : tie.Need-returns-2
-returns-2 c = same-malformed _ _ (holds _ _ _ (c .before .before .before .before .before .before .read-link .ensures) (c .before .before .before .before .x .given .1)) _ (holds-none _ _ _ (c .before .before .read-link2 .ensures) (c .enum-told2 .given .1))
+returns-2 c =
+    let at-x = c .before .before .before .before in
+    same-malformed _ _ (holds _ _ _ (at-x .before .before .read-link .ensures) (at-x .x .given .1)) _ (holds-none _ _ _ (c .before .before .read-link2 .ensures) (c .enum-told2 .given .1))
 
 returns-3 : tie.Need-returns-3
-returns-3 c = compared-same _ _ (holds _ _ _ (c .before .before .before .before .before .before .before .before .read-link .ensures) (c .before .before .before .before .before .before .x .given .1)) (holds _ _ _ (c .before .before .before .before .read-link2 .ensures) (c .before .before .y .given .1)) (c .if1 .taken)
+returns-3 c =
+    let at-read-link2 = c .before .before .before .before in
+    let at-read-link = at-read-link2 .before .before .before .before in
+    compared-same _ _ (holds _ _ _ (at-read-link .read-link .ensures) (at-read-link2 .before .before .x .given .1)) (holds _ _ _ (at-read-link2 .read-link2 .ensures) (c .before .before .y .given .1)) (c .if1 .taken)
 
 returns-4 : tie.Need-returns-4
-returns-4 c = compared-other _ _ (holds _ _ _ (c .before .before .before .before .before .before .before .before .read-link .ensures) (c .before .before .before .before .before .before .x .given .1)) (holds _ _ _ (c .before .before .before .before .read-link2 .ensures) (c .before .before .y .given .1)) (c .if1 .left)
+returns-4 c =
+    let at-read-link2 = c .before .before .before .before in
+    let at-read-link = at-read-link2 .before .before .before .before in
+    compared-other _ _ (holds _ _ _ (at-read-link .read-link .ensures) (at-read-link2 .before .before .x .given .1)) (holds _ _ _ (at-read-link2 .read-link2 .ensures) (c .before .before .y .given .1)) (c .if1 .left)
 
 pub same-in-spec : {M : Type 1} → statement M
 same-in-spec =

@@ -14,7 +14,10 @@ enum-known-n : tie.Need-enum-known-n
 enum-known-n c = search needs
 
 set-value-in-requires : tie.Need-set-value-in-requires
-set-value-in-requires c κs = let p = c .before .before .before .before .before .before .before .args in omega (arith, admits _ (p .a) (p .a) (p .a) (c .before .before .before .before .admit .ensures) (c .before .before .n .given .1))
+set-value-in-requires c κs =
+    let at-admit = c .before .before .before .before in
+    let p = at-admit .before .before .before .args in
+    omega (arith, admits _ (p .a) (p .a) (p .a) (at-admit .admit .ensures) (c .before .before .n .given .1))
 
 enum-known-k : tie.Need-enum-known-k
 enum-known-k c = search needs
@@ -23,13 +26,18 @@ same-length : tie.Need-same-length
 same-length c = search needs
 
 returns : tie.Need-returns
-returns c = let p = c .before .before .before .before .before .before .before .before .before .before .args in asked-cells _ (p .a) (p .a) (p .a) (c .before .before .before .before .before .before .before .admit .ensures) (λ n. setValueIn n (now (p .words)) (p .a) (p .v)) (c .before .before .before .before .before .n .given .1) (c .before .before .set-value-in .ensures)
+returns c =
+    let at-n = c .before .before .before .before .before in
+    let p = at-n .before .before .before .before .before .args in
+    asked-cells _ (p .a) (p .a) (p .a) (at-n .before .before .admit .ensures) (λ n. setValueIn n (now (p .words)) (p .a) (p .v)) (at-n .n .given .1) (c .before .before .set-value-in .ensures)
 
 same-length-2 : tie.Need-same-length-2
 same-length-2 c = search needs
 
 returns-2 : tie.Need-returns-2
-returns-2 c = let p = c .before .before .before .before .before .before .args in asked-refused _ (p .a) (p .a) (p .a) (c .before .before .before .admit .ensures) (λ n. setValueIn n (now (p .words)) (p .a) (p .v)) (c .before .k .given .1)
+returns-2 c =
+    let p = c .before .before .before .before .before .before .args in
+    asked-refused _ (p .a) (p .a) (p .a) (c .before .before .before .admit .ensures) (λ n. setValueIn n (now (p .words)) (p .a) (p .v)) (c .before .k .given .1)
 
 pub set-value-spec : {M : Type 1} → statement M
 set-value-spec =

@@ -34,7 +34,10 @@ same-length-3 : tie.Need-same-length-3
 same-length-3 c = search needs
 
 returns-3 : tie.Need-returns-3
-returns-3 c = value-set _ _ (holds _ _ _ (c .before .before .before .before .before .before .before .before .read-link .ensures) (c .before .before .before .before .before .before .x .given .1)) (c .before .before .before .before .if1 .left) _ (c .before .before .write-cell .ensures)
+returns-3 c =
+    let at-if1 = c .before .before .before .before in
+    let at-read-link = at-if1 .before .before .before .before in
+    value-set _ _ (holds _ _ _ (at-read-link .read-link .ensures) (at-if1 .before .before .x .given .1)) (at-if1 .if1 .left) _ (c .before .before .write-cell .ensures)
 
 pub set-value-in-spec : {M : Type 1} → statement M
 set-value-in-spec =

@@ -27,16 +27,28 @@ same-length-2 : tie.Need-same-length-2
 same-length-2 c = search needs
 
 returns-2 : tie.Need-returns-2
-returns-2 c = take-full _ _ (swept _ _ _ (c .before .before .before .before .before .before .before .before .collect-in .ensures) (c .before .before .before .before .visits .given .1)) _ _ _ _ (c .before .before .before .before .before .before .before .before .before .before .before .pre .1) (c .before .before .before .before .before .before .before .before .before .before .before .pre .0) (c .before .before .before .before .before .before .before .before .before .before .before .pre .4) (c .before .read-head .ensures) (c .if1 .taken)
+returns-2 c =
+    let at-visits = c .before .before .before .before in
+    let at-collect-in = at-visits .before .before .before .before in
+    let at-pre = at-collect-in .before .before .before in
+    take-full _ _ (swept _ _ _ (at-collect-in .collect-in .ensures) (at-visits .visits .given .1)) _ _ _ _ (at-pre .pre .1) (at-pre .pre .0) (at-pre .pre .4) (c .before .read-head .ensures) (c .if1 .taken)
 
 take-head-requires : tie.Need-take-head-requires
-take-head-requires c κs = omega (arith, c .before .before .read-head .ensures, c .before .if1 .left, c .before .before .before .before .before .before .before .before .before .collect-in .kept .0, swept-head _ _ (swept _ _ _ (c .before .before .before .before .before .before .before .before .before .collect-in .ensures) (c .before .before .before .before .before .visits .given .1)) (c .before .before .before .before .before .before .before .before .before .before .before .before .pre .1) (c .before .before .before .before .before .before .before .before .before .before .before .before .pre .0))
+take-head-requires c κs =
+    let at-visits = c .before .before .before .before .before in
+    let at-collect-in = at-visits .before .before .before .before in
+    let at-pre = at-collect-in .before .before .before in
+    omega (arith, c .before .before .read-head .ensures, c .before .if1 .left, at-collect-in .collect-in .kept .0, swept-head _ _ (swept _ _ _ (at-collect-in .collect-in .ensures) (at-visits .visits .given .1)) (at-pre .pre .1) (at-pre .pre .0))
 
 same-length-3 : tie.Need-same-length-3
 same-length-3 c = search needs
 
 returns-3 : tie.Need-returns-3
-returns-3 c = take-done _ _ (swept _ _ _ (c .before .before .before .before .before .before .before .before .before .before .before .before .collect-in .ensures) (c .before .before .before .before .before .before .before .before .visits .given .1)) _ _ _ _ (c .before .before .before .before .before .read-head .ensures) (c .before .before .before .before .if1 .left) (c .before .before .take-head .ensures)
+returns-3 c =
+    let at-if1 = c .before .before .before .before in
+    let at-visits = at-if1 .before .before .before .before in
+    let at-collect-in = at-visits .before .before .before .before in
+    take-done _ _ (swept _ _ _ (at-collect-in .collect-in .ensures) (at-visits .visits .given .1)) _ _ _ _ (at-if1 .before .read-head .ensures) (at-if1 .if1 .left) (c .before .before .take-head .ensures)
 
 pub take-collected-spec : {M : Type 1} → statement M
 take-collected-spec =

@@ -20,10 +20,15 @@ enum-known-k : tie.Need-enum-known-k
 enum-known-k c = search needs
 
 returns : tie.Need-returns
-returns c = let p = c .before .before .before .before .before .before .args in asked-cells _ (p .a) (p .a) (p .a) (c .before .before .before .before .admit .ensures) (λ n. valueIn n (now (p .words)) (p .a)) (c .before .before .n .given .1) (c .value-in .ensures)
+returns c =
+    let at-admit = c .before .before .before .before in
+    let p = at-admit .before .before .args in
+    asked-cells _ (p .a) (p .a) (p .a) (at-admit .admit .ensures) (λ n. valueIn n (now (p .words)) (p .a)) (c .before .before .n .given .1) (c .value-in .ensures)
 
 returns-2 : tie.Need-returns-2
-returns-2 c = let p = c .before .before .before .before .before .args in asked-refused _ (p .a) (p .a) (p .a) (c .before .before .before .admit .ensures) (λ n. valueIn n (now (p .words)) (p .a)) (c .before .k .given .1)
+returns-2 c =
+    let p = c .before .before .before .before .before .args in
+    asked-refused _ (p .a) (p .a) (p .a) (c .before .before .before .admit .ensures) (λ n. valueIn n (now (p .words)) (p .a)) (c .before .k .given .1)
 
 pub value-spec : {M : Type 1} → statement M
 value-spec =

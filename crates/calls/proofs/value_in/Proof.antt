@@ -25,7 +25,9 @@ read-cell-requires : tie.Need-read-cell-requires
 read-cell-requires c κs = omega (arith, holds-cell (holds _ _ _ (c .before .before .before .before .read-link .ensures) (c .before .before .x .given .1)) (c .if1 .left))
 
 returns-3 : tie.Need-returns-3
-returns-3 c = value-read _ _ (holds _ _ _ (c .before .before .before .before .before .read-link .ensures) (c .before .before .before .x .given .1)) (c .before .if1 .left) (c .read-cell .ensures)
+returns-3 c =
+    let at-read-link = c .before .before .before .before .before in
+    value-read _ _ (holds _ _ _ (at-read-link .read-link .ensures) (c .before .before .before .x .given .1)) (c .before .if1 .left) (c .read-cell .ensures)
 
 pub value-in-spec : {M : Type 1} → statement M
 value-in-spec =
