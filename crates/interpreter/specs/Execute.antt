@@ -43,6 +43,9 @@ turnOf room (line.Run call) pool = (outcomeText (compared call (callOf call pool
 abbrev pub usedOf : ℕ → ℕ → ℕ
 usedOf len used = cond (leb used len) used 0
 
+abbrev pub poolOf : ℕ → List ℕ → List ℕ
+poolOf used w = take (usedOf (length w) used) w
+
 -- The pool is put at the front of the words.
 abbrev pub withPool : List ℕ → List ℕ → List ℕ
 withPool pool w = pool ++ drop (length pool) w
@@ -50,7 +53,7 @@ withPool pool w = pool ++ drop (length pool) w
 -- A line on the words lent, of which the pool has the first `used`: what is printed, how many words are the pool's afterwards, and the words.
 unfoldable pub executeOf : Line → ℕ → List ℕ → List ℕ × ℕ × List ℕ
 executeOf line used w =
-    let turn = turnOf (length w) line (take (usedOf (length w) used) w) in
+    let turn = turnOf (length w) line (poolOf used w) in
     (turn .0, length (turn .1), withPool (turn .1) w)
 
 -- What lines print, one after the other.

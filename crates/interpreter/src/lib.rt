@@ -4,14 +4,20 @@ use calls::Call;
 use calls::Step;
 use pool::Pool;
 use pool::Refusal;
+use script::Found;
 use script::Line;
+use script::LineReader;
 use script::Reply;
+use script::Written;
 ghost use mathlib.Core.Path.{_≡_};
-ghost use Prim.Native.Nat.{_≤_};
+ghost use Prim.Native.Nat.{_+_, _<_, _≤_};
+ghost use mathlib.Core.Bool.{Bool, _&&_};
+ghost use lib.Dec.{leb, ltb};
 ghost use lib.ListN.{length};
 ghost use Rattle.calls.specs.Answers.{answerOutcome, silent, compared};
-ghost use Rattle.script.specs.Replies.{replyText};
+ghost use Rattle.script.specs.Replies.{replyText, replyRoom};
 ghost use Rattle.interpreter.specs.Execute.{outcomeText, usedOf, sizeOf, executeOf};
+ghost use Rattle.interpreter.specs.Work.{HasRoom, LineRun, Advanced, Worked};
 
 // What a line leaves beside the words: how many of them are the pool's, and what is printed.
 pub struct Turn {
@@ -126,5 +132,82 @@ fn numbers(answer: Answer) -> Reply
         Answer::Number(x) => Reply::Number(x),
         Answer::Collected { kept, visits } => Reply::Collected { kept, visits },
         Answer::Refused(refusal) => Reply::Refused(refusal),
+    }
+}
+
+// How far a script is run.
+pub struct Progress {
+    // How many words are the pool's.
+    pub used: usize,
+    // The line that has begun.
+    pub reader: LineReader,
+    // The place in the part of the script that is read.
+    pub at: usize,
+    // How many bytes of replies wait to be written.
+    pub put: usize,
+}
+
+// Runs the lines of a part of a script, from a place on, up to the part's end or until too little room is left for a reply.
+pub fn work(words: &mut [u32], bytes: &[u8], out: &mut [u8], progress: Progress) -> Progress
+    ensures { λ r. ⌜ Worked (now (bytes .entry)) (now (words .entry)) (now (out .entry)) progress (now (words .exit)) (now (out .exit)) r ⌝ }
+{
+    let mut p = progress;
+    while goes_on(bytes.len(), out.len(), p) {
+        p = advance(words, bytes, out, p);
+    }
+    p
+}
+
+// Is there more of the part, and room for a reply?
+fn goes_on(len: usize, room: usize, p: Progress) -> bool
+    ensures { λ r. ⌜ r ≡ (ltb (p .at) len && leb (p .put + replyRoom) room) ⌝ }
+{
+    if len <= p.at {
+        return false;
+    }
+    if room < p.put {
+        return false;
+    }
+    Reply::ROOM <= room - p.put
+}
+
+// Reads on to the end of the line, and runs it, or to the end of the part.
+fn advance(words: &mut [u32], bytes: &[u8], out: &mut [u8], p: Progress) -> Progress
+    requires { ⌜ HasRoom (now out) p ⌝ }
+    ensures { λ r. ⌜ Advanced (now (bytes .entry)) (now (words .entry)) (now (out .entry)) p (now (words .exit)) (now (out .exit)) r ⌝ }
+{
+    let reader = p.reader;
+    let at = p.at;
+    match reader.next_line(bytes, at) {
+        Found::Line { line, next } => run_line(words, out, p, line, next),
+        Found::More(begun) => Progress {
+            used: p.used,
+            reader: begun,
+            at: bytes.len(),
+            put: p.put,
+        },
+    }
+}
+
+// Runs a line that ends at `next`, and puts its reply behind those that wait.
+fn run_line(words: &mut [u32], out: &mut [u8], p: Progress, line: Line, next: usize) -> Progress
+    requires { ⌜ HasRoom (now out) p ⌝ }
+    ensures { λ r. ⌜ LineRun line next (now (words .entry)) (now (out .entry)) p (now (words .exit)) (now (out .exit)) r ⌝ }
+{
+    let turn = execute(words, p.used, line);
+    let reply = turn.reply;
+    match script::write_reply(out, p.put, reply) {
+        Written::Next(put) => Progress {
+            used: turn.used,
+            reader: LineReader::new(),
+            at: next,
+            put,
+        },
+        Written::NoRoom => Progress {
+            used: turn.used,
+            reader: LineReader::new(),
+            at: next,
+            put: p.put,
+        },
     }
 }
