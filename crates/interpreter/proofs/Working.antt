@@ -71,32 +71,32 @@ module _ (out : List ℕ) (put : ℕ) (text : List ℕ) (room : put + replyRoom 
 
 -- the line that is run, and its reply
 module _
-  (line : Line)
-  (next : ℕ)
-  (w out : List ℕ)
-  (p : Progress)
-  (text : List ℕ)
-  (used′ : ℕ)
-  (w′ out′ : List ℕ)
-  (room : HasRoom out p)
-  (turn : (text, used′, w′) ≡ executeOf line (p .used) w)
+    (line : Line)
+    (next : ℕ)
+    (w out : List ℕ)
+    (p : Progress)
+    (text : List ℕ)
+    (used′ : ℕ)
+    (w′ out′ : List ℕ)
+    (room : HasRoom out p)
+    (turn : (text, used′, w′) ≡ executeOf line (p .used) w)
   where
-  pub line-run :
-      (s : LineReader) (put′ : ℕ) → s ≡ newReader → (written.Next put′, out′) ≡ writeAt out (p .put) text → length out′ ≡ length out
-      → LineRun line next w out p w′ out′ (record { used = used′; reader = s; at = next; put = put′ })
-  line-run s put′ fresh e same =
-      let is = ran line (p .used) w text used′ w′ turn in
-      let there = stood out (p .put) text room put′ out′ e same in
-      record {
-        text = there .stands ∙ ap (λ (t : List ℕ). take (p .put) out ++ t) (is .text-is);
-        pool = is .pool-is;
-        reader = fresh;
-        behind = refl;
-        inside = there .inside;
-      }
+    pub line-run :
+        (s : LineReader) (put′ : ℕ) → s ≡ newReader → (written.Next put′, out′) ≡ writeAt out (p .put) text → length out′ ≡ length out
+        → LineRun line next w out p w′ out′ (record { used = used′; reader = s; at = next; put = put′ })
+    line-run s put′ fresh e same =
+        let is = ran line (p .used) w text used′ w′ turn in
+        let there = stood out (p .put) text room put′ out′ e same in
+        record {
+          text = there .stands ∙ ap (λ (t : List ℕ). take (p .put) out ++ t) (is .text-is);
+          pool = is .pool-is;
+          reader = fresh;
+          behind = refl;
+          inside = there .inside;
+        }
 
-  pub line-lost : (q : Progress) → (written.NoRoom, out′) ≡ writeAt out (p .put) text → LineRun line next w out p w′ out′ q
-  line-lost q e = absurd (no-reply out (p .put) text room out′ e)
+    pub line-lost : (q : Progress) → (written.NoRoom, out′) ≡ writeAt out (p .put) text → LineRun line next w out p w′ out′ q
+    line-lost q e = absurd (no-reply out (p .put) text room out′ e)
 
 -- a line feed stands behind where the reader stood
 next-behind : (s : LineReader) (bytes : List ℕ) (at : ℕ) (line : Line) (next : ℕ) → nextLine s bytes at ≡ found.Line line next → at < next
