@@ -1,5 +1,5 @@
 -- What a line does to the words lent, from what the calls on the pool's part of them say.
-use Prim.Native.Nat.{ℕ, _<_, _≤_}
+use Prim.Native.Nat.{ℕ, _≤_}
 use mathlib.Core.Path.{_≡_, refl, sym, _∙_, ap}
 use mathlib.Core.List.{List, [], _∷_, _++_}
 use mathlib.Core.Bool.{Bool, true, false, cond, _&&_}
@@ -7,10 +7,10 @@ use native.Mathlib.Omega.{arith}
 use lib.ListN.{length, take, drop, take-append-drop}
 use lib.Seq.{length-take-le}
 use lib.Dec.{leb, ltb}
-use borrow.Author.Tests.{lt-ltb, le-leb, lt-leb, ltb-true, leb-true}
+use borrow.Author.Tests.{lt-ltb, le-leb, ltb-true, leb-true}
 use denote.Enum.Declared.{tagOf}
 use types.Run.{OneOf, miss}
-use Rattle.pool.specs.Layout.{cellLimit, registerCount, poolLength, cellsOfLength}
+use Rattle.pool.specs.Layout.{cellLimit, registerCount, poolLength}
 use Rattle.pool.specs.Outcome.{Outcome, answered, refused, freshOutcome}
 use Rattle.pool.specs.Calls.{freshOf}
 use Rattle.pool.specs.Retain.{freshWords}
@@ -26,7 +26,7 @@ use Rattle.script.specs.declared.Line.the-variants as line
 use Rattle.script.specs.declared.Reply.{Reply}
 use Rattle.script.specs.declared.Reply.the-variants as reply
 use Rattle.script.specs.Replies.{replyText, freshReply}
-use Rattle.interpreter.specs.Execute.{outcomeText, fits, sizeOf, turnOf, usedOf, withPool, executeOf}
+use Rattle.interpreter.specs.Execute.{outcomeText, fits, sizeOf, usedOf, executeOf}
 
 -- the reply to a new pool: its number of cells is not printed
 fresh-text : (f : Fresh) → replyText (freshReply f) ≡ outcomeText (silent (freshOutcome f))

@@ -3,7 +3,7 @@ use Prim.Native.Nat.{ℕ, _+_, _-_, _<_, _≤_}
 use Prim.Native.Char.{code}
 use mathlib.Core.Path.{_≡_, refl, sym, _∙_, ap}
 use mathlib.Core.List.{List, [], _∷_, _++_, append-assoc}
-use mathlib.Core.Bool.{Bool, true, false, false≢true, cond, _&&_}
+use mathlib.Core.Bool.{Bool, true, false, false≢true, _&&_}
 use mathlib.Core.Logic.{_⊎_, inl, inr, ⊎-elim}
 use native.Mathlib.Omega.{arith}
 use lib.ListN.{length, take, drop, length-append}
@@ -17,11 +17,11 @@ use Rattle.script.specs.declared.Found.{Found}
 use Rattle.script.specs.declared.Found.the-variants as found
 use Rattle.script.specs.declared.Written.{Written}
 use Rattle.script.specs.declared.Written.the-variants as written
-use Rattle.script.specs.Reader.{newReader, feedOf, endOf, begunOf}
-use Rattle.script.specs.Scripts.{nextLine, readScript}
+use Rattle.script.specs.Reader.{newReader, feedOf, endOf}
+use Rattle.script.specs.Scripts.{nextLine}
 use Rattle.script.specs.Replies.{replyRoom, writeAt}
-use Rattle.script.proofs.Scanning.{reads-scripts, parts-read}
-use Rattle.interpreter.specs.Execute.{turnOf, usedOf, poolOf, withPool, executeOf, transcript, printed}
+use Rattle.script.proofs.Scanning.{parts-read}
+use Rattle.interpreter.specs.Execute.{turnOf, poolOf, withPool, executeOf, transcript}
 use Rattle.interpreter.specs.Work.{waiting, remaining, GoesOn, HasRoom, LineRun, Advanced, Worked}
 use Rattle.interpreter.specs.declared.Progress.{Progress}
 

@@ -43,6 +43,7 @@ turnOf room (line.Run call) pool = (outcomeText (compared call (callOf call pool
 abbrev pub usedOf : ℕ → ℕ → ℕ
 usedOf len used = cond (leb used len) used 0
 
+-- The pool's words.
 abbrev pub poolOf : ℕ → List ℕ → List ℕ
 poolOf used w = take (usedOf (length w) used) w
 
