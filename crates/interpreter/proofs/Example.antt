@@ -1,0 +1,15 @@
+-- The script of specs/Example.antt, computed.
+use mathlib.Core.Path.{refl}
+use Rattle.graph.specs.Order.{has, visit, visits, order}
+use Rattle.pool.specs.Words.{tabulate, every}
+use Rattle.pool.specs.Layout.{cellsOfLength, count, cellsOf, head, setHead, register, setRegister, cell, setCell}
+use Rattle.pool.specs.Retain.{lowestFree, retain}
+use Rattle.script.specs.Lines.{firstWord, laterWords, all, isNumber, command, lineOf, parseLine}
+use Rattle.script.specs.Scripts.{linesOf}
+use Rattle.script.specs.Replies.{digits, decimal, spaced}
+use Rattle.interpreter.specs.Execute.{transcript}
+use Rattle.interpreter.specs.Example.{bytesOf, PaperScript}
+
+pub paper-script : PaperScript
+unfolding has visit visits order tabulate every cellsOfLength count cellsOf head setHead register setRegister cell setCell lowestFree retain firstWord laterWords all isNumber command lineOf parseLine linesOf digits decimal spaced transcript bytesOf
+paper-script = refl

@@ -1,0 +1,4 @@
+pub mod Turns
+pub mod Working
+pub mod Whole
+pub mod Example

@@ -1,0 +1,150 @@
+-- What a line does to the words lent, from what the calls on the pool's part of them say.
+use Prim.Native.Nat.{ℕ, _≤_}
+use mathlib.Core.Path.{_≡_, refl, sym, _∙_, ap}
+use mathlib.Core.List.{List, [], _∷_, _++_}
+use mathlib.Core.Bool.{Bool, true, false, cond, _&&_}
+use native.Mathlib.Omega.{arith}
+use lib.ListN.{length, take, drop, take-append-drop}
+use lib.Seq.{length-take-le}
+use lib.Dec.{leb, ltb}
+use borrow.Author.Tests.{lt-ltb, le-leb, ltb-true, leb-true}
+use denote.Enum.Declared.{tagOf}
+use types.Run.{OneOf, miss}
+use Rattle.pool.specs.Layout.{cellLimit, registerCount, poolLength}
+use Rattle.pool.specs.Outcome.{Outcome, answered, refused, freshOutcome}
+use Rattle.pool.specs.Calls.{freshOf}
+use Rattle.pool.specs.Retain.{freshWords}
+use Rattle.pool.specs.declared.Fresh.{Fresh}
+use Rattle.pool.specs.declared.Fresh.the-variants as fresh
+use Rattle.pool.proofs.Questions.{both, sized-length}
+use Rattle.calls.specs.declared.Call.{Call}
+use Rattle.calls.specs.declared.Call.the-variants as call
+use Rattle.calls.specs.Answers.{silent, compared}
+use Rattle.calls.specs.Calls.{callOf}
+use Rattle.script.specs.declared.Line.{Line}
+use Rattle.script.specs.declared.Line.the-variants as line
+use Rattle.script.specs.declared.Reply.{Reply}
+use Rattle.script.specs.declared.Reply.the-variants as reply
+use Rattle.script.specs.Replies.{replyText, freshReply}
+use Rattle.interpreter.specs.Execute.{outcomeText, fits, sizeOf, usedOf, executeOf}
+
+-- the reply to a new pool: its number of cells is not printed
+fresh-text : (f : Fresh) → replyText (freshReply f) ≡ outcomeText (silent (freshOutcome f))
+fresh-text (fresh.Made n) = refl
+fresh-text (fresh.Refused k) = refl
+
+-- a pool that fits: its bounds
+pub record Fitting (room n : ℕ) : Type 0 where
+  pub least : 1 ≤ n
+  pub most : n ≤ cellLimit
+  pub inside : poolLength registerCount n ≤ room
+
+fitting : (room n : ℕ) → fits room n ≡ true → Fitting room n
+fitting room n e =
+    let outer = both (ltb 0 n && leb n cellLimit) (leb (poolLength registerCount n) room) e in
+    let inner = both (ltb 0 n) (leb n cellLimit) (outer .0) in
+    record {
+      least = ltb-true 0 n (inner .0);
+      most = leb-true n cellLimit (inner .1);
+      inside = leb-true (poolLength registerCount n) room (outer .1);
+    }
+
+fitting-fits : (room n : ℕ) → Fitting room n → fits room n ≡ true
+fitting-fits room n f = simp (lt-ltb 0 n (f .least), le-leb n cellLimit (f .most), le-leb (poolLength registerCount n) room (f .inside))
+
+pub size-some : (room n : ℕ) → Fitting room n → poolLength registerCount n ≡ sizeOf room n
+size-some room n f = simp (fitting-fits room n f)
+
+pub size-none : (room n : ℕ) → (Fitting room n → ⊥) → 0 ≡ sizeOf room n
+size-none room n unfit = go (fits room n) refl
+  where
+    go : (t : Bool) → fits room n ≡ t → 0 ≡ cond t (poolLength registerCount n) 0
+    go true e = absurd (unfit (fitting room n e))
+    go false e = refl
+
+pub size-inside : (room n : ℕ) {size : ℕ} → size ≡ sizeOf room n → size ≤ room
+size-inside room n sized = rw sized (go (fits room n) refl)
+  where
+    go : (t : Bool) → fits room n ≡ t → cond t (poolLength registerCount n) 0 ≤ room
+    go true e = fitting room n e .inside
+    go false e = omega arith
+
+pub used-inside : (len used : ℕ) {pool : ℕ} → pool ≡ usedOf len used → pool ≤ len
+used-inside len used is = rw is (go (leb used len) refl)
+  where
+    go : (t : Bool) → leb used len ≡ t → cond t used 0 ≤ len
+    go true e = leb-true used len e
+    go false e = omega arith
+
+module _ (w : List ℕ) (used : ℕ) (inside : used ≤ length w) where
+  used-same : usedOf (length w) used ≡ used
+  used-same = simp (le-leb _ _ inside)
+
+  pub bad-line : (replyText reply.Bad, used, w) ≡ executeOf line.Bad used w
+  unfolding executeOf
+  bad-line = simp (used-same, length-take-le used w inside, take-append-drop used w)
+
+  pub fresh-refused : (n : ℕ) → sizeOf (length w) n ≡ 0 → (outcomeText (refused 1), used, w) ≡ executeOf (line.Fresh n) used w
+  unfolding executeOf
+  fresh-refused n none = go (fits (length w) n) refl
+    where
+      go : (t : Bool) → fits (length w) n ≡ t → (outcomeText (refused 1), used, w) ≡ executeOf (line.Fresh n) used w
+      go true e = absurd (omega (arith, none, size-some (length w) n (fitting (length w) n e)))
+      go false e = simp (e, used-same, length-take-le used w inside, take-append-drop used w)
+
+  -- a call: what it says and leaves of the pool's part
+  pub call-run :
+      (j k : Call) (o : Outcome) (text part : List ℕ) → text ≡ outcomeText (compared j o) → j ≡ k → (o, part) ≡ callOf k (take used w)
+      → length part ≡ length (take used w) → (text, used, part ++ drop used w) ≡ executeOf (line.Run k) used w
+  unfolding executeOf
+  call-run j k o text part printed is after same =
+      let long : length part ≡ used = same ∙ length-take-le used w inside in
+      simp (used-same, printed, is, ← after, long)
+
+-- a new pool in the place of the old
+module _ (w : List ℕ) (used n size : ℕ) (sized : size ≡ sizeOf (length w) n) (some : size ≡ 0 → ⊥) where
+  size-fitting : Fitting (length w) n
+  size-fitting = go (fits (length w) n) refl
+    where
+      go : (t : Bool) → fits (length w) n ≡ t → Fitting (length w) n
+      go true e = fitting (length w) n e
+      go false e = absurd (some (sized ∙ simp e))
+
+  size-exact : size ≡ poolLength registerCount n
+  size-exact = sized ∙ sym (size-some (length w) n size-fitting)
+
+  part-long : length (take size w) ≡ poolLength registerCount n
+  part-long = length-take-le size w (omega (arith, size-exact, size-fitting)) ∙ size-exact
+
+  fresh-part : freshOf (take size w) ≡ (answered (n ∷ []), freshWords registerCount n)
+  fresh-part = simp (part-long, sized-length registerCount n (size-fitting .least) (size-fitting .most), lt-ltb 0 n (size-fitting .least))
+
+  pub fresh-made :
+      (f : Fresh) (r : Reply) (part : List ℕ) → r ≡ freshReply f → (freshOutcome f, part) ≡ freshOf (take size w)
+      → length part ≡ length (take size w) → (replyText r, size, part ++ drop size w) ≡ executeOf (line.Fresh n) used w
+  unfolding executeOf
+  fresh-made f r part is after same =
+      let both-are : _≡_ {A = Outcome × List ℕ} (freshOutcome f, part) (answered (n ∷ []), freshWords registerCount n) = after ∙ fresh-part in
+      let text : replyText r ≡ outcomeText (answered []) = ap replyText is ∙ fresh-text f ∙ ap (λ (o : Outcome × List ℕ). outcomeText (silent (o .0))) both-are in
+      let words : part ≡ freshWords registerCount n = ap (λ (o : Outcome × List ℕ). o .1) both-are in
+      let long : length part ≡ size = same ∙ part-long ∙ sym size-exact in
+      simp (fitting-fits (length w) n size-fitting, text, ← words, long)
+
+-- asked twice, the pool's words are the same
+pub settled : (l : Line) (used pool : ℕ) (w : List ℕ) → pool ≡ usedOf (length w) used → executeOf l pool w ≡ executeOf l used w
+unfolding executeOf
+settled l used pool w is = rw (used-same w pool (used-inside (length w) used is), is)
+
+-- a call that is no new prints all its numbers
+pub not-new : (k : Call) (o : Outcome) → OneOf (0 ∷ 1 ∷ 3 ∷ 4 ∷ 5 ∷ 6 ∷ 7 ∷ 8 ∷ 9 ∷ 10 ∷ []) (tagOf Rattle.calls.proofs.Call.the-type k) → compared k o ≡ o
+not-new (call.Copy r a) o h = refl
+not-new (call.Clear r) o h = refl
+not-new (call.New r a b v) o h = absurd (miss (0 ∷ 1 ∷ 3 ∷ 4 ∷ 5 ∷ 6 ∷ 7 ∷ 8 ∷ 9 ∷ 10 ∷ []) 2 tt h)
+not-new (call.Left r a) o h = refl
+not-new (call.Right r a) o h = refl
+not-new (call.SetLeft a b) o h = refl
+not-new (call.SetRight a b) o h = refl
+not-new (call.SetValue a v) o h = refl
+not-new (call.Value a) o h = refl
+not-new (call.Same a b) o h = refl
+not-new call.Collect o h = refl

@@ -1,0 +1,28 @@
+-- The start and the end of a script that is run in parts.
+use Prim.Native.Nat.{ℕ}
+use mathlib.Core.Path.{_≡_, refl}
+use mathlib.Core.List.{List, _++_}
+use mathlib.Core.Bool.{false}
+use lib.ListN.{drop-of-length-le}
+use Rattle.script.specs.Reader.{newReader, begunOf}
+use Rattle.script.specs.Scripts.{readScript}
+use Rattle.script.proofs.Scanning.{reads-scripts}
+use Rattle.interpreter.specs.Execute.{transcript}
+use Rattle.interpreter.specs.Work.{remaining, StartsWhole, PartsJoin, Ends}
+use Rattle.interpreter.specs.declared.Progress.{Progress}
+
+pub starts-whole : StartsWhole
+unfolding remaining
+starts-whole w bytes more long = rw (reads-scripts (bytes ++ more), long)
+
+pub parts-join : PartsJoin
+unfolding remaining
+parts-join w bytes following more p past = rw (drop-of-length-le bytes past)
+
+not-begun : begunOf newReader ≡ false
+unfolding begunOf
+not-begun = refl
+
+pub ends : (w : List ℕ) (p : Progress) → Ends w p
+unfolding remaining readScript transcript
+ends w p = record { begun = λ begun. rw (begun, not-begun); over = λ over. rw over }

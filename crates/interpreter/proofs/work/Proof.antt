@@ -1,0 +1,54 @@
+use mathlib.Core.Path.{sym, _∙_}
+use native.Mathlib.Omega.{arith}
+use denote.Ref.{now}
+-- `interpreter::work` meets its contract: each turn is a step of the script.
+use Prim.Native.Nat.{_-_}
+use lib.ListN.{length}
+use Rattle.interpreter.proofs.Working.{Going, going-start, turning, going-on, going-ends}
+use Rattle.interpreter.proofs.work.Statement.{statement}
+use Rattle.interpreter.proofs.work.Tie as tie
+
+abbrev Inv-loop : tie.InvT-loop
+Inv-loop words₀ bytes out₀ p₀ words out p = Going bytes words₀ out₀ p₀ words out p
+
+abbrev μ-loop : tie.MeasureT-loop
+μ-loop words₀ bytes out₀ p₀ words out p = length bytes - p .at
+
+loop-holds : tie.Need-loop-holds Inv-loop μ-loop
+loop-holds c = going-start _ _ _ _
+
+goes-on-requires : tie.Need-goes-on-requires Inv-loop μ-loop
+goes-on-requires c κs = tt
+
+advance-requires : tie.Need-advance-requires Inv-loop μ-loop
+advance-requires c κs = turning (now (c .before .before .before .before .before .before .before .before .args .bytes)) (c .before .before .before .before .loop .out) (c .before .before .before .before .loop .p) (c .before .before .before .goes-on .ensures) (c .before .before .if1 .taken) .free
+
+loop-less : tie.Need-loop-less Inv-loop μ-loop
+loop-less c = omega (arith, c .before .before .before .before .advance .ensures .forward (turning (now (c .before .before .before .before .before .before .before .before .before .before .before .before .before .args .bytes)) (c .before .before .before .before .before .before .before .before .before .loop .out) (c .before .before .before .before .before .before .before .before .before .loop .p) (c .before .before .before .before .before .before .before .before .goes-on .ensures) (c .before .before .before .before .before .before .before .if1 .taken) .unread), turning (now (c .before .before .before .before .before .before .before .before .before .before .before .before .before .args .bytes)) (c .before .before .before .before .before .before .before .before .before .loop .out) (c .before .before .before .before .before .before .before .before .before .loop .p) (c .before .before .before .before .before .before .before .before .goes-on .ensures) (c .before .before .before .before .before .before .before .if1 .taken) .unread)
+
+loop-again : tie.Need-loop-again Inv-loop μ-loop
+loop-again c = going-on _ _ _ _ _ _ _ _ _ _ (c .before .before .before .before .before .before .before .before .before .loop .inv) (turning (now (c .before .before .before .before .before .before .before .before .before .before .before .before .before .args .bytes)) (c .before .before .before .before .before .before .before .before .before .loop .out) (c .before .before .before .before .before .before .before .before .before .loop .p) (c .before .before .before .before .before .before .before .before .goes-on .ensures) (c .before .before .before .before .before .before .before .if1 .taken)) (c .before .before .before .before .advance .ensures) (c .before .before .before .before .advance .kept .0) (c .before .before .before .before .advance .kept .1 .1 .0)
+
+same-length : tie.Need-same-length Inv-loop μ-loop
+same-length c = c .before .before .loop .inv .words
+
+same-length-2 : tie.Need-same-length-2 Inv-loop μ-loop
+same-length-2 c = c .before .before .loop .inv .room
+
+returns : tie.Need-returns Inv-loop μ-loop
+returns c = going-ends _ _ _ _ _ _ _ (c .before .before .loop .inv) (sym (c .before .goes-on .ensures) ∙ c .if1 .left)
+
+pub work-spec : {M : Type 1} → statement M
+work-spec =
+    tie.close
+    (tie.spec
+    Inv-loop
+    μ-loop
+    loop-holds
+    goes-on-requires
+    advance-requires
+    loop-less
+    loop-again
+    same-length
+    same-length-2
+    returns)

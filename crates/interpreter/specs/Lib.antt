@@ -1,0 +1,3 @@
+pub mod Execute
+pub mod Work
+pub mod Example
