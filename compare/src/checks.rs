@@ -4,7 +4,7 @@ use crate::generate::{self, Shape, SHAPES};
 use crate::model::{Model, Pool};
 use crate::random::Random;
 use crate::reference::Reference;
-use crate::{apply, words_for, Answer, Call, Interface, Tally, CELL, HEADER, MOST_CELLS, REGISTERS};
+use crate::{apply, words_for, Answer, Call, Interface, Tally, CELL, FREE, HEADER, MOST_CELLS, REGISTERS, USED};
 use std::fmt::Debug;
 
 pub type Outcome = Result<(), String>;
@@ -101,6 +101,84 @@ pub fn reference_list(pool: &dyn Interface, n: usize, limit: u64, list: &[Call])
     }
     let differs = (0..list.len()).find(|&place| found[place] != expected[place]);
     equal(|| format!("first difference with N {n} and L {limit} in {list:?}"), differs, apart)
+}
+
+/// The largest pool filled, and used again after everything was dropped.
+pub fn largest_pool_filled(pool: &dyn Interface) -> Outcome {
+    let n = MOST_CELLS;
+    let fill = |v: usize| Call::New { r: 0, a: 0, b: 1, v: v as u32 };
+    let mut list: Vec<Call> = (0..n + 2).map(fill).collect();
+    list.extend([Call::Collect, Call::Right { r: 1, a: 0 }, Call::Left { r: 0, a: 0 }, Call::Collect]);
+    list.extend((0..3).map(fill));
+    list.extend([Call::Clear { r: 0 }, Call::Clear { r: 1 }]);
+    list.extend((0..100).map(fill));
+    list.push(Call::Collect);
+    for limit in [n - 1, n, n + 1] {
+        reference_list(pool, n, limit as u64, &list)?;
+    }
+    Ok(())
+}
+
+/// Every pool of one or two cells with small numbers, and every well-formed pool of three used cells.
+pub fn small_pools(pool: &dyn Interface, random: &mut Random) -> Outcome {
+    let digits = |mut code: usize, bases: &[usize]| -> Vec<u32> {
+        let digit = |&base: &usize| {
+            let digit = code % base;
+            code /= base;
+            digit as u32
+        };
+        bases.iter().map(digit).collect()
+    };
+    let states = [USED, FREE, 3];
+    for n in [1, 2] {
+        // The head, register 0, and state, left and right of each cell.
+        let mut bases = vec![n + 2; 2];
+        bases.extend([states.len(), n + 2, n + 2].repeat(n));
+        for code in 0..bases.iter().product() {
+            let small = digits(code, &bases);
+            let mut words = vec![0; words_for(n)];
+            words[0] = n as u32;
+            words[1] = small[0];
+            words[2] = small[1];
+            for (cell, content) in words[HEADER..].chunks_mut(CELL).zip(small[2..].chunks(3)) {
+                cell.copy_from_slice(&[states[content[0] as usize], content[1], content[2], 7]);
+            }
+            for call in [
+                Call::Copy { r: 1, a: 0 },
+                Call::Clear { r: 0 },
+                Call::New { r: 0, a: 0, b: 1, v: 5 },
+                Call::New { r: 1, a: 1, b: 0, v: 5 },
+                Call::Left { r: 1, a: 0 },
+                Call::Right { r: 0, a: 0 },
+                Call::SetLeft { a: 0, b: 1 },
+                Call::SetLeft { a: 1, b: 0 },
+                Call::SetRight { a: 0, b: 0 },
+                Call::SetValue { a: 0, v: 8 },
+                Call::Value { a: 0 },
+                Call::Same { a: 0, b: 1 },
+                Call::Collect,
+            ] {
+                one_call(pool, &mut words.clone(), call)?;
+            }
+            stack_collect(pool, &words, code % 3, random)?;
+            save(pool, &words, 2 * n, 40, random)?;
+        }
+    }
+    let n = 3;
+    for code in 0..usize::pow(n as usize + 1, 8) {
+        let links = digits(code, &[n as usize + 1; 8]);
+        let mut words = vec![0; words_for(n as usize)];
+        words[0] = n;
+        words[2..4].copy_from_slice(&links[..2]);
+        for (cell, links) in words[HEADER..].chunks_mut(CELL).zip(links[2..].chunks(2)) {
+            cell.copy_from_slice(&[USED, links[0], links[1], 7]);
+        }
+        one_call(pool, &mut words.clone(), Call::Collect)?;
+        one_call(pool, &mut words.clone(), Call::New { r: 0, a: 1, b: 0, v: 5 })?;
+        stack_collect(pool, &words, code % 3, random)?;
+        save(pool, &words, 6, 26, random)?;
+    }
+    Ok(())
 }
 
 /// Every form of collect on the same words.

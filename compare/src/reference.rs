@@ -2,7 +2,6 @@
 
 use crate::refusal::*;
 use crate::{Answer, Call, REGISTERS};
-use std::collections::HashSet;
 
 #[derive(Clone, Debug)]
 struct Cell {
@@ -26,15 +25,17 @@ impl Reference {
 
     /// The number of cells reached from the registers over left and right.
     pub fn live(&self) -> u64 {
-        let mut found = HashSet::new();
+        let mut found = vec![false; self.cells.len()];
+        let mut live = 0;
         let mut pending: Vec<usize> = self.registers.iter().flatten().copied().collect();
         while let Some(place) = pending.pop() {
-            if found.insert(place) {
+            if !std::mem::replace(&mut found[place], true) {
+                live += 1;
                 pending.extend(self.cells[place].left);
                 pending.extend(self.cells[place].right);
             }
         }
-        found.len() as u64
+        live
     }
 
     /// The live count that this call asks for, before it: only a `new` with valid registers does.

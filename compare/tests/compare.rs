@@ -9,7 +9,7 @@ use common::on_each;
 
 #[test]
 fn lists_of_calls_leave_the_words_of_the_model() {
-    on_each(1, |pool, random| checks::call_lists(pool, random, rounds(2_000)));
+    on_each(1, |pool, random| checks::call_lists(pool, random, rounds(6_000)));
 }
 
 #[test]
@@ -34,12 +34,12 @@ fn graphs_of_known_shape_up_to_the_largest_pool() {
 
 #[test]
 fn saves_with_every_nearby_length() {
-    on_each(6, |pool, random| checks::saves(pool, random, rounds(3_000)));
+    on_each(6, |pool, random| checks::saves(pool, random, rounds(6_000)));
 }
 
 #[test]
 fn images_complete_and_damaged() {
-    on_each(7, |pool, random| checks::images(pool, random, rounds(30_000)));
+    on_each(7, |pool, random| checks::images(pool, random, rounds(60_000)));
 }
 
 #[test]
@@ -55,4 +55,14 @@ fn lengths_up_to_beyond_the_longest() {
 #[test]
 fn percentages_of_every_small_pool() {
     on_each(10, |pool, random| checks::percentages(pool, random));
+}
+
+#[test]
+fn every_small_pool() {
+    on_each(11, |pool, random| checks::small_pools(pool, random));
+}
+
+#[test]
+fn the_largest_pool_fills_exactly() {
+    on_each(12, |pool, _| checks::largest_pool_filled(pool));
 }
