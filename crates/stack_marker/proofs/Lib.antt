@@ -7,3 +7,4 @@ pub mod Simulation
 pub mod HandLoop
 pub mod RootLoop
 pub mod StackSweep
+pub mod StackExample
