@@ -1,4 +1,5 @@
 pub mod Fresh
+pub mod Cases
 pub mod Going
 pub mod Chain
 pub mod Cleared
