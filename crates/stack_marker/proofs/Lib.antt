@@ -1,4 +1,5 @@
 pub mod Fresh
+pub mod Cases
 pub mod Going
 pub mod Chain
 pub mod Cleared
@@ -7,3 +8,4 @@ pub mod Simulation
 pub mod HandLoop
 pub mod RootLoop
 pub mod StackSweep
+pub mod StackExample

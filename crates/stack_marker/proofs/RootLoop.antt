@@ -22,7 +22,8 @@ use Rattle.stack_marker.specs.Stack.{isFresh, run, start, runs, holding}
 use Rattle.stack_marker.specs.StackRun.{Settled, Started, runFrom, poolRun, Ran}
 use Rattle.stack_marker.proofs.Fresh.{fresh-true}
 use Rattle.stack_marker.proofs.Going.{Going, going-first, begin, weight-most, ended}
-use Rattle.stack_marker.proofs.Simulation.{test, leb-max, run-none}
+use Rattle.stack_marker.proofs.Simulation.{test, leb-max}
+use Rattle.stack_marker.proofs.Cases.{run-none}
 use Rattle.stack_marker.proofs.HandLoop.{settled-going}
 
 going-settled : {n : ℕ} {g : Graph} {roots seen : List ℕ} → Going n g roots seen [] → Settled g roots seen

@@ -9,7 +9,7 @@ use lib.ListN.{length, getD, set}
 use lib.Seq.{getD-set-same, getD-set-other}
 use lib.Dec.{leb}
 use borrow.Author.Tests.{le-leb, lt-leb, leb-true, leb-false, ne-eqb}
-use Rattle.graph.specs.Graph.{Graph, Reach, Within}
+use Rattle.graph.specs.Graph.{Reach, Within}
 use Rattle.graph.specs.Order.{has}
 use Rattle.graph.proofs.Lists.{Each, has-member, member-has}
 use Rattle.graph.proofs.Reached.{reach-above, reach-within}
@@ -22,6 +22,7 @@ use Rattle.stack_marker.specs.Stack.{isFresh, unmarkedLinks, onward, run
 use Rattle.stack_marker.specs.StackCollect.{cleared}
 use Rattle.stack_marker.specs.StackRun.{onwardIn}
 use Rattle.stack_marker.proofs.Fresh.{member-fresh, other-fresh}
+use Rattle.stack_marker.proofs.Cases.{run-none}
 use Rattle.stack_marker.proofs.Going.{Going, weight, turn, turn-less}
 use Rattle.stack_marker.proofs.Cleared.{cleared-marks}
 
@@ -54,12 +55,6 @@ pub entries-pop : (words : List ℕ) (top : ℕ) → 0 < top → entries words t
 unfolding entries
 entries-pop words zero h = absurd (omega arith)
 entries-pop words (suc top) h = let less : suc top - 1 ≡ top = omega arith in rw less
-
--- where nothing is pending the run has ended
-pub run-none : (turns : ℕ) (g : Graph) (seen : List ℕ) → run turns g seen [] ≡ (seen, 0)
-unfolding run
-run-none zero g seen = refl
-run-none (suc turns) g seen = refl
 
 -- Between two turns of a run that leads to `end`: the words are the pool's with some cells marked, these cells are pending, and what is left of the
 -- run leads to the same end. Whether the words of stack are enough for the whole is whether they are for what is left.

@@ -2,11 +2,33 @@
 use Prim.Native.Nat.{ℕ, suc, _*_, _-_, _≤_}
 use mathlib.Core.Path.{_≡_}
 use mathlib.Core.Logic.{_↔_}
-use mathlib.Core.List.{List, [], _∷_, List·Memᴰ}
-use mathlib.Core.Bool.{cond}
+use mathlib.Core.List.{List, [], _∷_, _++_, List·Memᴰ}
+use mathlib.Core.Bool.{Bool, true, false, cond}
+use lib.ListN.{length}
 use lib.Dec.{ltb}
 use Rattle.graph.specs.Graph.{Graph, Reach, Within}
-use Rattle.stack_marker.specs.Stack.{runs, stackRun, stackMarked, mostEntries}
+use Rattle.stack_marker.specs.Stack.{isFresh, holding, run, runs, stackRun, stackMarked, mostEntries}
+
+-- The four cases of 01, for the cell p in hand with the stack behind it, by whether its left link l and its right link r are unmarked.
+pub record FourCases (turns : ℕ) (g : Graph) (seen : List ℕ) (p : ℕ) (stack : List ℕ) (l r : ℕ) (left-unmarked right-unmarked : Bool) : Type 0 where
+  -- "both marked or nil, pop the next in hand, or end if the stack is empty"
+  pub none : left-unmarked ≡ false → right-unmarked ≡ false → run (suc turns) g seen (p ∷ stack) ≡ holding (length stack) (run turns g seen stack)
+  -- "one unmarked, mark it and go there"
+  pub left : left-unmarked ≡ true → right-unmarked ≡ false
+      → run (suc turns) g seen (p ∷ stack) ≡ holding (length stack) (run turns g (seen ++ l ∷ []) (l ∷ stack))
+  pub right : left-unmarked ≡ false → right-unmarked ≡ true
+      → run (suc turns) g seen (p ∷ stack) ≡ holding (length stack) (run turns g (seen ++ r ∷ []) (r ∷ stack))
+  -- "both unmarked, mark both, push right, go left"
+  pub both : left-unmarked ≡ true → right-unmarked ≡ true
+      → run (suc turns) g seen (p ∷ stack) ≡ holding (length stack) (run turns g (seen ++ l ∷ r ∷ []) (l ∷ r ∷ stack))
+
+-- A turn of the marker is one of the four; it has come to its end where nothing is in hand.
+abbrev pub Stack-cases : Type 0
+Stack-cases =
+    (turns : ℕ) (g : Graph) (seen : List ℕ)
+    → (run turns g seen [] ≡ (seen, 0))
+    × ((p : ℕ) (stack : List ℕ)
+    → FourCases turns g seen p stack (g .left p) (g .right p) (isFresh seen (g .left p)) (isFresh seen (g .right p)))
 
 -- The marker ends: with more turns than it has it does the same.
 abbrev pub Stack-ends : Type 0

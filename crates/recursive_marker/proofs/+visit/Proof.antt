@@ -42,59 +42,117 @@ visit-is-unmarked-requires t c κs =
 
 visit-write-cell-requires : (t : ℕ) → visit-lts.Need-write-cell-requires (callees t) (visit-at t) visit.Post
 visit-write-cell-requires t c κs =
-    let (low, high, some, fits) = visit-cell registerCount _ _ _ _ _ (c .before .before .before .before .before .pre .1) (sym (c .before .before .is-unmarked .ensures) ∙ c .before .if1 .taken) in
-    (low, omega arith, omega (arith, c .before .before .before .before .before .pre .1 .agree .room))
+    let at-if1 = c .before in
+    let at-is-unmarked = at-if1 .before in
+    let at-start = at-is-unmarked .before .before .before in
+    let (low, high, some, fits) = visit-cell registerCount _ _ _ _ _ (at-start .pre .1) (sym (at-is-unmarked .is-unmarked .ensures) ∙ at-if1 .if1 .taken) in
+    (low, omega arith, omega (arith, at-start .pre .1 .agree .room))
 
 visit-read-cell-requires : (t : ℕ) → visit-lts.Need-read-cell-requires (callees t) (visit-at t) visit.Post
 visit-read-cell-requires t c κs =
-    let (low, high, some, fits) = visit-cell registerCount _ _ _ _ _ (c .before .before .before .before .before .before .before .before .before .pre .1) (sym (c .before .before .before .before .before .before .is-unmarked .ensures) ∙ c .before .before .before .before .before .if1 .taken) in
-    (low, omega arith, omega (arith, c .before .before .before .before .before .before .before .before .before .pre .1 .agree .room, c .before .before .before .write-cell .kept .0))
+    let at-write-cell = c .before .before .before in
+    let at-if1 = at-write-cell .before .before in
+    let at-is-unmarked = at-if1 .before in
+    let at-start = at-is-unmarked .before .before .before in
+    let (low, high, some, fits) = visit-cell registerCount _ _ _ _ _ (at-start .pre .1) (sym (at-is-unmarked .is-unmarked .ensures) ∙ at-if1 .if1 .taken) in
+    (low, omega arith, omega (arith, at-start .pre .1 .agree .room, at-write-cell .write-cell .kept .0))
 
 visit-sub-visit : (t : ℕ) → visit-lts.Need-sub-visit (callees t) (visit-at t) visit.Post
 visit-sub-visit t c =
-    visit-cell registerCount _ _ _ _ _ (c .before .before .before .before .before .before .before .before .before .before .before .pre .1) (sym (c .before .before .before .before .before .before .before .before .is-unmarked .ensures) ∙ c .before .before .before .before .before .before .before .if1 .taken) .2
+    let at-if1 = c .before .before .before .before .before .before .before in
+    let at-is-unmarked = at-if1 .before in
+    let at-start = at-is-unmarked .before .before .before in
+    visit-cell registerCount _ _ _ _ _ (at-start .pre .1) (sym (at-is-unmarked .is-unmarked .ensures) ∙ at-if1 .if1 .taken) .2
 
 visit-add-visit : (t : ℕ) → visit-lts.Need-add-visit (callees t) (visit-at t) visit.Post
 visit-add-visit t c =
-    omega (arith, visit-cell registerCount _ _ _ _ _ (c .before .before .before .before .before .before .before .before .before .before .before .pre .1) (sym (c .before .before .before .before .before .before .before .before .is-unmarked .ensures) ∙ c .before .before .before .before .before .before .before .if1 .taken) .3)
+    let at-if1 = c .before .before .before .before .before .before .before in
+    let at-is-unmarked = at-if1 .before in
+    let at-start = at-is-unmarked .before .before .before in
+    omega (arith, visit-cell registerCount _ _ _ _ _ (at-start .pre .1) (sym (at-is-unmarked .is-unmarked .ensures) ∙ at-if1 .if1 .taken) .3)
 
 visit-visit-requires : (t : ℕ) → visit-lts.Need-visit-requires (callees t) (visit-at t) visit.Post
 visit-visit-requires t c κs =
-    let h = c .before .before .before .before .before .before .before .before .before .before .before .pre .1 in (
-      omega (arith, c .before .before .before .before .before .before .before .before .before .before .before .pre .0, visit-cell registerCount _ _ _ _ _ h (sym (c .before .before .before .before .before .before .before .before .is-unmarked .ensures) ∙ c .before .before .before .before .before .before .before .if1 .taken) .2),
-      visit-left registerCount _ _ _ _ _ h (sym (c .before .before .before .before .before .before .before .before .is-unmarked .ensures) ∙ c .before .before .before .before .before .before .before .if1 .taken) _ _ (c .before .before .before .before .before .write-cell .ensures) (c .before .read-cell .ensures),
+    let at-read-cell = c .before in
+    let at-write-cell = at-read-cell .before .before .before .before in
+    let at-if1 = at-write-cell .before .before in
+    let at-is-unmarked = at-if1 .before in
+    let at-start = at-is-unmarked .before .before .before in
+    let h = at-start .pre .1 in (
+      omega (arith, at-start .pre .0, visit-cell registerCount _ _ _ _ _ h (sym (at-is-unmarked .is-unmarked .ensures) ∙ at-if1 .if1 .taken) .2),
+      visit-left registerCount _ _ _ _ _ h (sym (at-is-unmarked .is-unmarked .ensures) ∙ at-if1 .if1 .taken) _ _ (at-write-cell .write-cell .ensures) (at-read-cell .read-cell .ensures),
     )
 
 visit-read-cell-requires-2 : (t : ℕ) → visit-lts.Need-read-cell-requires-2 (callees t) (visit-at t) visit.Post
 visit-read-cell-requires-2 t c κs =
-    let (low, high, some, fits) = visit-cell registerCount _ _ _ _ _ (c .before .before .before .before .before .before .before .before .before .before .before .before .before .before .before .pre .1) (sym (c .before .before .before .before .before .before .before .before .before .before .before .before .is-unmarked .ensures) ∙ c .before .before .before .before .before .before .before .before .before .before .before .if1 .taken) in
-    (low, omega arith, omega (arith, c .before .before .before .before .before .before .before .before .before .before .before .before .before .before .before .pre .1 .agree .room, c .before .before .before .before .before .before .before .before .before .write-cell .kept .0, c .before .before .before .visit .kept .0))
+    let at-visit = c .before .before .before in
+    let at-write-cell = at-visit .before .before .before .before .before .before in
+    let at-if1 = at-write-cell .before .before in
+    let at-is-unmarked = at-if1 .before in
+    let at-start = at-is-unmarked .before .before .before in
+    let (low, high, some, fits) = visit-cell registerCount _ _ _ _ _ (at-start .pre .1) (sym (at-is-unmarked .is-unmarked .ensures) ∙ at-if1 .if1 .taken) in
+    (low, omega arith, omega (arith, at-start .pre .1 .agree .room, at-write-cell .write-cell .kept .0, at-visit .visit .kept .0))
 
 visit-sub-visit-2 : (t : ℕ) → visit-lts.Need-sub-visit-2 (callees t) (visit-at t) visit.Post
 visit-sub-visit-2 t c =
-    visit-cell registerCount _ _ _ _ _ (c .before .before .before .before .before .before .before .before .before .before .before .before .before .before .before .before .before .pre .1) (sym (c .before .before .before .before .before .before .before .before .before .before .before .before .before .before .is-unmarked .ensures) ∙ c .before .before .before .before .before .before .before .before .before .before .before .before .before .if1 .taken) .2
+    let at-if1 = c .before .before .before .before .before .before .before .before .before .before .before .before .before in
+    let at-is-unmarked = at-if1 .before in
+    let at-start = at-is-unmarked .before .before .before in
+    visit-cell registerCount _ _ _ _ _ (at-start .pre .1) (sym (at-is-unmarked .is-unmarked .ensures) ∙ at-if1 .if1 .taken) .2
 
 visit-add-visit-2 : (t : ℕ) → visit-lts.Need-add-visit-2 (callees t) (visit-at t) visit.Post
 visit-add-visit-2 t c =
-    record { fits = visit-fits registerCount _ _ _ _ _ (c .before .before .before .before .before .before .before .before .before .before .before .before .before .before .before .before .before .pre .1) (sym (c .before .before .before .before .before .before .before .before .before .before .before .before .before .before .is-unmarked .ensures) ∙ c .before .before .before .before .before .before .before .before .before .before .before .before .before .if1 .taken) _ _ (c .before .before .before .before .before .before .before .before .before .before .before .write-cell .ensures) (c .before .before .before .before .before .before .before .read-cell .ensures) _ _ _ (c .before .before .before .before .before .visit .ensures) (c .before .read-cell2 .ensures) }
+    let at-read-cell2 = c .before in
+    let at-visit = at-read-cell2 .before .before .before .before in
+    let at-read-cell = at-visit .before .before in
+    let at-write-cell = at-read-cell .before .before .before .before in
+    let at-if1 = at-write-cell .before .before in
+    let at-is-unmarked = at-if1 .before in
+    let at-start = at-is-unmarked .before .before .before in
+    record { fits = visit-fits registerCount _ _ _ _ _ (at-start .pre .1) (sym (at-is-unmarked .is-unmarked .ensures) ∙ at-if1 .if1 .taken) _ _ (at-write-cell .write-cell .ensures) (at-read-cell .read-cell .ensures) _ _ _ (at-visit .visit .ensures) (at-read-cell2 .read-cell2 .ensures) }
 
 visit-visit-requires-2 : (t : ℕ) → visit-lts.Need-visit-requires-2 (callees t) (visit-at t) visit.Post
-visit-visit-requires-2 t c κs = (
-  omega (arith, c .before .before .before .before .before .before .before .before .before .before .before .before .before .before .before .before .before .pre .0, visit-cell registerCount _ _ _ _ _ (c .before .before .before .before .before .before .before .before .before .before .before .before .before .before .before .before .before .pre .1) (sym (c .before .before .before .before .before .before .before .before .before .before .before .before .before .before .is-unmarked .ensures) ∙ c .before .before .before .before .before .before .before .before .before .before .before .before .before .if1 .taken) .2),
-  visit-right registerCount _ _ _ _ _ (c .before .before .before .before .before .before .before .before .before .before .before .before .before .before .before .before .before .pre .1) (sym (c .before .before .before .before .before .before .before .before .before .before .before .before .before .before .is-unmarked .ensures) ∙ c .before .before .before .before .before .before .before .before .before .before .before .before .before .if1 .taken) _ _ (c .before .before .before .before .before .before .before .before .before .before .before .write-cell .ensures) (c .before .before .before .before .before .before .before .read-cell .ensures) _ _ _ (c .before .before .before .before .before .visit .ensures) (c .before .read-cell2 .ensures),
-)
+visit-visit-requires-2 t c κs =
+    let at-read-cell2 = c .before in
+    let at-visit = at-read-cell2 .before .before .before .before in
+    let at-read-cell = at-visit .before .before in
+    let at-write-cell = at-read-cell .before .before .before .before in
+    let at-if1 = at-write-cell .before .before in
+    let at-is-unmarked = at-if1 .before in
+    let at-start = at-is-unmarked .before .before .before in (
+      omega (arith, at-start .pre .0, visit-cell registerCount _ _ _ _ _ (at-start .pre .1) (sym (at-is-unmarked .is-unmarked .ensures) ∙ at-if1 .if1 .taken) .2),
+      visit-right registerCount _ _ _ _ _ (at-start .pre .1) (sym (at-is-unmarked .is-unmarked .ensures) ∙ at-if1 .if1 .taken) _ _ (at-write-cell .write-cell .ensures) (at-read-cell .read-cell .ensures) _ _ _ (at-visit .visit .ensures) (at-read-cell2 .read-cell2 .ensures),
+    )
 
 visit-add-result : (t : ℕ) → visit-lts.Need-add-result (callees t) (visit-at t) visit.Post
 visit-add-result t c =
-    record { fits = visit-fits-2 registerCount _ _ _ _ _ (c .before .before .before .before .before .before .before .before .before .before .before .before .before .before .before .before .before .before .before .before .pre .1) (sym (c .before .before .before .before .before .before .before .before .before .before .before .before .before .before .before .before .before .is-unmarked .ensures) ∙ c .before .before .before .before .before .before .before .before .before .before .before .before .before .before .before .before .if1 .taken) _ _ (c .before .before .before .before .before .before .before .before .before .before .before .before .before .before .write-cell .ensures) (c .before .before .before .before .before .before .before .before .before .before .read-cell .ensures) _ _ _ (c .before .before .before .before .before .before .before .before .visit .ensures) (c .before .before .before .before .read-cell2 .ensures) _ _ (c .before .before .visit2 .ensures) }
+    let at-visit2 = c .before .before in
+    let at-read-cell2 = at-visit2 .before .before in
+    let at-visit = at-read-cell2 .before .before .before .before in
+    let at-read-cell = at-visit .before .before in
+    let at-write-cell = at-read-cell .before .before .before .before in
+    let at-if1 = at-write-cell .before .before in
+    let at-is-unmarked = at-if1 .before in
+    let at-start = at-is-unmarked .before .before .before in
+    record { fits = visit-fits-2 registerCount _ _ _ _ _ (at-start .pre .1) (sym (at-is-unmarked .is-unmarked .ensures) ∙ at-if1 .if1 .taken) _ _ (at-write-cell .write-cell .ensures) (at-read-cell .read-cell .ensures) _ _ _ (at-visit .visit .ensures) (at-read-cell2 .read-cell2 .ensures) _ _ (at-visit2 .visit2 .ensures) }
 
 visit-same-length : (t : ℕ) → visit-lts.Need-same-length (callees t) (visit-at t) visit.Post
 visit-same-length t c =
-    c .before .before .visit2 .kept .0 ∙ (c .before .before .before .before .before .before .before .before .visit .kept .0 ∙ c .before .before .before .before .before .before .before .before .before .before .before .before .before .before .write-cell .kept .0)
+    let at-visit2 = c .before .before in
+    let at-visit = at-visit2 .before .before .before .before .before .before in
+    let at-write-cell = at-visit .before .before .before .before .before .before in
+    at-visit2 .visit2 .kept .0 ∙ (at-visit .visit .kept .0 ∙ at-write-cell .write-cell .kept .0)
 
 visit-returns : (t : ℕ) → visit-lts.Need-returns (callees t) (visit-at t) visit.Post
 visit-returns t c =
-    λ h. visit-all registerCount _ _ _ _ _ h (sym (c .before .before .before .before .before .before .before .before .before .before .before .before .before .before .before .before .before .is-unmarked .ensures) ∙ c .before .before .before .before .before .before .before .before .before .before .before .before .before .before .before .before .if1 .taken) _ _ (c .before .before .before .before .before .before .before .before .before .before .before .before .before .before .write-cell .ensures) (c .before .before .before .before .before .before .before .before .before .before .read-cell .ensures) _ _ _ (c .before .before .before .before .before .before .before .before .visit .ensures) (c .before .before .before .before .read-cell2 .ensures) _ _ (c .before .before .visit2 .ensures)
+    let at-visit2 = c .before .before in
+    let at-read-cell2 = at-visit2 .before .before in
+    let at-visit = at-read-cell2 .before .before .before .before in
+    let at-read-cell = at-visit .before .before in
+    let at-write-cell = at-read-cell .before .before .before .before in
+    let at-if1 = at-write-cell .before .before in
+    let at-is-unmarked = at-if1 .before in
+    λ h. visit-all registerCount _ _ _ _ _ h (sym (at-is-unmarked .is-unmarked .ensures) ∙ at-if1 .if1 .taken) _ _ (at-write-cell .write-cell .ensures) (at-read-cell .read-cell .ensures) _ _ _ (at-visit .visit .ensures) (at-read-cell2 .read-cell2 .ensures) _ _ (at-visit2 .visit2 .ensures)
 
 visit-same-length-2 : (t : ℕ) → visit-lts.Need-same-length-2 (callees t) (visit-at t) visit.Post
 visit-same-length-2 t c =

@@ -10,7 +10,10 @@ well-formed-requires c κs = search needs
 
 mark-requires : tie.Need-mark-requires
 mark-requires c κs =
-    (sym (c .before .before .well-formed .ensures) ∙ c .before .if1 .taken, c .before .before .before .before .before .pre .0, c .before .before .before .before .before .pre .1)
+    let at-if1 = c .before in
+    let at-well-formed = at-if1 .before in
+    let at-start = at-well-formed .before .before .before in
+    (sym (at-well-formed .well-formed .ensures) ∙ at-if1 .if1 .taken, at-start .pre .0, at-start .pre .1)
 
 sweep-requires : tie.Need-sweep-requires
 sweep-requires c κs = search needs
@@ -20,7 +23,12 @@ same-length c = search needs
 
 returns : tie.Need-returns
 returns c =
-    collect-made _ _ _ _ _ _ (sym (c .before .before .before .before .before .before .before .before .before .well-formed .ensures) ∙ c .before .before .before .before .before .before .before .before .if1 .taken) (c .before .before .before .before .before .before .before .before .before .before .before .before .pre .0) (c .before .before .before .before .before .before .mark .ensures) (c .before .before .sweep .ensures)
+    let at-sweep = c .before .before in
+    let at-mark = at-sweep .before .before .before .before in
+    let at-if1 = at-mark .before .before in
+    let at-well-formed = at-if1 .before in
+    let at-start = at-well-formed .before .before .before in
+    collect-made _ _ _ _ _ _ (sym (at-well-formed .well-formed .ensures) ∙ at-if1 .if1 .taken) (at-start .pre .0) (at-mark .mark .ensures) (at-sweep .sweep .ensures)
 
 same-length-2 : tie.Need-same-length-2
 same-length-2 c = search needs

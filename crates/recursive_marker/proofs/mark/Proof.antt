@@ -21,7 +21,11 @@ read-register-requires c κs =
 
 visit-requires : tie.Need-visit-requires Inv-loop μ-loop
 visit-requires c κs =
-    marking-visit registerCount _ _ (c .before .before .before .before .before .before .pre .0) (c .before .before .before .before .before .before .pre .1) _ _ _ _ _ (c .before .before .before .before .loop .inv) (c .before .before .before .loop-test .taken) (c .before .read-register .ensures) (c .before .before .before .before .before .before .pre .2) (omega (arith, c .before .before .before .before .before .before .pre .2))
+    let at-read-register = c .before in
+    let at-test = at-read-register .before .before in
+    let at-turn = at-test .before in
+    let at-start = at-turn .before .before in
+    marking-visit registerCount _ _ (at-start .pre .0) (at-start .pre .1) _ _ _ _ _ (at-turn .loop .inv) (at-test .loop-test .taken) (at-read-register .read-register .ensures) (at-start .pre .2) (omega (arith, at-start .pre .2))
 
 add-k : tie.Need-add-k Inv-loop μ-loop
 add-k c = omega arith
@@ -31,7 +35,12 @@ loop-less c = omega arith
 
 loop-again : tie.Need-loop-again Inv-loop μ-loop
 loop-again c =
-    marking-next registerCount _ _ (c .before .before .before .before .before .before .before .before .before .pre .0) (c .before .before .before .before .before .before .before .before .before .pre .1) _ _ _ _ _ (c .before .before .before .before .before .before .before .loop .inv) (c .before .before .before .before .before .before .loop-test .taken) (c .before .before .before .before .read-register .ensures) (c .before .before .before .before .before .before .before .before .before .pre .2) (omega (arith, c .before .before .before .before .before .before .before .before .before .pre .2)) _ _ (c .before .before .visit .ensures)
+    let at-visit = c .before .before in
+    let at-read-register = at-visit .before .before in
+    let at-test = at-read-register .before .before in
+    let at-turn = at-test .before in
+    let at-start = at-turn .before .before in
+    marking-next registerCount _ _ (at-start .pre .0) (at-start .pre .1) _ _ _ _ _ (at-turn .loop .inv) (at-test .loop-test .taken) (at-read-register .read-register .ensures) (at-start .pre .2) (omega (arith, at-start .pre .2)) _ _ (at-visit .visit .ensures)
 
 same-length : tie.Need-same-length Inv-loop μ-loop
 same-length c = marking-length registerCount _ _ _ _ _ (c .before .loop .inv)

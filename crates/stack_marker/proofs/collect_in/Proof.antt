@@ -10,7 +10,10 @@ well-formed-requires c κs = search needs
 
 mark-requires : tie.Need-mark-requires
 mark-requires c κs =
-    (sym (c .before .before .before .well-formed .ensures) ∙ c .before .before .if1 .taken, c .before .before .before .before .before .before .before .pre .0, c .before .before .before .before .before .before .before .pre .1)
+    let at-if1 = c .before .before in
+    let at-well-formed = at-if1 .before in
+    let at-start = at-well-formed .before .before .before .before in
+    (sym (at-well-formed .well-formed .ensures) ∙ at-if1 .if1 .taken, at-start .pre .0, at-start .pre .1)
 
 sweep-requires : tie.Need-sweep-requires
 sweep-requires c κs = search needs
@@ -26,7 +29,13 @@ same-length-2 c = search needs
 
 returns : tie.Need-returns
 returns c =
-    stack-made _ _ (c .before .before .before .before .before .before .before .before .before .before .before .before .before .before .before .before .before .before .before .before .args .stack .now) _ (c .before .before .before .before .before .before .before .before .before .before .before .before .mark .last .1 .1 .0) _ _ _ _ (sym (c .before .before .before .before .before .before .before .before .before .before .before .before .before .before .before .before .well-formed .ensures) ∙ c .before .before .before .before .before .before .before .before .before .before .before .before .before .before .before .if1 .taken) (c .before .before .before .before .before .before .before .before .before .before .before .before .before .before .before .before .before .before .before .before .pre .0) (c .before .before .before .before .before .before .before .before .before .before .before .before .mark .ensures) (c .before .before .before .before .before .before .before .before .before .before .before .before .mark .kept .1 .1 .0) (c .before .before .before .before .before .before .sweep .ensures) (c .before .before .clear .ensures)
+    let at-clear = c .before .before in
+    let at-sweep = at-clear .before .before .before .before in
+    let at-mark = at-sweep .before .before .before .before .before .before in
+    let at-if1 = at-mark .before .before .before in
+    let at-well-formed = at-if1 .before in
+    let at-start = at-well-formed .before .before .before .before in
+    stack-made _ _ (at-start .args .stack .now) _ (at-mark .mark .last .1 .1 .0) _ _ _ _ (sym (at-well-formed .well-formed .ensures) ∙ at-if1 .if1 .taken) (at-start .pre .0) (at-mark .mark .ensures) (at-mark .mark .kept .1 .1 .0) (at-sweep .sweep .ensures) (at-clear .clear .ensures)
 
 same-length-3 : tie.Need-same-length-3
 same-length-3 c = search needs

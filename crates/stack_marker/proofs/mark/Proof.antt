@@ -23,15 +23,21 @@ same-length-2 c = search needs
 
 returns : tie.Need-returns
 returns c =
-    marked-enough _ _ (c .before .before .before .before .before .before .before .before .before .before .args .stack .now) _ (c .before .before .before .before .before .before .before .before .before .before .pre .0) _ (c .before .before .before .before .before .mark-registers .ensures) (c .before .before .before .before .before .before .before .before .before .before .pre .1) (c .if1 .taken)
+    let at-mark-registers = c .before .before .before .before .before in
+    let at-start = at-mark-registers .before .before .before .before .before in
+    marked-enough _ _ (at-start .args .stack .now) _ (at-start .pre .0) _ (at-mark-registers .mark-registers .ensures) (at-start .pre .1) (c .if1 .taken)
 
 clear-marks-requires : tie.Need-clear-marks-requires
 clear-marks-requires c κs = search needs
 
 mark-requires : tie.Need-mark-requires
 mark-requires c κs =
-    let same = marked-anew _ _ (c .before .before .before .before .before .before .before .before .before .before .before .before .before .before .before .args .stack .now) _ (c .before .before .before .before .before .before .before .before .before .before .before .before .before .before .before .pre .0) _ (c .before .before .before .before .before .before .before .before .before .before .mark-registers .ensures) _ (c .before .before .before .before .before .if1 .left) (c .before .before .before .clear-marks .ensures) in
-    (ap (wellFormed registerCount (c .before .before .before .before .before .before .before .before .before .before .before .before .before .before .before .args .n)) same ∙ c .before .before .before .before .before .before .before .before .before .before .before .before .before .before .before .pre .0, omega (arith, c .before .before .before .before .before .before .before .before .before .before .before .before .before .before .before .pre .1, ap length same), c .before .before .before .before .before .before .before .before .before .before .before .before .before .before .before .pre .2)
+    let at-clear-marks = c .before .before .before in
+    let at-if1 = at-clear-marks .before .before in
+    let at-mark-registers = at-if1 .before .before .before .before .before in
+    let at-start = at-mark-registers .before .before .before .before .before in
+    let same = marked-anew _ _ (at-start .args .stack .now) _ (at-start .pre .0) _ (at-mark-registers .mark-registers .ensures) _ (at-if1 .if1 .left) (at-clear-marks .clear-marks .ensures) in
+    (ap (wellFormed registerCount (at-start .args .n)) same ∙ at-start .pre .0, omega (arith, at-start .pre .1, ap length same), at-start .pre .2)
 
 same-length-3 : tie.Need-same-length-3
 same-length-3 c = search needs
@@ -41,8 +47,13 @@ same-length-4 c = search needs
 
 returns-2 : tie.Need-returns-2
 returns-2 c =
-    let same = marked-anew _ _ (c .before .before .before .before .before .before .before .before .before .before .before .before .before .before .before .before .before .before .args .stack .now) _ (c .before .before .before .before .before .before .before .before .before .before .before .before .before .before .before .before .before .before .pre .0) _ (c .before .before .before .before .before .before .before .before .before .before .before .before .before .mark-registers .ensures) _ (c .before .before .before .before .before .before .before .before .if1 .left) (c .before .before .before .before .before .before .clear-marks .ensures) in
-    (not-enough _ _ (c .before .before .before .before .before .before .before .before .before .before .before .before .before .before .before .before .before .before .args .stack .now) _ (c .before .before .before .before .before .before .before .before .before .before .before .before .before .before .before .before .before .before .pre .0) _ (c .before .before .before .before .before .before .before .before .before .before .before .before .before .mark-registers .ensures) (c .before .before .before .before .before .before .before .before .if1 .left), ap (λ (x : ℕ × List ℕ). x .1) (c .before .before .mark .ensures) ∙ ap (λ (x : List ℕ). markedOf registerCount (c .before .before .before .before .before .before .before .before .before .before .before .before .before .before .before .before .before .before .args .n) x .1) same)
+    let at-mark = c .before .before in
+    let at-clear-marks = at-mark .before .before .before .before in
+    let at-if1 = at-clear-marks .before .before in
+    let at-mark-registers = at-if1 .before .before .before .before .before in
+    let at-start = at-mark-registers .before .before .before .before .before in
+    let same = marked-anew _ _ (at-start .args .stack .now) _ (at-start .pre .0) _ (at-mark-registers .mark-registers .ensures) _ (at-if1 .if1 .left) (at-clear-marks .clear-marks .ensures) in
+    (not-enough _ _ (at-start .args .stack .now) _ (at-start .pre .0) _ (at-mark-registers .mark-registers .ensures) (at-if1 .if1 .left), ap (λ (x : ℕ × List ℕ). x .1) (at-mark .mark .ensures) ∙ ap (λ (x : List ℕ). markedOf registerCount (at-start .args .n) x .1) same)
 
 pub mark-spec : {M : Type 1} → statement M
 mark-spec =

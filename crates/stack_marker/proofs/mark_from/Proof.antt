@@ -20,80 +20,134 @@ loop-holds c = hand-first registerCount _ _ _ (c .before .before .pre .1) _
 
 look-requires : tie.Need-look-requires Inv-loop μ-loop
 look-requires c κs =
-    hand-cell registerCount _ _ _ (c .before .before .before .before .pre .1) _ _ _ _ _ (c .before .loop .inv) (c .before .before .before .before .pre .0)
+    let at-turn = c .before in
+    let at-start = at-turn .before .before .before in
+    hand-cell registerCount _ _ _ (at-start .pre .1) _ _ _ _ _ (at-turn .loop .inv) (at-start .pre .0)
 
 enum-known-left : tie.Need-enum-known-left Inv-loop μ-loop
 enum-known-left c = search needs
 
 same-length : tie.Need-same-length Inv-loop μ-loop
 same-length c =
-    hand-length registerCount _ _ _ (c .before .before .before .before .before .before .before .before .before .pre .1) _ _ _ _ _ (c .before .before .before .before .before .before .loop .inv) (c .before .before .before .before .before .before .before .before .before .pre .0)
+    let at-turn = c .before .before .before .before .before .before in
+    let at-start = at-turn .before .before .before in
+    hand-length registerCount _ _ _ (at-start .pre .1) _ _ _ _ _ (at-turn .loop .inv) (at-start .pre .0)
 
 same-length-2 : tie.Need-same-length-2 Inv-loop μ-loop
 same-length-2 c = c .before .before .before .before .before .before .loop .inv .lent
 
 returns : tie.Need-returns Inv-loop μ-loop
 returns c =
-    hand-full registerCount _ _ _ (c .before .before .before .before .before .before .before .before .before .pre .1) _ _ _ _ _ (c .before .before .before .before .before .before .loop .inv) _ _ (ap linksOf (sym (c .before .before .left .given .1)) ∙ c .before .before .before .before .look .ensures) (c .if1 .taken)
+    let at-left = c .before .before in
+    let at-look = at-left .before .before in
+    let at-turn = at-look .before .before in
+    let at-start = at-turn .before .before .before in
+    hand-full registerCount _ _ _ (at-start .pre .1) _ _ _ _ _ (at-turn .loop .inv) _ _ (ap linksOf (sym (at-left .left .given .1)) ∙ at-look .look .ensures) (c .if1 .taken)
 
 write-cell-requires : tie.Need-write-cell-requires Inv-loop μ-loop
 write-cell-requires c κs =
-    let (low, high) = hand-new registerCount _ _ _ (c .before .before .before .before .before .before .before .before .before .before .pre .1) _ _ _ _ _ (c .before .before .before .before .before .before .before .loop .inv) _ (ap linksOf (sym (c .before .before .before .left .given .1)) ∙ c .before .before .before .before .before .look .ensures) (c .before .before .before .before .before .before .before .before .before .before .pre .0) _ (List·Memᴰ·head refl) in
-    (low, omega arith, omega (arith, c .before .before .before .before .before .before .before .before .before .before .pre .1, hand-length registerCount _ _ _ (c .before .before .before .before .before .before .before .before .before .before .pre .1) _ _ _ _ _ (c .before .before .before .before .before .before .before .loop .inv) (c .before .before .before .before .before .before .before .before .before .before .pre .0)))
+    let at-left = c .before .before .before in
+    let at-look = at-left .before .before in
+    let at-turn = at-look .before .before in
+    let at-start = at-turn .before .before .before in
+    let (low, high) = hand-new registerCount _ _ _ (at-start .pre .1) _ _ _ _ _ (at-turn .loop .inv) _ (ap linksOf (sym (at-left .left .given .1)) ∙ at-look .look .ensures) (at-start .pre .0) _ (List·Memᴰ·head refl) in
+    (low, omega arith, omega (arith, at-start .pre .1, hand-length registerCount _ _ _ (at-start .pre .1) _ _ _ _ _ (at-turn .loop .inv) (at-start .pre .0)))
 
 write-cell-requires-2 : tie.Need-write-cell-requires-2 Inv-loop μ-loop
 write-cell-requires-2 c κs =
-    let (low, high) = hand-new registerCount _ _ _ (c .before .before .before .before .before .before .before .before .before .before .before .before .before .before .pre .1) _ _ _ _ _ (c .before .before .before .before .before .before .before .before .before .before .before .loop .inv) _ (ap linksOf (sym (c .before .before .before .before .before .before .before .left .given .1)) ∙ c .before .before .before .before .before .before .before .before .before .look .ensures) (c .before .before .before .before .before .before .before .before .before .before .before .before .before .before .pre .0) _ (List·Memᴰ·tail (List·Memᴰ·head refl)) in
-    (low, omega arith, omega (arith, c .before .before .before .before .before .before .before .before .before .before .before .before .before .before .pre .1, hand-length registerCount _ _ _ (c .before .before .before .before .before .before .before .before .before .before .before .before .before .before .pre .1) _ _ _ _ _ (c .before .before .before .before .before .before .before .before .before .before .before .loop .inv) (c .before .before .before .before .before .before .before .before .before .before .before .before .before .before .pre .0), c .before .before .before .write-cell .kept .0))
+    let at-write-cell = c .before .before .before in
+    let at-left = at-write-cell .before .before .before .before in
+    let at-look = at-left .before .before in
+    let at-turn = at-look .before .before in
+    let at-start = at-turn .before .before .before in
+    let (low, high) = hand-new registerCount _ _ _ (at-start .pre .1) _ _ _ _ _ (at-turn .loop .inv) _ (ap linksOf (sym (at-left .left .given .1)) ∙ at-look .look .ensures) (at-start .pre .0) _ (List·Memᴰ·tail (List·Memᴰ·head refl)) in
+    (low, omega arith, omega (arith, at-start .pre .1, hand-length registerCount _ _ _ (at-start .pre .1) _ _ _ _ _ (at-turn .loop .inv) (at-start .pre .0), at-write-cell .write-cell .kept .0))
 
 mul-stack : tie.Need-mul-stack Inv-loop μ-loop
 mul-stack c = omega arith
 
 slice-write-stack : tie.Need-slice-write-stack Inv-loop μ-loop
 slice-write-stack c =
-    omega (arith, c .before .before .before .before .before .before .before .before .before .before .before .before .before .before .loop .inv .fits, c .before .before .before .before .before .before .before .before .before .before .before .before .before .before .loop .inv .lent, c .before .before .before .before .before .before .before .before .if1 .left)
+    let at-if1 = c .before .before .before .before .before .before .before .before in
+    let at-turn = at-if1 .before .before .before .before .before .before in
+    omega (arith, at-turn .loop .inv .fits, at-turn .loop .inv .lent, at-if1 .if1 .left)
 
 add-top : tie.Need-add-top Inv-loop μ-loop
 add-top c =
-    omega (arith, c .before .before .before .before .before .before .before .before .before .before .before .before .before .before .loop .inv .fits, c .before .before .before .before .before .before .before .before .before .before .before .before .before .before .loop .inv .lent, c .before .before .before .before .before .before .before .before .if1 .left)
+    let at-if1 = c .before .before .before .before .before .before .before .before in
+    let at-turn = at-if1 .before .before .before .before .before .before in
+    omega (arith, at-turn .loop .inv .fits, at-turn .loop .inv .lent, at-if1 .if1 .left)
 
 loop-less : tie.Need-loop-less Inv-loop μ-loop
 loop-less c =
-    less-push registerCount _ _ _ (c .before .before .before .before .before .before .before .before .before .before .before .before .before .before .before .before .before .pre .1) _ _ _ _ _ (c .before .before .before .before .before .before .before .before .before .before .before .before .before .before .loop .inv) (c .before .before .before .before .before .before .before .before .before .before .before .before .before .before .before .before .before .pre .0) _ _ _ _ (ap linksOf (sym (c .before .before .before .before .before .before .before .before .before .before .left .given .1)) ∙ c .before .before .before .before .before .before .before .before .before .before .before .before .look .ensures) (c .before .before .before .before .before .before .write-cell .ensures) (c .before .before .write-cell2 .ensures)
+    let at-write-cell2 = c .before .before in
+    let at-write-cell = at-write-cell2 .before .before .before .before in
+    let at-left = at-write-cell .before .before .before .before in
+    let at-look = at-left .before .before in
+    let at-turn = at-look .before .before in
+    let at-start = at-turn .before .before .before in
+    less-push registerCount _ _ _ (at-start .pre .1) _ _ _ _ _ (at-turn .loop .inv) (at-start .pre .0) _ _ _ _ (ap linksOf (sym (at-left .left .given .1)) ∙ at-look .look .ensures) (at-write-cell .write-cell .ensures) (at-write-cell2 .write-cell2 .ensures)
 
 loop-again : tie.Need-loop-again Inv-loop μ-loop
 loop-again c =
-    hand-push registerCount _ _ _ (c .before .before .before .before .before .before .before .before .before .before .before .before .before .before .before .before .before .pre .1) _ _ _ _ _ (c .before .before .before .before .before .before .before .before .before .before .before .before .before .before .loop .inv) _ _ _ _ _ (ap linksOf (sym (c .before .before .before .before .before .before .before .before .before .before .left .given .1)) ∙ c .before .before .before .before .before .before .before .before .before .before .before .before .look .ensures) (c .before .before .before .before .before .before .before .before .if1 .left) (c .before .before .before .before .before .before .write-cell .ensures) (c .before .before .write-cell2 .ensures) refl
+    let at-write-cell2 = c .before .before in
+    let at-write-cell = at-write-cell2 .before .before .before .before in
+    let at-if1 = at-write-cell .before .before in
+    let at-left = at-if1 .before .before in
+    let at-look = at-left .before .before in
+    let at-turn = at-look .before .before in
+    let at-start = at-turn .before .before .before in
+    hand-push registerCount _ _ _ (at-start .pre .1) _ _ _ _ _ (at-turn .loop .inv) _ _ _ _ _ (ap linksOf (sym (at-left .left .given .1)) ∙ at-look .look .ensures) (at-if1 .if1 .left) (at-write-cell .write-cell .ensures) (at-write-cell2 .write-cell2 .ensures) refl
 
 enum-known-x : tie.Need-enum-known-x Inv-loop μ-loop
 enum-known-x c = search needs
 
 write-cell-requires-3 : tie.Need-write-cell-requires-3 Inv-loop μ-loop
 write-cell-requires-3 c κs =
-    let (low, high) = hand-new registerCount _ _ _ (c .before .before .before .before .before .before .before .before .before .pre .1) _ _ _ _ _ (c .before .before .before .before .before .before .loop .inv) _ (ap linksOf (sym (c .before .before .x .given .1)) ∙ c .before .before .before .before .look .ensures) (c .before .before .before .before .before .before .before .before .before .pre .0) _ (List·Memᴰ·head refl) in
-    (low, omega arith, omega (arith, c .before .before .before .before .before .before .before .before .before .pre .1, hand-length registerCount _ _ _ (c .before .before .before .before .before .before .before .before .before .pre .1) _ _ _ _ _ (c .before .before .before .before .before .before .loop .inv) (c .before .before .before .before .before .before .before .before .before .pre .0)))
+    let at-x = c .before .before in
+    let at-look = at-x .before .before in
+    let at-turn = at-look .before .before in
+    let at-start = at-turn .before .before .before in
+    let (low, high) = hand-new registerCount _ _ _ (at-start .pre .1) _ _ _ _ _ (at-turn .loop .inv) _ (ap linksOf (sym (at-x .x .given .1)) ∙ at-look .look .ensures) (at-start .pre .0) _ (List·Memᴰ·head refl) in
+    (low, omega arith, omega (arith, at-start .pre .1, hand-length registerCount _ _ _ (at-start .pre .1) _ _ _ _ _ (at-turn .loop .inv) (at-start .pre .0)))
 
 loop-less-2 : tie.Need-loop-less-2 Inv-loop μ-loop
 loop-less-2 c =
-    less-go registerCount _ _ _ (c .before .before .before .before .before .before .before .before .before .before .before .before .pre .1) _ _ _ _ _ (c .before .before .before .before .before .before .before .before .before .loop .inv) (c .before .before .before .before .before .before .before .before .before .before .before .before .pre .0) _ _ (ap linksOf (sym (c .before .before .before .before .before .x .given .1)) ∙ c .before .before .before .before .before .before .before .look .ensures) (c .before .before .write-cell3 .ensures)
+    let at-write-cell3 = c .before .before in
+    let at-x = at-write-cell3 .before .before .before in
+    let at-look = at-x .before .before in
+    let at-turn = at-look .before .before in
+    let at-start = at-turn .before .before .before in
+    less-go registerCount _ _ _ (at-start .pre .1) _ _ _ _ _ (at-turn .loop .inv) (at-start .pre .0) _ _ (ap linksOf (sym (at-x .x .given .1)) ∙ at-look .look .ensures) (at-write-cell3 .write-cell3 .ensures)
 
 loop-again-2 : tie.Need-loop-again-2 Inv-loop μ-loop
 loop-again-2 c =
-    hand-go registerCount _ _ _ (c .before .before .before .before .before .before .before .before .before .before .before .before .pre .1) _ _ _ _ _ (c .before .before .before .before .before .before .before .before .before .loop .inv) _ _ (ap linksOf (sym (c .before .before .before .before .before .x .given .1)) ∙ c .before .before .before .before .before .before .before .look .ensures) (c .before .before .write-cell3 .ensures)
+    let at-write-cell3 = c .before .before in
+    let at-x = at-write-cell3 .before .before .before in
+    let at-look = at-x .before .before in
+    let at-turn = at-look .before .before in
+    let at-start = at-turn .before .before .before in
+    hand-go registerCount _ _ _ (at-start .pre .1) _ _ _ _ _ (at-turn .loop .inv) _ _ (ap linksOf (sym (at-x .x .given .1)) ∙ at-look .look .ensures) (at-write-cell3 .write-cell3 .ensures)
 
 enum-told : tie.Need-enum-told Inv-loop μ-loop
 enum-told c = search needs
 
 same-length-3 : tie.Need-same-length-3 Inv-loop μ-loop
 same-length-3 c =
-    hand-length registerCount _ _ _ (c .before .before .before .before .before .before .before .before .pre .1) _ _ _ _ _ (c .before .before .before .before .before .loop .inv) (c .before .before .before .before .before .before .before .before .pre .0)
+    let at-turn = c .before .before .before .before .before in
+    let at-start = at-turn .before .before .before in
+    hand-length registerCount _ _ _ (at-start .pre .1) _ _ _ _ _ (at-turn .loop .inv) (at-start .pre .0)
 
 same-length-4 : tie.Need-same-length-4 Inv-loop μ-loop
 same-length-4 c = c .before .before .before .before .before .loop .inv .lent
 
 returns-2 : tie.Need-returns-2 Inv-loop μ-loop
 returns-2 c =
-    hand-last registerCount _ _ _ (c .before .before .before .before .before .before .before .before .pre .1) _ _ _ _ _ (c .before .before .before .before .before .loop .inv) (ap linksOf (sym (c .before .enum-told .given .1)) ∙ c .before .before .before .look .ensures) (c .if2 .taken)
+    let at-enum-told = c .before in
+    let at-look = at-enum-told .before .before in
+    let at-turn = at-look .before .before in
+    let at-start = at-turn .before .before .before in
+    hand-last registerCount _ _ _ (at-start .pre .1) _ _ _ _ _ (at-turn .loop .inv) (ap linksOf (sym (at-enum-told .enum-told .given .1)) ∙ at-look .look .ensures) (c .if2 .taken)
 
 sub-top : tie.Need-sub-top Inv-loop μ-loop
 sub-top c = omega arith
@@ -103,14 +157,21 @@ mul-hand c = omega arith
 
 slice-read-hand : tie.Need-slice-read-hand Inv-loop μ-loop
 slice-read-hand c =
-    omega (arith, c .before .before .before .before .before .before .loop .inv .fits, c .before .before .before .before .before .before .loop .inv .lent, c .before .if2 .left)
+    let at-if2 = c .before in
+    let at-turn = at-if2 .before .before .before .before .before in
+    omega (arith, at-turn .loop .inv .fits, at-turn .loop .inv .lent, at-if2 .if2 .left)
 
 loop-less-3 : tie.Need-loop-less-3 Inv-loop μ-loop
 loop-less-3 c = omega arith
 
 loop-again-3 : tie.Need-loop-again-3 Inv-loop μ-loop
 loop-again-3 c =
-    hand-pop registerCount _ _ _ (c .before .before .before .before .before .before .before .before .before .pre .1) _ _ _ _ _ (c .before .before .before .before .before .before .loop .inv) (ap linksOf (sym (c .before .before .enum-told .given .1)) ∙ c .before .before .before .before .look .ensures) (c .before .if2 .left)
+    let at-if2 = c .before in
+    let at-enum-told = at-if2 .before in
+    let at-look = at-enum-told .before .before in
+    let at-turn = at-look .before .before in
+    let at-start = at-turn .before .before .before in
+    hand-pop registerCount _ _ _ (at-start .pre .1) _ _ _ _ _ (at-turn .loop .inv) (ap linksOf (sym (at-enum-told .enum-told .given .1)) ∙ at-look .look .ensures) (at-if2 .if2 .left)
 
 pub mark-from-spec : {M : Type 1} → statement M
 mark-from-spec =

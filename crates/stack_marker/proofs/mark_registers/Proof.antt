@@ -18,19 +18,39 @@ loop-holds c = registers-first registerCount _ _ _
 
 read-register-requires : tie.Need-read-register-requires Inv-loop μ-loop
 read-register-requires c κs =
-    (c .before .loop-test .taken, omega (arith, c .before .before .before .before .before .pre .1, registers-length registerCount _ _ _ _ _ _ (c .before .before .loop .inv)))
+    let at-test = c .before in
+    let at-turn = at-test .before in
+    let at-start = at-turn .before .before .before in
+    (at-test .loop-test .taken, omega (arith, at-start .pre .1, registers-length registerCount _ _ _ _ _ _ (at-turn .loop .inv)))
 
 is-unmarked-requires : tie.Need-is-unmarked-requires Inv-loop μ-loop
 is-unmarked-requires c κs =
-    omega (arith, c .before .before .before .before .before .before .before .pre .1, registers-length registerCount _ _ _ _ _ _ (c .before .before .before .before .loop .inv), registers-bound registerCount _ _ (c .before .before .before .before .before .before .before .pre .0) (c .before .before .before .before .before .before .before .pre .1) _ _ _ _ (c .before .before .before .before .loop .inv) _ (c .before .before .before .loop-test .taken) (c .before .read-register .ensures))
+    let at-read-register = c .before in
+    let at-test = at-read-register .before .before in
+    let at-turn = at-test .before in
+    let at-start = at-turn .before .before .before in
+    omega (arith, at-start .pre .1, registers-length registerCount _ _ _ _ _ _ (at-turn .loop .inv), registers-bound registerCount _ _ (at-start .pre .0) (at-start .pre .1) _ _ _ _ (at-turn .loop .inv) _ (at-test .loop-test .taken) (at-read-register .read-register .ensures))
 
 write-cell-requires : tie.Need-write-cell-requires Inv-loop μ-loop
 write-cell-requires c κs =
-    (registers-cell registerCount _ _ (c .before .before .before .before .before .before .before .before .before .before .pre .0) (c .before .before .before .before .before .before .before .before .before .before .pre .1) _ _ _ _ (c .before .before .before .before .before .before .before .loop .inv) _ (c .before .before .before .before .before .before .loop-test .taken) (c .before .before .before .before .read-register .ensures) (sym (c .before .before .is-unmarked .ensures) ∙ c .before .if1 .taken), omega arith, omega (arith, c .before .before .before .before .before .before .before .before .before .before .pre .1, registers-length registerCount _ _ _ _ _ _ (c .before .before .before .before .before .before .before .loop .inv), registers-bound registerCount _ _ (c .before .before .before .before .before .before .before .before .before .before .pre .0) (c .before .before .before .before .before .before .before .before .before .before .pre .1) _ _ _ _ (c .before .before .before .before .before .before .before .loop .inv) _ (c .before .before .before .before .before .before .loop-test .taken) (c .before .before .before .before .read-register .ensures)))
+    let at-if1 = c .before in
+    let at-is-unmarked = at-if1 .before in
+    let at-read-register = at-is-unmarked .before .before in
+    let at-test = at-read-register .before .before in
+    let at-turn = at-test .before in
+    let at-start = at-turn .before .before .before in
+    (registers-cell registerCount _ _ (at-start .pre .0) (at-start .pre .1) _ _ _ _ (at-turn .loop .inv) _ (at-test .loop-test .taken) (at-read-register .read-register .ensures) (sym (at-is-unmarked .is-unmarked .ensures) ∙ at-if1 .if1 .taken), omega arith, omega (arith, at-start .pre .1, registers-length registerCount _ _ _ _ _ _ (at-turn .loop .inv), registers-bound registerCount _ _ (at-start .pre .0) (at-start .pre .1) _ _ _ _ (at-turn .loop .inv) _ (at-test .loop-test .taken) (at-read-register .read-register .ensures)))
 
 mark-from-requires : tie.Need-mark-from-requires Inv-loop μ-loop
 mark-from-requires c κs =
-    (registers-start registerCount _ _ (c .before .before .before .before .before .before .before .before .before .before .before .before .before .before .before .pre .0) (c .before .before .before .before .before .before .before .before .before .before .before .before .before .before .before .pre .1) _ _ _ _ (c .before .before .before .before .before .before .before .before .before .before .before .before .loop .inv) _ (c .before .before .before .before .before .before .before .before .before .before .before .loop-test .taken) (c .before .before .before .before .before .before .before .before .before .read-register .ensures) (sym (c .before .before .before .before .before .before .before .is-unmarked .ensures) ∙ c .before .before .before .before .before .before .if1 .taken) _ (c .before .before .before .before .write-cell .ensures), omega (arith, c .before .before .before .before .before .before .before .before .before .before .before .before .before .before .before .pre .1, registers-length registerCount _ _ _ _ _ _ (c .before .before .before .before .before .before .before .before .before .before .before .before .loop .inv), c .before .before .before .before .write-cell .kept .0))
+    let at-write-cell = c .before .before .before .before in
+    let at-if1 = at-write-cell .before .before in
+    let at-is-unmarked = at-if1 .before in
+    let at-read-register = at-is-unmarked .before .before in
+    let at-test = at-read-register .before .before in
+    let at-turn = at-test .before in
+    let at-start = at-turn .before .before .before in
+    (registers-start registerCount _ _ (at-start .pre .0) (at-start .pre .1) _ _ _ _ (at-turn .loop .inv) _ (at-test .loop-test .taken) (at-read-register .read-register .ensures) (sym (at-is-unmarked .is-unmarked .ensures) ∙ at-if1 .if1 .taken) _ (at-write-cell .write-cell .ensures), omega (arith, at-start .pre .1, registers-length registerCount _ _ _ _ _ _ (at-turn .loop .inv), at-write-cell .write-cell .kept .0))
 
 add-k : tie.Need-add-k Inv-loop μ-loop
 add-k c = omega arith
@@ -40,19 +60,40 @@ loop-less c = omega arith
 
 loop-again : tie.Need-loop-again Inv-loop μ-loop
 loop-again c =
-    registers-next registerCount _ _ (c .before .before .before .before .before .before .before .before .before .before .before .before .before .before .before .before .before .before .before .before .before .pre .0) (c .before .before .before .before .before .before .before .before .before .before .before .before .before .before .before .before .before .before .before .before .before .pre .1) _ _ _ _ (c .before .before .before .before .before .before .before .before .before .before .before .before .before .before .before .before .before .before .loop .inv) _ (c .before .before .before .before .before .before .before .before .before .before .before .before .before .before .before .before .before .loop-test .taken) (c .before .before .before .before .before .before .before .before .before .before .before .before .before .before .before .read-register .ensures) (sym (c .before .before .before .before .before .before .before .before .before .before .before .before .before .is-unmarked .ensures) ∙ c .before .before .before .before .before .before .before .before .before .before .before .before .if1 .taken) _ (c .before .before .before .before .before .before .before .before .before .before .write-cell .ensures) _ _ (c .before .before .before .before .before .mark-from .ensures) (c .if2 .taken) _ (c .before .before .before .before .before .mark-from .kept .1 .1 .0)
+    let at-mark-from = c .before .before .before .before .before in
+    let at-write-cell = at-mark-from .before .before .before .before .before in
+    let at-if1 = at-write-cell .before .before in
+    let at-is-unmarked = at-if1 .before in
+    let at-read-register = at-is-unmarked .before .before in
+    let at-test = at-read-register .before .before in
+    let at-turn = at-test .before in
+    let at-start = at-turn .before .before .before in
+    registers-next registerCount _ _ (at-start .pre .0) (at-start .pre .1) _ _ _ _ (at-turn .loop .inv) _ (at-test .loop-test .taken) (at-read-register .read-register .ensures) (sym (at-is-unmarked .is-unmarked .ensures) ∙ at-if1 .if1 .taken) _ (at-write-cell .write-cell .ensures) _ _ (at-mark-from .mark-from .ensures) (c .if2 .taken) _ (at-mark-from .mark-from .kept .1 .1 .0)
 
 same-length : tie.Need-same-length Inv-loop μ-loop
 same-length c =
-    c .before .before .before .before .before .mark-from .kept .0 ∙ (c .before .before .before .before .before .before .before .before .before .before .write-cell .kept .0 ∙ registers-length registerCount _ _ _ _ _ _ (c .before .before .before .before .before .before .before .before .before .before .before .before .before .before .before .before .before .before .loop .inv))
+    let at-mark-from = c .before .before .before .before .before in
+    let at-write-cell = at-mark-from .before .before .before .before .before in
+    let at-turn = at-write-cell .before .before .before .before .before .before .before .before in
+    at-mark-from .mark-from .kept .0 ∙ (at-write-cell .write-cell .kept .0 ∙ registers-length registerCount _ _ _ _ _ _ (at-turn .loop .inv))
 
 same-length-2 : tie.Need-same-length-2 Inv-loop μ-loop
 same-length-2 c =
-    c .before .before .before .before .before .mark-from .kept .1 .1 .0 ∙ c .before .before .before .before .before .before .before .before .before .before .before .before .before .before .before .before .before .before .loop .inv .lent
+    let at-mark-from = c .before .before .before .before .before in
+    let at-turn = at-mark-from .before .before .before .before .before .before .before .before .before .before .before .before .before in
+    at-mark-from .mark-from .kept .1 .1 .0 ∙ at-turn .loop .inv .lent
 
 returns : tie.Need-returns Inv-loop μ-loop
 returns c =
-    registers-full registerCount _ _ (c .before .before .before .before .before .before .before .before .before .before .before .before .before .before .before .before .before .before .before .before .before .pre .0) (c .before .before .before .before .before .before .before .before .before .before .before .before .before .before .before .before .before .before .before .before .before .pre .1) _ _ _ _ (c .before .before .before .before .before .before .before .before .before .before .before .before .before .before .before .before .before .before .loop .inv) _ (c .before .before .before .before .before .before .before .before .before .before .before .before .before .before .before .before .before .loop-test .taken) (c .before .before .before .before .before .before .before .before .before .before .before .before .before .before .before .read-register .ensures) (sym (c .before .before .before .before .before .before .before .before .before .before .before .before .before .is-unmarked .ensures) ∙ c .before .before .before .before .before .before .before .before .before .before .before .before .if1 .taken) _ (c .before .before .before .before .before .before .before .before .before .before .write-cell .ensures) _ _ (c .before .before .before .before .before .mark-from .ensures) (c .if2 .left)
+    let at-mark-from = c .before .before .before .before .before in
+    let at-write-cell = at-mark-from .before .before .before .before .before in
+    let at-if1 = at-write-cell .before .before in
+    let at-is-unmarked = at-if1 .before in
+    let at-read-register = at-is-unmarked .before .before in
+    let at-test = at-read-register .before .before in
+    let at-turn = at-test .before in
+    let at-start = at-turn .before .before .before in
+    registers-full registerCount _ _ (at-start .pre .0) (at-start .pre .1) _ _ _ _ (at-turn .loop .inv) _ (at-test .loop-test .taken) (at-read-register .read-register .ensures) (sym (at-is-unmarked .is-unmarked .ensures) ∙ at-if1 .if1 .taken) _ (at-write-cell .write-cell .ensures) _ _ (at-mark-from .mark-from .ensures) (c .if2 .left)
 
 add-k-2 : tie.Need-add-k-2 Inv-loop μ-loop
 add-k-2 c = omega arith
@@ -62,7 +103,12 @@ loop-less-2 c = omega arith
 
 loop-again-2 : tie.Need-loop-again-2 Inv-loop μ-loop
 loop-again-2 c =
-    registers-skip registerCount _ _ (c .before .before .before .before .before .before .before .before .before .pre .0) (c .before .before .before .before .before .before .before .before .before .pre .1) _ _ _ _ (c .before .before .before .before .before .before .loop .inv) _ (c .before .before .before .before .before .loop-test .taken) (c .before .before .before .read-register .ensures) (sym (c .before .is-unmarked .ensures) ∙ c .if1 .left)
+    let at-is-unmarked = c .before in
+    let at-read-register = at-is-unmarked .before .before in
+    let at-test = at-read-register .before .before in
+    let at-turn = at-test .before in
+    let at-start = at-turn .before .before .before in
+    registers-skip registerCount _ _ (at-start .pre .0) (at-start .pre .1) _ _ _ _ (at-turn .loop .inv) _ (at-test .loop-test .taken) (at-read-register .read-register .ensures) (sym (at-is-unmarked .is-unmarked .ensures) ∙ c .if1 .left)
 
 same-length-3 : tie.Need-same-length-3 Inv-loop μ-loop
 same-length-3 c = registers-length registerCount _ _ _ _ _ _ (c .before .loop .inv)
@@ -72,7 +118,9 @@ same-length-4 c = c .before .loop .inv .lent
 
 returns-2 : tie.Need-returns-2 Inv-loop μ-loop
 returns-2 c =
-    registers-last registerCount _ _ (c .before .before .before .before .pre .0) (c .before .before .before .before .pre .1) _ _ _ _ (c .before .loop .inv) (c .loop-test .left)
+    let at-turn = c .before in
+    let at-start = at-turn .before .before .before in
+    registers-last registerCount _ _ (at-start .pre .0) (at-start .pre .1) _ _ _ _ (at-turn .loop .inv) (c .loop-test .left)
 
 pub mark-registers-spec : {M : Type 1} → statement M
 mark-registers-spec =

@@ -1,0 +1,33 @@
+-- A turn of the marker with a stack, case by case.
+use Prim.Native.Nat.{ℕ, zero, suc}
+use mathlib.Core.Path.{_≡_, refl, ap, _∙_}
+use mathlib.Core.List.{List, [], _∷_, _++_, append-nil}
+use mathlib.Core.Bool.{Bool}
+use lib.ListN.{length}
+use Rattle.graph.specs.Graph.{Graph}
+use Rattle.stack_marker.specs.Stack.{isFresh, unmarkedLinks, holding, run}
+use Rattle.stack_marker.specs.StackTheorem.{FourCases, Stack-cases}
+
+-- where nothing is pending the run has ended
+pub run-none : (turns : ℕ) (g : Graph) (seen : List ℕ) → run turns g seen [] ≡ (seen, 0)
+unfolding run
+run-none zero g seen = refl
+run-none (suc turns) g seen = refl
+
+pub stack-cases : Stack-cases
+unfolding run
+stack-cases turns g seen = (run-none turns g seen, λ p stack. cases p stack (isFresh seen (g .left p)) (isFresh seen (g .right p)) refl refl)
+  where
+    cases : (p : ℕ) (stack : List ℕ) (a b : Bool) → isFresh seen (g .left p) ≡ a → isFresh seen (g .right p) ≡ b
+        → FourCases turns g seen p stack (g .left p) (g .right p) a b
+    cases p stack a b ea eb =
+        record {
+          none = λ x y. made x y ∙ ap (λ (l : List ℕ). holding (length stack) (run turns g l stack)) (append-nil seen);
+          left = made;
+          right = made;
+          both = made;
+        }
+      where
+        made : {c d : Bool} → a ≡ c → b ≡ d → run (suc turns) g seen (p ∷ stack)
+            ≡ holding (length stack) (run turns g (seen ++ unmarkedLinks c d (g .left p) (g .right p)) (unmarkedLinks c d (g .left p) (g .right p) ++ stack))
+        made x y = rw (ea, eb, x, y)
