@@ -3,6 +3,7 @@
 //! CELLPOOL_LIB_DIR names another directory of the archive; CC another C compiler.
 
 use std::env;
+use std::ffi::OsStr;
 use std::path::PathBuf;
 use std::process::Command;
 
@@ -11,6 +12,8 @@ fn main() {
     println!("cargo:rerun-if-changed=build.rs");
     println!("cargo:rerun-if-env-changed=CELLPOOL_LIB_DIR");
     println!("cargo:rerun-if-env-changed=CC");
+    println!("cargo:rerun-if-env-changed=CXX");
+    println!("cargo:rustc-check-cfg=cfg(cpp_compiler)");
     if env::var_os("CARGO_FEATURE_ARCHIVE").is_none() {
         return;
     }
@@ -18,8 +21,18 @@ fn main() {
     if build_c_baseline() {
         println!("cargo:rustc-cfg=c_baseline");
     } else {
-        println!("cargo:warning=no C compiler: the benchmark runs without its C baseline");
+        println!("cargo:warning=no C compiler: no C baseline, and tests/c_programs.rs is left out");
     }
+    if answers(&env::var_os("CXX").unwrap_or_else(|| "c++".into())) {
+        println!("cargo:rustc-cfg=cpp_compiler");
+    } else {
+        println!("cargo:warning=no C++ compiler: the header is not tried from C++");
+    }
+}
+
+/// Is there such a compiler?
+fn answers(compiler: &OsStr) -> bool {
+    matches!(Command::new(compiler).arg("--version").output(), Ok(output) if output.status.success())
 }
 
 fn manifest_dir() -> PathBuf {
@@ -50,6 +63,9 @@ fn build_c_baseline() -> bool {
     let object = out.join("baseline.o");
     let archive = out.join("libcellpool_baseline.a");
     let cc = env::var_os("CC").unwrap_or_else(|| "cc".into());
+    if !answers(&cc) {
+        return false;
+    }
     let compiled = Command::new(cc)
         .args(["-std=c99", "-O2", "-Wall", "-Wextra", "-Werror", "-fPIC", "-c"])
         .arg("-I")
@@ -58,14 +74,10 @@ fn build_c_baseline() -> bool {
         .arg("-o")
         .arg(&object)
         .status();
-    if !matches!(compiled, Ok(status) if status.success()) {
-        return false;
-    }
+    assert!(matches!(compiled, Ok(status) if status.success()), "{} does not compile", source.display());
     let _ = std::fs::remove_file(&archive);
     let packed = Command::new("ar").arg("crs").arg(&archive).arg(&object).status();
-    if !matches!(packed, Ok(status) if status.success()) {
-        return false;
-    }
+    assert!(matches!(packed, Ok(status) if status.success()), "ar makes no archive of {}", object.display());
     println!("cargo:rustc-link-search=native={}", out.display());
     println!("cargo:rustc-link-lib=static=cellpool_baseline");
     true

@@ -3,8 +3,8 @@
  *
  * Every lent block stands against a page that may be neither read nor written, so that also an archive compiled
  * without a sanitizer is caught at the first access outside. What is demanded of every answer is stated here without
- * a model: a refusal changes nothing but what the header names, the forms of collect agree, load and check_image
- * agree, and an image that was saved loads and saves as the same bytes.
+ * a model: a refusal changes nothing but what the header names, a call changes its one word, the forms of collect
+ * agree, load and check_image agree, and an image that was saved loads and saves as the same bytes.
  *
  * With -DSTANDALONE a main is added that runs pseudo-random inputs: fuzz [inputs [seed]].
  */
@@ -113,6 +113,19 @@ static int sized(const Pool *pool) {
     return pool->n >= 1 && pool->n <= 4000 && pool->len == CELLPOOL_WORDS(pool->n) && pool->words[0] == pool->n;
 }
 
+/* Only this word may have changed, and it is now so. */
+static int changed_only(const Pool *pool, size_t place, uint32_t now) {
+    before[place] = now;
+    return unchanged(pool);
+}
+
+/* The place of a word of the cell that register a holds; the register holds one. */
+static size_t place_in_cell(const Pool *pool, uint32_t a, size_t word) {
+    uint32_t held = before[2 + a];
+    DEMAND(held >= 1 && held <= pool->n && before[18 + 4 * (size_t)(held - 1)] == 0);
+    return 18 + 4 * (size_t)(held - 1) + word;
+}
+
 /* No number that a result starts with is written by chance. */
 #define UNSET 0xA5A51234u
 
@@ -157,6 +170,20 @@ static void try_call(Input *input, Pool *pool) {
     DEMAND((answer == 1) == !was_sized);
     if (answer != 0) DEMAND(unchanged(pool) && (result == UNSET));
     if (!writes) DEMAND(unchanged(pool));
+    if (answer == 0) {
+        switch (kind % 10) {
+        case 0: DEMAND(changed_only(pool, 2 + r, before[2 + a])); break;
+        case 1: DEMAND(changed_only(pool, 2 + r, 0)); break;
+        case 2: DEMAND(changed_only(pool, 2 + r, before[place_in_cell(pool, a, 1)])); break;
+        case 3: DEMAND(changed_only(pool, 2 + r, before[place_in_cell(pool, a, 2)])); break;
+        case 4: DEMAND(changed_only(pool, place_in_cell(pool, a, 1), before[2 + b])); break;
+        case 5: DEMAND(changed_only(pool, place_in_cell(pool, a, 2), before[2 + b])); break;
+        case 6: DEMAND(changed_only(pool, place_in_cell(pool, a, 3), v)); break;
+        case 7: DEMAND(result == before[place_in_cell(pool, a, 3)]); break;
+        case 8: DEMAND(result == (before[2 + a] == before[2 + b])); break;
+        default: break;
+        }
+    }
     if (answer == 0 && was_well_formed) DEMAND(sized(pool) && well_formed(pool));
 }
 
@@ -164,6 +191,10 @@ static void try_collect(Input *input, Pool *pool, int at_end) {
     static uint32_t collected[18 + 4 * MOST + 8];
     uint32_t kept = UNSET, visits = UNSET, other = UNSET, more = UNSET;
     uint32_t collections = number_of(input, 3), total = number_of(input, 3);
+    if (byte_of(input) % 2) {
+        collections = UINT32_MAX - collections;
+        total = UINT32_MAX - total;
+    }
     int was_sized = sized(pool), was_well_formed = was_sized && well_formed(pool);
     size_t bytes = pool->len * sizeof *pool->words;
     uint32_t expected = !was_sized ? 1 : was_well_formed ? 0 : 3;

@@ -55,13 +55,10 @@ fn the_fuzz_target_finds_no_fault() {
     assert_eq!(text, format!("{inputs} inputs, no fault\n"));
 }
 
+#[cfg(cpp_compiler)]
 #[test]
 fn the_header_serves_cpp() {
     let compiler = std::env::var("CXX").unwrap_or_else(|_| "c++".into());
-    if Command::new(&compiler).arg("--version").output().is_err() {
-        println!("no C++ compiler: left out");
-        return;
-    }
     let source = Path::new(env!("CARGO_TARGET_TMPDIR")).join("header.cpp");
     let text = "#include \"cellpool.h\"\n\
         int main() {\n\
