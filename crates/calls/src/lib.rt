@@ -46,7 +46,7 @@ pub struct Step {
 }
 
 // r gets what a holds.
-pub fn copy_in(words: &mut [u32], n: u32, r: u32, a: u32) -> Answer
+fn copy_in(words: &mut [u32], n: u32, r: u32, a: u32) -> Answer
     requires { ⌜ (poolLength registerCount n ≤ length (now words)) × (r < registerCount) × (a < registerCount) ⌝ }
     ensures { λ q. ⌜ (answerOutcome q, now (words .exit)) ≡ copyIn n (now (words .entry)) r a ⌝ }
 {
@@ -58,7 +58,7 @@ pub fn copy_in(words: &mut [u32], n: u32, r: u32, a: u32) -> Answer
 }
 
 // r becomes nil.
-pub fn clear_in(words: &mut [u32], r: u32) -> Answer
+fn clear_in(words: &mut [u32], r: u32) -> Answer
     requires { ⌜ (poolLength registerCount 0 ≤ length (now words)) × (r < registerCount) ⌝ }
     ensures { λ q. ⌜ (answerOutcome q, now (words .exit)) ≡ clearIn (now (words .entry)) r ⌝ }
 {
@@ -67,7 +67,7 @@ pub fn clear_in(words: &mut [u32], r: u32) -> Answer
 }
 
 // r gets a link of a's cell: field 1 is left, 2 is right.
-pub fn follow_in(words: &mut [u32], n: u32, field: usize, r: u32, a: u32) -> Answer
+fn follow_in(words: &mut [u32], n: u32, field: usize, r: u32, a: u32) -> Answer
     requires { ⌜ (poolLength registerCount n ≤ length (now words)) × (field < 4) × (r < registerCount) × (a < registerCount) ⌝ }
     ensures { λ q. ⌜ (answerOutcome q, now (words .exit)) ≡ followIn n (now (words .entry)) field r a ⌝ }
 {
@@ -87,7 +87,7 @@ pub fn follow_in(words: &mut [u32], n: u32, field: usize, r: u32, a: u32) -> Ans
 }
 
 // A link of a's cell becomes what b holds.
-pub fn link_in(words: &mut [u32], n: u32, field: usize, a: u32, b: u32) -> Answer
+fn link_in(words: &mut [u32], n: u32, field: usize, a: u32, b: u32) -> Answer
     requires { ⌜ (poolLength registerCount n ≤ length (now words)) × (field < 4) × (a < registerCount) × (b < registerCount) ⌝ }
     ensures { λ q. ⌜ (answerOutcome q, now (words .exit)) ≡ linkIn n (now (words .entry)) field a b ⌝ }
 {
@@ -105,7 +105,7 @@ pub fn link_in(words: &mut [u32], n: u32, field: usize, a: u32, b: u32) -> Answe
 }
 
 // The value of a's cell becomes v.
-pub fn set_value_in(words: &mut [u32], n: u32, a: u32, v: u32) -> Answer
+fn set_value_in(words: &mut [u32], n: u32, a: u32, v: u32) -> Answer
     requires { ⌜ (poolLength registerCount n ≤ length (now words)) × (a < registerCount) ⌝ }
     ensures { λ q. ⌜ (answerOutcome q, now (words .exit)) ≡ setValueIn n (now (words .entry)) a v ⌝ }
 {
@@ -120,7 +120,7 @@ pub fn set_value_in(words: &mut [u32], n: u32, a: u32, v: u32) -> Answer
 }
 
 // The value of a's cell.
-pub fn value_in(words: &[u32], n: u32, a: u32) -> Answer
+fn value_in(words: &[u32], n: u32, a: u32) -> Answer
     requires { ⌜ (poolLength registerCount n ≤ length (now words)) × (a < registerCount) ⌝ }
     ensures { λ q. ⌜ (answerOutcome q, now (words .entry)) ≡ valueIn n (now (words .entry)) a ⌝ }
 {
@@ -134,7 +134,7 @@ pub fn value_in(words: &[u32], n: u32, a: u32) -> Answer
 }
 
 // Do a and b hold the same link?
-pub fn same_in(words: &[u32], n: u32, a: u32, b: u32) -> Answer
+fn same_in(words: &[u32], n: u32, a: u32, b: u32) -> Answer
     requires { ⌜ (poolLength registerCount n ≤ length (now words)) × (a < registerCount) × (b < registerCount) ⌝ }
     ensures { λ q. ⌜ (answerOutcome q, now (words .entry)) ≡ sameIn n (now (words .entry)) a b ⌝ }
 {
@@ -199,7 +199,7 @@ fn take_collected(words: &mut [u32], n: u32, r: u32, x: u32, y: u32, v: u32) -> 
 }
 
 // r gets a new cell with left from a, right from b, and value v.
-pub fn new_in(words: &mut [u32], n: u32, r: u32, a: u32, b: u32, v: u32) -> Answer
+fn new_in(words: &mut [u32], n: u32, r: u32, a: u32, b: u32, v: u32) -> Answer
     requires { ⌜ (poolLength registerCount n ≤ length (now words)) × (0 < n) × (n ≤ cellLimit) × (r < registerCount) × (a < registerCount) × (b < registerCount) ⌝ }
     ensures { λ q. ⌜ (answerOutcome q, now (words .exit)) ≡ newIn n (now (words .entry)) r a b v ⌝ }
 {

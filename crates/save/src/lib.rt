@@ -19,17 +19,6 @@ pub enum Saved {
     Refused(Refusal),
 }
 
-// Sets every word to 0.
-fn clear(words: &mut [u32])
-    ensures { λ _. ⌜ now (words .exit) ≡ replicate (length (now (words .entry))) 0 ⌝ }
-{
-    let mut k = 0;
-    while k < words.len() {
-        words[k] = 0;
-        k += 1;
-    }
-}
-
 // Is the link a cell that has no number yet?
 fn unnumbered(scratch: &[u32], x: u32) -> bool
     requires { ⌜ x ≤ length (now scratch) ⌝ }
@@ -161,7 +150,7 @@ fn order_cells(words: &[u32], scratch: &mut [u32], n: u32) -> u32
     requires { ⌜ Savable registerCount n (now words) (length (now scratch)) ⌝ }
     ensures { λ r. ⌜ (r ≡ keptCells registerCount n (now (words .entry))) × Ordered registerCount n (now (words .entry)) (now (scratch .exit)) ⌝ }
 {
-    clear(scratch);
+    pool::clear(scratch);
     let k = number_cells(words, scratch, n);
     list_cells(scratch, n);
     k
@@ -175,11 +164,11 @@ fn save_pool(words: &[u32], scratch: &mut [u32], out: &mut [u8], n: u32) -> Save
     let k = order_cells(words, scratch, n);
     let size = image_size(words, scratch, n, k);
     if out.len() < size {
-        clear(scratch);
+        pool::clear(scratch);
         return Saved::Refused(Refusal::NoRoom);
     }
     write_image(words, scratch, n, k, out);
-    clear(scratch);
+    pool::clear(scratch);
     Saved::Bytes(size)
 }
 

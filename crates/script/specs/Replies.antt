@@ -10,8 +10,6 @@ use lib.Dec.{ltb, leb}
 use Rattle.pool.specs.declared.Fresh.{Fresh}
 use Rattle.pool.specs.declared.Fresh.the-variants as fresh
 use Rattle.pool.specs.Outcome.{refusalNumber}
-use Rattle.calls.specs.declared.Answer.{Answer}
-use Rattle.calls.specs.declared.Answer.the-variants as answer
 use Rattle.script.specs.Lines.{isDigit, all, isNumber, decimalValue}
 use Rattle.script.specs.declared.Reply.{Reply}
 use Rattle.script.specs.declared.Reply.the-variants as reply
@@ -47,14 +45,6 @@ replyText reply.Done = code "o" ∷ code "k" ∷ spaced []
 replyText (reply.Number x) = code "o" ∷ code "k" ∷ spaced (x ∷ [])
 replyText (reply.Collected kept visits) = code "o" ∷ code "k" ∷ spaced (kept ∷ visits ∷ [])
 replyText (reply.Refused k) = code "n" ∷ code "o" ∷ spaced (refusalNumber k ∷ [])
-
--- The reply to a call; "visits only for g": those of an allocation are left out.
-abbrev pub answerReply : Answer → Reply
-answerReply answer.Done = reply.Done
-answerReply (answer.Allocated visits) = reply.Done
-answerReply (answer.Number x) = reply.Number x
-answerReply (answer.Collected kept visits) = reply.Collected kept visits
-answerReply (answer.Refused k) = reply.Refused k
 
 -- The reply to a new pool.
 abbrev pub freshReply : Fresh → Reply

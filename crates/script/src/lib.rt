@@ -1,5 +1,4 @@
 // The text of scripts: what a line says, read a byte at a time, and the text of a reply.
-use calls::Answer;
 use calls::Call;
 use pool::Fresh;
 use pool::Refusal;
@@ -10,7 +9,7 @@ ghost use lib.ListN.{length, drop};
 ghost use Rattle.script.specs.Lines.{command};
 ghost use Rattle.script.specs.Reader.{withoutNumbers, newReader, badReader, spaceOf, letterOf, digitOf, feedOf, endOf, begunOf};
 ghost use Rattle.script.specs.Scripts.{nextLine};
-ghost use Rattle.script.specs.Replies.{decimal, afterSpace, spaced, freshReply, answerReply, replyText, replyRoom, Put, writeAt};
+ghost use Rattle.script.specs.Replies.{decimal, afterSpace, spaced, freshReply, replyText, replyRoom, Put, writeAt};
 
 // What a line says.
 pub enum Line {
@@ -285,18 +284,6 @@ impl Reply {
         match fresh {
             Fresh::Made(_) => Reply::Done,
             Fresh::Refused(refusal) => Reply::Refused(refusal),
-        }
-    }
-
-    pub fn of_answer(answer: Answer) -> Reply
-        ensures { λ r. ⌜ r ≡ answerReply answer ⌝ }
-    {
-        match answer {
-            Answer::Done => Reply::Done,
-            Answer::Allocated { visits: _ } => Reply::Done,
-            Answer::Number(x) => Reply::Number(x),
-            Answer::Collected { kept, visits } => Reply::Collected { kept, visits },
-            Answer::Refused(refusal) => Reply::Refused(refusal),
         }
     }
 }
