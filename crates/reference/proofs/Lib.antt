@@ -14,3 +14,4 @@ pub mod Start
 pub mod Runs
 pub mod Theorems
 pub mod Examples
+pub mod RunEquivalence

@@ -1,3 +1,4 @@
 pub mod Model
 pub mod Equivalence
 pub mod Examples
+pub mod RunEquivalence
