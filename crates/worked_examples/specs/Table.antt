@@ -7,14 +7,16 @@ use Rattle.leb128.specs.Leb128.{encode}
 use Rattle.pool.specs.Outcome.{Outcome, answered}
 use Rattle.pool.specs.Calls.{occupancyOf}
 use Rattle.collector.specs.Collect.{collectOf}
+use Rattle.stack_marker.specs.StackCollect.{stackOf}
 use Rattle.image.specs.Load.{checkOf}
 
--- A case: the bytes of a number; bytes that a pool of one cell refuses as an image; a pool, and what its collection keeps and visits; and what percent
--- of n cells is kept.
+-- A case: the bytes of a number; bytes that a pool of one cell refuses as an image; a pool, and what its collection keeps and visits; a pool and a number
+-- of stack words, and what the collection with them keeps and whether they are enough (1) or not (0); and what percent of n cells is kept.
 pub data Case : Type 0 where
   number : ℕ → List ℕ → Case
   image-refused : List ℕ → ℕ → Case
   collection : List ℕ → ℕ → ℕ → Case
+  stack : List ℕ → ℕ → ℕ → ℕ → Case
   percent : ℕ → ℕ → ℕ → Case
 
 -- What a case claims, by the definitions that the contracts cite.
@@ -22,6 +24,7 @@ abbrev pub Holds : Case → Type 0
 Holds (number v bytes) = encode v ≡ bytes
 Holds (image-refused bytes k) = checkOf bytes 1 ≡ k
 Holds (collection w kept visits) = (collectOf w) .0 ≡ answered (kept ∷ visits ∷ [])
+Holds (stack w size kept enough) = (stackOf w (replicate size 0)) .0 ≡ answered (kept ∷ enough ∷ [])
 Holds (percent kept n p) = occupancyOf kept n ≡ answered (p ∷ [])
 
 -- A pool of one used cell that is linked to itself, with register 0 leading to it.
@@ -31,6 +34,10 @@ selfLinked = (1 ∷ 0 ∷ 1 ∷ []) ++ replicate 15 0 ++ (0 ∷ 1 ∷ 1 ∷ 7 �
 -- A pool of two used cells, one linked to the other, with all registers nil.
 abbrev pub unreached : List ℕ
 unreached = (2 ∷ 0 ∷ []) ++ replicate 16 0 ++ (0 ∷ 2 ∷ 0 ∷ 7 ∷ []) ++ (0 ∷ 0 ∷ 0 ∷ 8 ∷ [])
+
+-- A pool of a cell with both links to one leaf, with register 0 leading to it.
+abbrev pub oneLeaf : List ℕ
+oneLeaf = (2 ∷ 0 ∷ 1 ∷ []) ++ replicate 15 0 ++ (0 ∷ 2 ∷ 2 ∷ 7 ∷ []) ++ (0 ∷ 0 ∷ 0 ∷ 8 ∷ [])
 
 abbrev pub table : List Case
 table =
@@ -43,6 +50,9 @@ table =
     -- "N = 1, one cell linked to itself: kept 1, visits 3", "All registers nil: 0, 0"
     ∷ collection selfLinked 1 3
     ∷ collection unreached 0 0
+    -- "A cell with both links to one leaf: one stack word is enough, none is not."
+    ∷ stack oneLeaf 1 2 1
+    ∷ stack oneLeaf 0 2 0
     -- "Gauge 1 of 3: 33"
     ∷ percent 1 3 33
     ∷ []

@@ -1,1 +1,0 @@
-// Theory only: the table of worked examples.

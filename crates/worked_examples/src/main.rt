@@ -1,0 +1,168 @@
+// Tries the examples of the customer's scope that are not in the table of theorems, and what its last section warns of, and prints each with its
+// result. (The table is specs/Table.antt.)
+use calls::Answer;
+use collector::Collection;
+use libc::STDOUT_FILENO;
+use pool::Fresh;
+use pool::Pool;
+use script::Reply;
+use script::Written;
+use stack_marker::StackCollection;
+
+// Prints a label and what a reply says.
+fn show(label: &[u8], reply: Reply) {
+    io::write_all(STDOUT_FILENO, label);
+    let mut line = [0u8; 32];
+    let Written::Next(end) = script::write_reply(&mut line, 0, reply) else {
+        return;
+    };
+    print(&line, end);
+}
+
+fn print(line: &[u8], end: usize) {
+    if end <= line.len() {
+        io::write_all(STDOUT_FILENO, &line[..end]);
+    }
+}
+
+fn of_fresh(fresh: Fresh) -> Reply {
+    match fresh {
+        Fresh::Made(n) => Reply::Number(n),
+        Fresh::Refused(refusal) => Reply::Refused(refusal),
+    }
+}
+
+fn of_answer(answer: Answer) -> Reply {
+    match answer {
+        Answer::Done => Reply::Done,
+        Answer::Allocated { visits } => Reply::Number(visits),
+        Answer::Number(x) => Reply::Number(x),
+        Answer::Collected { kept, visits } => Reply::Collected { kept, visits },
+        Answer::Refused(refusal) => Reply::Refused(refusal),
+    }
+}
+
+fn of_collection(collection: Collection) -> Reply {
+    match collection {
+        Collection::Kept { kept, visits } => Reply::Collected { kept, visits },
+        Collection::Refused(refusal) => Reply::Refused(refusal),
+    }
+}
+
+// Kept, and 1 where the stack was enough.
+fn of_stack(collection: StackCollection) -> Reply {
+    match collection {
+        StackCollection::Kept { kept, enough } => {
+            if enough {
+                Reply::Collected { kept, visits: 1 }
+            } else {
+                Reply::Collected { kept, visits: 0 }
+            }
+        }
+        StackCollection::Refused(refusal) => Reply::Refused(refusal),
+    }
+}
+
+// N is taken from the length alone.
+fn fresh_of_18() {
+    let mut words = [0u32; 18];
+    show(b"fresh of 18 words: ", of_fresh(Pool::fresh(&mut words)));
+}
+
+fn fresh_of_22() {
+    let mut words = [0u32; 22];
+    show(b"fresh of 22 words: ", of_fresh(Pool::fresh(&mut words)));
+}
+
+fn fresh_of_16018() {
+    let mut words = [0u32; 16018];
+    show(b"fresh of 16018 words: ", of_fresh(Pool::fresh(&mut words)));
+}
+
+fn fresh_of_16022() {
+    let mut words = [0u32; 16022];
+    show(b"fresh of 16022 words: ", of_fresh(Pool::fresh(&mut words)));
+}
+
+// Puts a chain of five cells, each with both links to the next, into a fresh pool of five; register 0 leads to it.
+fn chain(words: &mut [u32]) {
+    Pool::fresh(words);
+    calls::new(words, 0, 0, 0, 1);
+    calls::new(words, 0, 0, 0, 2);
+    calls::new(words, 0, 0, 0, 3);
+    calls::new(words, 0, 0, 0, 4);
+    calls::new(words, 0, 0, 0, 5);
+}
+
+// "Halving the stack bound: a chain with equal links needs N - 1 words." The pool is as it was after either, and so it collects the same.
+fn equal_links() {
+    let mut words = [0u32; 38];
+    let mut four = [0u32; 4];
+    let mut three = [0u32; 3];
+    chain(&mut words);
+    show(
+        b"chain of 5 with equal links, 4 stack words: ",
+        of_stack(stack_marker::collect_stack(&mut words, &mut four)),
+    );
+    show(
+        b"chain of 5 with equal links, 3 stack words: ",
+        of_stack(stack_marker::collect_stack(&mut words, &mut three)),
+    );
+    show(
+        b"and then by reversal: ",
+        of_collection(collector::collect(&mut words)),
+    );
+    show(
+        b"and then recursively: ",
+        of_collection(recursive_marker::collect_recursive(&mut words)),
+    );
+}
+
+// "Leaving links rotated when a stack overflow falls back": both links of the first cell still lead to the second, whose value is 4.
+fn links_after_falling_back() {
+    let mut words = [0u32; 38];
+    let mut stack = [0u32; 1];
+    chain(&mut words);
+    show(
+        b"chain of 5 with equal links, no stack word: ",
+        of_stack(stack_marker::collect_stack(&mut words, &mut stack[..0])),
+    );
+    calls::left(&mut words, 1, 0);
+    calls::right(&mut words, 2, 0);
+    show(
+        b"left and right are the same: ",
+        of_answer(calls::same(&words, 1, 2)),
+    );
+    show(b"the value there: ", of_answer(calls::value(&words, 1)));
+}
+
+// "Clearing r before "new" collects: r may be a or b, and its old cell is live to the ledger."
+fn old_content_is_a_root() {
+    let mut words = [0u32; 26];
+    Pool::fresh(&mut words);
+    calls::new(&mut words, 0, 0, 0, 1);
+    calls::new(&mut words, 0, 0, 0, 2);
+    show(
+        b"new where r's old content holds every cell: ",
+        of_answer(calls::new(&mut words, 0, 1, 1, 3)),
+    );
+    show(
+        b"the value of r's cell: ",
+        of_answer(calls::value(&words, 0)),
+    );
+    calls::clear(&mut words, 0);
+    show(
+        b"new with nothing reached: ",
+        of_answer(calls::new(&mut words, 0, 1, 1, 3)),
+    );
+}
+
+fn main() {
+    fresh_of_18();
+    fresh_of_22();
+    fresh_of_16018();
+    fresh_of_16022();
+    equal_links();
+    links_after_falling_back();
+    old_content_is_a_root();
+}
