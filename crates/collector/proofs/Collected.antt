@@ -1,14 +1,14 @@
 -- A collected pool: what it keeps, that it is well-formed with the same graph, and when nothing changes.
 use Prim.Native.Nat.{ℕ, zero, suc, _<_, _≤_}
 use native.Mathlib.Omega.{arith}
-use mathlib.Core.Path.{_≡_, refl, sym, ap, ap₂, _∙_}
-use mathlib.Core.List.{List, List·Memᴰ}
+use mathlib.Core.Path.{_≡_, refl, sym, ap, _∙_}
+use mathlib.Core.List.{List}
 use mathlib.Core.Bool.{Bool, true, false, true≢false}
 use mathlib.Core.Logic.{⊎-elim}
 use lib.ListN.{length}
 use lib.Dec.{ltb}
 use borrow.Author.Tests.{lt-ltb, le-ltb}
-use Rattle.graph.specs.Graph.{Graph, Reach}
+use Rattle.graph.specs.Graph.{Reach}
 use Rattle.graph.specs.Order.{has, order}
 use Rattle.graph.specs.Marking.{outside, marked}
 use Rattle.graph.specs.Dfs.{marks}
@@ -20,11 +20,11 @@ use Rattle.graph.proofs.Reached.{reach-above, reach-within}
 use Rattle.pool.specs.Layout.{poolLength, head, register, cell, state, left, right, value, graphOf, rootsOf}
 use Rattle.pool.specs.Retain.{retain, keptCount}
 use Rattle.pool.proofs.Every.{tabulate-cong, member-tabulate}
-use Rattle.pool.proofs.WellFormed.{Link, WellFormed}
+use Rattle.pool.proofs.WellFormed.{WellFormed}
 use Rattle.pool.proofs.PoolGraph.{reached-used, pool-within}
 use Rattle.pool.proofs.Retained.{retain-register, retain-head}
-use Rattle.pool.proofs.RetainedPool.{Kept, retained-used, retained-same, retained-well-formed}
-use Rattle.pool.proofs.AllKept.{counted-all, all-counted, all-none-free, none-free-all, retain-all, retain-again}
+use Rattle.pool.proofs.RetainedPool.{Kept, retained-same, retained-well-formed}
+use Rattle.pool.proofs.AllKept.{counted-all, all-counted, none-free-all, retain-all, retain-again}
 use Rattle.collector.specs.Collect.{reachedCells, isReached, keptCells, collected}
 
 -- the same count, of tests and of marks
@@ -105,11 +105,7 @@ module _ (R n : ℕ) (w : List ℕ) (well : WellFormed R n w) where
         let all = counted-all (isReached R n w) n (kept-count ∙ full) in
         retain-all R n (isReached R n w) w all (λ j low high. reached-used well (kept-reached j (all j low high)) .state) nil
 
-    -- no cell is free after a collection exactly where all are kept
-    pub collected-head-nil : 0 < n → keptCells R n w ≡ n → head (collected R n w) ≡ 0
-    collected-head-nil some full =
-        retain-head R n (isReached R n w) w room some ∙ all-none-free (isReached R n w) n (counted-all (isReached R n w) n (kept-count ∙ full))
-
+    -- where no cell is free after a collection, all are kept
     pub head-nil-full : 0 < n → head (collected R n w) ≡ 0 → keptCells R n w ≡ n
     head-nil-full some nil =
         sym kept-count ∙ all-counted (isReached R n w) n (none-free-all (isReached R n w) n (sym (retain-head R n (isReached R n w) w room some) ∙ nil))

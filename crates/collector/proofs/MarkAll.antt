@@ -6,8 +6,8 @@ use mathlib.Core.Path.{_≡_, refl, ap, _∙_}
 use mathlib.Core.Logic.{_⊎_, inl, inr, ⊎-elim}
 use mathlib.Core.List.{List, [], _∷_, _++_, List·Memᴰ, List·Memᴰ·head, List·Memᴰ·tail, List·Memᴰ·cases-cons, Memᴰ·cast, List·Memᴰ·not-nil}
 use lib.ListN.{length}
-use Rattle.pool.specs.Layout.{poolLength, cell, setCell, state, register, head, count}
-use Rattle.pool.proofs.Laws.{length-setCell, register-setCell, head-setCell, count-setCell, cell-same, cell-other, setCell-comm}
+use Rattle.pool.specs.Layout.{poolLength, cell, setCell, state, register}
+use Rattle.pool.proofs.Laws.{length-setCell, register-setCell, cell-same, cell-other, setCell-comm}
 use Rattle.collector.specs.Reversal.{markAll}
 use Rattle.collector.proofs.Node.{setNode}
 
@@ -24,12 +24,6 @@ module _ (R : ℕ) where
 
   pub register-markAll : (k : ℕ) → k < R → (w t : List ℕ) → register (markAll R w t) k ≡ register w k
   register-markAll k hk = kept (λ w. register w k) λ w x. register-setCell R w x 0 3 k hk
-
-  pub head-markAll : (w t : List ℕ) → head (markAll R w t) ≡ head w
-  head-markAll = kept head λ w x. head-setCell R w x 0 3
-
-  pub count-markAll : (w t : List ℕ) → count (markAll R w t) ≡ count w
-  count-markAll = kept count λ w x. count-setCell R w x 0 3
 
   -- one list after the other
   pub markAll-append : (w t u : List ℕ) → markAll R w (t ++ u) ≡ markAll R (markAll R w t) u

@@ -1,20 +1,19 @@
 -- Marking and then sweeping a well-formed pool is the collection of the definition.
-use Prim.Native.Nat.{ℕ, suc, _*_, _<_, _≤_}
+use Prim.Native.Nat.{ℕ, suc, _<_, _≤_}
 use native.Mathlib.Omega.{arith}
 use mathlib.Core.Path.{_≡_, refl, sym, ap, ap₂, _∙_}
 use mathlib.Core.List.{List, [], _∷_, List·Memᴰ, List·Memᴰ·head, List·Memᴰ·tail}
 use mathlib.Core.Bool.{Bool, true, false, true≢false}
 use lib.ListN.{length, getD}
-use lib.Dec.{eqb}
 use borrow.Author.Tests.{eq-eqb, ne-eqb}
 use Rattle.graph.proofs.Lists.{has-member, member-has}
 use Rattle.graph.proofs.Reached.{reach-above, reach-within}
 use Rattle.pool.specs.Layout.{registerCount, poolLength, cell, setCell, state}
 use Rattle.pool.specs.Validity.{wellFormed}
-use Rattle.pool.specs.Retain.{marked, retain, keptCount, sweepOf}
+use Rattle.pool.specs.Retain.{marked, sweepOf}
 use Rattle.pool.specs.Outcome.{Outcome, answered}
 use Rattle.pool.proofs.WellFormed.{Cell, WellFormed, well-formed-read}
-use Rattle.pool.proofs.PoolGraph.{reached-used, pool-within}
+use Rattle.pool.proofs.PoolGraph.{pool-within}
 use Rattle.pool.proofs.Retained.{Elsewhere, setCell-elsewhere, kept-cong, retain-cong}
 use Rattle.collector.specs.Reversal.{markAll}
 use Rattle.collector.specs.ReversalTheorem.{markedOf}

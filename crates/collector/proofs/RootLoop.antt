@@ -1,11 +1,11 @@
 -- The loop over the registers: it makes the runs of the definition, in the order of the registers.
-use Prim.Native.Nat.{ℕ, zero, suc, _+_, _*_, _^_, _<_, _≤_}
+use Prim.Native.Nat.{ℕ, _+_, _<_, _≤_}
 use native.Mathlib.Omega.{arith}
 use native.Mathlib.Numerals.{add-one}
 use mathlib.Core.Path.{_≡_, refl, sym, ap, _∙_}
 use mathlib.Core.List.{List, [], _∷_, nil≢cons, cons≢nil, head-eq-of-cons-eq, tail-eq-of-cons-eq}
 use mathlib.Core.Bool.{true, false, true≢false, false≢true}
-use lib.ListN.{length, getD, drop}
+use lib.ListN.{length, drop}
 use lib.Seq.{drop-cons, drop-length}
 use Rattle.graph.proofs.Theorems.{order-length}
 use Rattle.pool.specs.Layout.{cellLimit, poolLength, register, setCell, rootsOf, graphOf}
@@ -15,8 +15,7 @@ use Rattle.pool.proofs.Laws.{register-setCell, length-setCell}
 use Rattle.pool.proofs.WellFormed.{well-formed-read}
 use Rattle.pool.proofs.PoolGraph.{pool-within}
 use Rattle.collector.specs.declared.Marker.{Marker}
-use Rattle.collector.specs.Reversal.{unmarked, visitOf, Visits, marker, Run, Ends}
-use Rattle.collector.specs.Collect.{keptCells}
+use Rattle.collector.specs.Reversal.{unmarked, visitOf, Visits, Run, Ends}
 use Rattle.collector.specs.ReversalTheorem.{MarkRoots, markedOf}
 use Rattle.collector.proofs.RunLoop.{counted}
 use Rattle.collector.proofs.Roots.{run-over-pool}
