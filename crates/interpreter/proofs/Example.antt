@@ -8,8 +8,8 @@ use Rattle.script.specs.Lines.{firstWord, laterWords, all, isNumber, command, l
 use Rattle.script.specs.Scripts.{linesOf}
 use Rattle.script.specs.Replies.{digits, decimal, spaced}
 use Rattle.interpreter.specs.Execute.{transcript}
-use Rattle.interpreter.specs.Example.{bytesOf, PaperScript}
+use Rattle.interpreter.specs.Example.{bytesOf, TranscriptExample}
 
-pub paper-script : PaperScript
+pub transcript-example : TranscriptExample
 unfolding has visit visits order tabulate every cellsOfLength count cellsOf head setHead register setRegister cell setCell lowestFree retain firstWord laterWords all isNumber command lineOf parseLine linesOf digits decimal spaced transcript bytesOf
-paper-script = refl
+transcript-example = refl
