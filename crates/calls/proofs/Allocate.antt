@@ -7,7 +7,7 @@ use mathlib.Core.Bool.{Bool, true, false, cond, _&&_}
 use lib.ListN.{length}
 use lib.Dec.{leb}
 use borrow.Author.Tests.{eq-eqb, ne-eqb, leb-true}
-use Rattle.pool.specs.Layout.{registerCount, poolLength, head, state, left}
+use Rattle.pool.specs.Layout.{registerCount, poolLength, head, setHead, setRegister, setCell, state, left}
 use Rattle.pool.specs.Validity.{isFree, wellFormed}
 use Rattle.pool.specs.Retain.{lowestFree}
 use Rattle.pool.specs.Outcome.{Outcome, answered, refused}
@@ -19,9 +19,14 @@ use Rattle.collector.specs.Collect.{isReached, keptCells, collected, collection
 use Rattle.collector.specs.declared.Collection.{Collection}
 use Rattle.collector.specs.declared.Collection.the-variants as collection
 use Rattle.collector.proofs.Collected.{collected-full, head-nil-full}
-use Rattle.calls.specs.Calls.{take, goodHead, holdsLink, newIn}
-use Rattle.calls.specs.Allocate.{takeCollected}
+use Rattle.calls.specs.Calls.{take, takeCollected, goodHead, holdsLink, newIn}
 use Rattle.calls.proofs.Held.{Holds}
+
+-- the head cell is taken by one write after the other
+pub taken : (w : List ℕ) (r x y v : ℕ) {i next : ℕ} {w₁ w₂ w₃ w₄ w₅ w₆ : List ℕ} → i ≡ head w → next ≡ left registerCount w i
+    → w₁ ≡ setCell registerCount w i 0 0 → w₂ ≡ setCell registerCount w₁ i 1 x → w₃ ≡ setCell registerCount w₂ i 2 y → w₄ ≡ setCell registerCount w₃ i 3 v
+    → w₅ ≡ setHead w₄ next → w₆ ≡ setRegister w₅ r i → w₆ ≡ take w r x y v
+taken w r x y v at after e₁ e₂ e₃ e₄ e₅ e₆ = rw (e₆, e₅, e₄, e₃, e₂, e₁, after, at)
 
 -- the lowest free cell is one of the cells
 lowest-below : (keep : ℕ → Bool) (k i : ℕ) → 0 < i → lowestFree keep k i < k + i

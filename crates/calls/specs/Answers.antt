@@ -1,6 +1,5 @@
 -- What a call says, in the numbers of document 01, and what of it is compared with the reference model.
-use Prim.Native.Nat.{ℕ}
-use mathlib.Core.List.{List, [], _∷_}
+use mathlib.Core.List.{[], _∷_}
 use Rattle.pool.specs.Outcome.{Outcome, answered, refused, refusalNumber}
 use Rattle.calls.specs.declared.Call.{Call}
 use Rattle.calls.specs.declared.Call.the-variants as call

@@ -77,20 +77,23 @@ take w r x y v =
 abbrev pub goodHead : ℕ → List ℕ → Bool
 goodHead n w = leb (head w) n && isFree (state registerCount w (head w)) && leb (left registerCount w (head w)) n
 
--- "Where the head is 0 it collects first, with r's old content still a root", if the pool is whole (3). "new, after collecting: is a cell free?
--- No: 5", and nothing has changed. "new also reports visits: 0, or 3 × kept where it collected."
+-- "Where the head is 0 it collects first, with r's old content still a root", if the pool is whole (3), and takes the head cell that it finds then.
+-- "new, after collecting: is a cell free? No: 5", and nothing has changed. x and y are the links that a and b hold.
+abbrev pub takeCollected : ℕ → List ℕ → ℕ → ℕ → ℕ → ℕ → Outcome × List ℕ
+takeCollected n w r x y v =
+    cond (wellFormed registerCount n w)
+    (cond (eqb (head (collected registerCount n w)) 0)
+    (refused 5, w)
+    (answered (3 * keptCells registerCount n w ∷ []), take (collected registerCount n w) r x y v))
+    (refused 3, w)
+
+-- "new r a b v", which "also reports visits: 0, or 3 × kept where it collected".
 abbrev pub newIn : ℕ → List ℕ → ℕ → ℕ → ℕ → ℕ → Outcome × List ℕ
 newIn n w r a b v =
     let x = register w a in
     let y = register w b in
     cond (holdsLink n w a && holdsLink n w b)
-    (cond (eqb (head w) 0)
-    (cond (wellFormed registerCount n w)
-    (cond (eqb (head (collected registerCount n w)) 0)
-    (refused 5, w)
-    (answered (3 * keptCells registerCount n w ∷ []), take (collected registerCount n w) r x y v))
-    (refused 3, w))
-    (cond (goodHead n w) (answered (0 ∷ []), take w r x y v) (refused 3, w)))
+    (cond (eqb (head w) 0) (takeCollected n w r x y v) (cond (goodHead n w) (answered (0 ∷ []), take w r x y v) (refused 3, w)))
     (refused 3, w)
 
 -- "a call is one of eleven cases"

@@ -10,8 +10,7 @@ ghost use Prim.Native.Nat.{_<_, _≤_};
 ghost use lib.ListN.{length};
 ghost use Rattle.pool.specs.Layout.{cellLimit, registerCount, poolLength, head};
 ghost use Rattle.calls.specs.Answers.{answerOutcome};
-ghost use Rattle.calls.specs.Calls.{copyIn, clearIn, followIn, linkIn, setValueIn, valueIn, sameIn, newIn, goodHead, take, asked, callOf};
-ghost use Rattle.calls.specs.Allocate.{takeCollected};
+ghost use Rattle.calls.specs.Calls.{copyIn, clearIn, followIn, linkIn, setValueIn, valueIn, sameIn, newIn, goodHead, take, takeCollected, asked, callOf};
 
 // A call: r, a and b are register numbers, v is a value.
 pub enum Call {

@@ -19,7 +19,7 @@ ghost use Rattle.recursive_marker.specs.Recursive.{recursiveOf};
 ghost use Rattle.stack_marker.specs.StackCollect.{stackOutcome, stackOf};
 ghost use Rattle.tally.specs.TallyOf.{tallyOf};
 ghost use Rattle.image.specs.Load.{loadOf, checkOf};
-ghost use Rattle.save.specs.Save.{savedOutcome, saveOf};
+ghost use Rattle.save.specs.Save.{saveOf};
 ghost use Rattle.cellpool.specs.Interface.{status, lent, silent, giving, givingTwo, tallying, withStack, number, saving, loading};
 
 // 0, or the number of the refusal.

@@ -17,7 +17,7 @@ use Rattle.graph.proofs.Lists.{has-member, member-has}
 use Rattle.graph.proofs.Marks.{marks-member, marks-cases, outside-cell, zero-or-above}
 use Rattle.graph.proofs.Theorems.{order-reached, order-agree, order-closure, marked-count}
 use Rattle.graph.proofs.Reached.{reach-above, reach-within}
-use Rattle.pool.specs.Layout.{poolLength, head, register, cell, state, left, right, value, graphOf, rootsOf}
+use Rattle.pool.specs.Layout.{poolLength, head, register, cell, state, left, right, graphOf, rootsOf}
 use Rattle.pool.specs.Retain.{retain, keptCount}
 use Rattle.pool.proofs.Every.{tabulate-cong, member-tabulate}
 use Rattle.pool.proofs.WellFormed.{WellFormed}

@@ -8,7 +8,7 @@ use lib.ListN.{length, getD}
 use borrow.Author.Tests.{eq-eqb, ne-eqb}
 use Rattle.graph.proofs.Lists.{has-member, member-has}
 use Rattle.graph.proofs.Reached.{reach-above, reach-within}
-use Rattle.pool.specs.Layout.{registerCount, poolLength, cell, setCell, state}
+use Rattle.pool.specs.Layout.{registerCount, poolLength, setCell, state}
 use Rattle.pool.specs.Validity.{wellFormed}
 use Rattle.pool.specs.Retain.{marked, sweepOf}
 use Rattle.pool.specs.Outcome.{Outcome, answered}

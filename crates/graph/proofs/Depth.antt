@@ -4,7 +4,7 @@ use native.Mathlib.Omega.{arith}
 use mathlib.Core.Path.{_≡_, refl, sym, subst, ap, _∙_}
 use mathlib.Core.Logic.{⊎-elim}
 use mathlib.Core.List.{List, [], _∷_, _++_, List·Memᴰ·head, List·Memᴰ·tail, append-nil, append-assoc}
-use mathlib.Core.Bool.{true, false, _||_, or-true}
+use mathlib.Core.Bool.{Bool, true, false, _||_, or-true}
 use lib.Dec.{eqb}
 use borrow.Author.Tests.{eq-eqb, ne-eqb}
 use Rattle.graph.specs.Graph.{Graph, Reach, Within}
@@ -38,11 +38,15 @@ after-one n seen p e =
     ∙ marked-mark n (after n seen) p (after-cells n seen .above p e) (after-cells n seen .below p e) e
 
 module _ (n : ℕ) (g : Graph) where
+  -- A visit, by whether it adds nothing.
+  abbrev visitIf : ℕ → List ℕ → ℕ → Bool → List ℕ
+  visitIf depth seen p b = elim b [ true ↦ seen | false ↦ visit depth g (visit depth g (seen ++ (p ∷ [])) (g .left p)) (g .right p) ]
+
   -- A link that is marked adds nothing, whatever the depth.
   stops : (depth : ℕ) (seen : List ℕ) (p : ℕ) → p ≤ n → 0 < after n seen p → visit depth g seen p ≡ seen
   unfolding visit
   stops zero seen p w h = refl
-  stops (suc depth) seen p w h = rw (test, visit)
+  stops (suc depth) seen p w h = ap (visitIf depth seen p) test
     where
       test : (eqb p 0 || has p seen) ≡ true
       test =
@@ -54,7 +58,7 @@ module _ (n : ℕ) (g : Graph) where
   goes : (depth : ℕ) (seen : List ℕ) (p : ℕ) → after n seen p ≡ 0
       → visit (suc depth) g seen p ≡ visit depth g (visit depth g (seen ++ (p ∷ [])) (g .left p)) (g .right p)
   unfolding visit
-  goes depth seen p e = rw (test, visit)
+  goes depth seen p e = ap (visitIf depth seen p) test
     where
       test : (eqb p 0 || has p seen) ≡ false
       test =

@@ -1,6 +1,6 @@
 -- The visits with the pending links in a list: the shape of a loop with a stack.
 use Prim.Native.Nat.{ℕ, _<_}
-use mathlib.Core.Path.{_≡_, refl, sym, subst}
+use mathlib.Core.Path.{_≡_}
 use mathlib.Core.List.{List, [], _∷_, _++_, append-assoc}
 use Rattle.graph.specs.Graph.{Graph, Within}
 use Rattle.graph.specs.Order.{order}

@@ -1,18 +1,29 @@
 -- The numbers behind K, read one after the other: a turn of a loop over them, from number j of `count` on.
-use Prim.Native.Nat.{ℕ, suc, _+_, _-_, _<_, _≤_}
+use Prim.Native.Nat.{ℕ, suc, _+_, _-_, _*_, _%_, _<_, _≤_}
 use native.Mathlib.Omega.{arith}
 use native.Mathlib.Numerals.{add-one}
 use mathlib.Core.Path.{_≡_, refl, sym, ap, _∙_}
 use mathlib.Core.List.{List, []}
 use lib.ListN.{length, getD, drop, length-drop, drop-of-length-le}
 use lib.Seq.{getD-drop, drop-drop}
+use lib.Dec.{eqb}
+use mathlib.Core.Bool.{false}
+use borrow.Author.Tests.{lt-leb, le-leb}
 use Rattle.pool.specs.declared.Refusal.{Refusal}
 use Rattle.image.specs.declared.Field.{Field}
 use Rattle.image.specs.declared.Field.the-variants as field
 use Rattle.image.specs.declared.Scan.{Scan}
 use Rattle.image.specs.declared.Scan.the-variants as scan
-use Rattle.image.specs.Image.{Fields, fieldAt, consField, readFields, withFields}
+use Rattle.image.specs.Image.{Fields, fieldCount, fieldOf, fieldAt, consField, readFields, withFields}
 use Rattle.image.specs.Load.{scanOf, numbersOf}
+
+-- The registers are links, and of each cell's three numbers the last is a value.
+module _ (R K : ℕ) (bytes : List ℕ) (at : ℕ) where
+  pub at-register : (j : ℕ) → j < R → fieldOf false K bytes at ≡ fieldAt R K bytes j at
+  at-register j low = simp (lt-leb R j low)
+
+  pub at-cell : (i f : ℕ) → f < 3 → fieldOf (eqb f 2) K bytes at ≡ fieldAt R K bytes (R + 3 * i + f) at
+  at-cell i f low = let this : (R + 3 * i + f - R) % 3 ≡ f = omega arith in simp (le-leb R (R + 3 * i + f) (omega arith), this)
 
 module _ (R K : ℕ) (bytes : List ℕ) where
   -- the last number was read; the next one is there; it is refused
@@ -39,25 +50,31 @@ scan-cons : (K start v : ℕ) (rest : Fields) → scanOf (withFields K start (co
 scan-cons K start v (Fields.fields vs end) = refl
 scan-cons K start v (Fields.fault why) = refl
 
--- A scan of all numbers, and its turns: what is left to read gives what it says.
+-- A scan of all numbers behind K, and its turns: from number j on, what is left to read gives what it says.
+abbrev pub Scanning : (R K : ℕ) → List ℕ → (start j at : ℕ) → Type 0
+Scanning R K bytes start j at =
+    scanOf (withFields K start (readFields R K bytes (fieldCount R K) 0 start))
+    ≡ scanOf (withFields K start (readFields R K bytes (fieldCount R K - j) j at))
+
 module _ (R K : ℕ) (bytes : List ℕ) (start : ℕ) where
   abbrev scanned : Fields → Scan
   scanned rest = scanOf (withFields K start rest)
 
-  pub scan-first : (count : ℕ) → scanned (readFields R K bytes count 0 start) ≡ scanned (readFields R K bytes (count - 0) 0 start)
-  scan-first count = let all : count - 0 ≡ count = omega arith in rw all
+  pub scan-first : Scanning R K bytes start 0 start
+  scan-first = let all : fieldCount R K - 0 ≡ fieldCount R K = omega arith in rw all
 
-  module _ (s : Scan) (count j at : ℕ) (inv : s ≡ scanned (readFields R K bytes (count - j) j at)) where
-    pub scan-value : (f : Field) (v next : ℕ) → j < count → f ≡ fieldAt R K bytes j at → f ≡ field.Value v next
-        → s ≡ scanned (readFields R K bytes (count - (j + 1)) (j + 1) next)
+  module _ (j at : ℕ) (inv : Scanning R K bytes start j at) where
+    pub scan-value : (f : Field) (v next : ℕ) → j < fieldCount R K → f ≡ fieldAt R K bytes j at → f ≡ field.Value v next
+        → Scanning R K bytes start (j + 1) next
     scan-value f v next more read e =
-        inv ∙ (ap scanned (fields-value R K bytes count j at more v next (sym read ∙ e)) ∙ scan-cons K start v (readFields R K bytes (count - (j + 1)) (j + 1) next))
+        inv ∙ (ap scanned (fields-value R K bytes (fieldCount R K) j at more v next (sym read ∙ e)) ∙ scan-cons K start v (readFields R K bytes (fieldCount R K - (j + 1)) (j + 1) next))
 
-    pub scan-refused : (f : Field) (why : Refusal) → j < count → f ≡ fieldAt R K bytes j at → f ≡ field.Refused why → scan.Refused why ≡ s
-    scan-refused f why more read e = sym (inv ∙ ap scanned (fields-refused R K bytes count j at more why (sym read ∙ e)))
+    pub scan-refused : (f : Field) (why : Refusal) → j < fieldCount R K → f ≡ fieldAt R K bytes j at → f ≡ field.Refused why
+        → scan.Refused why ≡ scanned (readFields R K bytes (fieldCount R K) 0 start)
+    scan-refused f why more read e = sym (inv ∙ ap scanned (fields-refused R K bytes (fieldCount R K) j at more why (sym read ∙ e)))
 
-    pub scan-last : count ≤ j → scan.Whole K start at ≡ s
-    scan-last last = sym (inv ∙ ap scanned (fields-last R K bytes count j at last))
+    pub scan-last : fieldCount R K ≤ j → scan.Whole K start at ≡ scanned (readFields R K bytes (fieldCount R K) 0 start)
+    scan-last last = sym (inv ∙ ap scanned (fields-last R K bytes (fieldCount R K) j at last))
 
 -- The numbers that are left, behind the first j of all numbers vs, where the next one is v.
 pub record Next (vs : List ℕ) (j v : ℕ) (rest : Fields) : Type 0 where

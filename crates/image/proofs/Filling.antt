@@ -1,19 +1,21 @@
 -- The numbers behind K, written to their words: where each one goes, and the turns of the loop.
-use Prim.Native.Nat.{ℕ, suc, _+_, _-_, _/_, _%_, _<_, _≤_}
+use Prim.Native.Nat.{ℕ, suc, _+_, _-_, _*_, _/_, _%_, _<_, _≤_}
 use native.Mathlib.Omega.{arith}
 use native.Mathlib.Decide.{decLt}
-use mathlib.Core.Path.{_≡_, refl, sym, ap, _∙_}
+use mathlib.Core.Path.{_≡_, sym, ap, _∙_}
 use mathlib.Core.List.{List, []}
-use lib.ListN.{length, getD, drop, set, length-set, length-drop}
+use mathlib.Core.Bool.{false}
+use lib.ListN.{length, getD, drop, set, length-drop}
 use lib.Seq.{getD-set-same, getD-set-other}
+use lib.Dec.{eqb}
 use borrow.Author.Tests.{lt-ltb, le-ltb}
-use Rattle.pool.specs.Layout.{poolLength, cellAt}
+use Rattle.pool.specs.Layout.{poolLength, cellAt, setRegister, setCell}
 use Rattle.pool.specs.declared.Refusal.{Refusal}
 use Rattle.image.specs.declared.Field.{Field}
 use Rattle.image.specs.declared.Field.the-variants as field
-use Rattle.image.specs.Image.{fieldCount, fieldAt, readFields}
+use Rattle.image.specs.Image.{fieldCount, fieldOf, fieldAt, readFields}
 use Rattle.image.specs.Load.{numbersOf, fieldPlace, Filled}
-use Rattle.image.proofs.Fields.{fields-last, fields-value, fields-refused, numbers-cons}
+use Rattle.image.proofs.Fields.{at-register, at-cell, fields-last, fields-value, fields-refused, numbers-cons}
 
 module _ (R : ℕ) where
   pub place-register : (j : ℕ) → j < R → fieldPlace R j ≡ 2 + j
@@ -42,43 +44,56 @@ module _ (R : ℕ) where
       ]
 
 -- Of the numbers vs the first j are in their words, and the others are what is left to read.
-pub record Filling (R K : ℕ) (bytes vs : List ℕ) (count : ℕ) (w₀ w : List ℕ) (j at : ℕ) : Type 0 where
-  pub few : j ≤ count
-  pub len : length w ≡ length w₀
-  pub left : drop j vs ≡ numbersOf (readFields R K bytes (count - j) j at)
+pub record Filling (R K : ℕ) (bytes vs w : List ℕ) (j at : ℕ) : Type 0 where
+  pub few : j ≤ fieldCount R K
+  pub left : drop j vs ≡ numbersOf (readFields R K bytes (fieldCount R K - j) j at)
   pub done : (i : ℕ) → i < j → i < length vs → getD w (fieldPlace R i) 0 ≡ getD vs i 0
 
-module _ (R K : ℕ) (bytes w₀ : List ℕ) where
-  pub filling-first : (count start : ℕ) → Filling R K bytes (numbersOf (readFields R K bytes count 0 start)) count w₀ w₀ 0 start
-  filling-first count start =
-      let all : count - 0 ≡ count = omega arith in
-      record { few = omega arith; len = refl; left = rw all; done = λ i below within. absurd (omega arith) }
+module _ (R K : ℕ) (bytes : List ℕ) where
+  pub filling-first : (w : List ℕ) (start : ℕ) → Filling R K bytes (numbersOf (readFields R K bytes (fieldCount R K) 0 start)) w 0 start
+  filling-first w start =
+      let all : fieldCount R K - 0 ≡ fieldCount R K = omega arith in
+      record { few = omega arith; left = rw all; done = λ i below within. absurd (omega arith) }
 
-  module _ (vs : List ℕ) (count : ℕ) (w : List ℕ) (j at : ℕ) (f : Filling R K bytes vs count w₀ w j at) where
-    pub filling-value : (read : Field) (p v next : ℕ) → j < count → read ≡ fieldAt R K bytes j at → read ≡ field.Value v next
-        → p ≡ fieldPlace R j → p < length w → Filling R K bytes vs count w₀ (set w p v) (j + 1) next
-    filling-value read p v next more here e place room =
-        let n = numbers-cons vs j v (readFields R K bytes (count - (j + 1)) (j + 1) next) (f .left ∙ ap numbersOf (fields-value R K bytes count j at more v next (sym here ∙ e))) in
-        record {
-          few = omega arith;
-          len = length-set w p v ∙ f .len;
-          left = n .left;
-          done = λ i below within.
-              elim (decLt i j) [
-                | yes less ↦
-                    getD-set-other w p (fieldPlace R i) v 0 (λ same. place-apart R i j less (same ∙ place)) ∙ f .done i less within
-                | no last ↦
-                    let this : i ≡ j = omega arith in
-                    rw this (rw (← place) (getD-set-same w p v 0 room ∙ sym (n .value (rw this at within))))
-              ];
-        }
+  module _ (vs w : List ℕ) (j at : ℕ) (f : Filling R K bytes vs w j at) where
+    module _ (room : poolLength R K ≤ length w) (read : Field) (v next : ℕ) (value : read ≡ field.Value v next) where
+      filling-value : (p : ℕ) → j < fieldCount R K → read ≡ fieldAt R K bytes j at → fieldPlace R j ≡ p → Filling R K bytes vs (set w p v) (j + 1) next
+      filling-value p more here place =
+          let n = numbers-cons vs j v (readFields R K bytes (fieldCount R K - (j + 1)) (j + 1) next) (f .left ∙ ap numbersOf (fields-value R K bytes (fieldCount R K) j at more v next (sym here ∙ value))) in
+          record {
+            few = omega arith;
+            left = n .left;
+            done = λ i below within.
+                elim (decLt i j) [
+                  | yes less ↦ getD-set-other w p (fieldPlace R i) v 0 (λ same. place-apart R i j less (same ∙ sym place)) ∙ f .done i less within
+                  | no last ↦
+                      let this : i ≡ j = omega arith in
+                      rw this (rw place (getD-set-same w p v 0 (omega (arith, place-room R K j more)) ∙ sym (n .value (rw this at within))))
+                ];
+          }
 
-    none-left : numbersOf (readFields R K bytes (count - j) j at) ≡ [] → Filled R vs w
+      pub filling-register : (u : List ℕ) → j < R → read ≡ fieldOf false K bytes at → u ≡ setRegister w j v → Filling R K bytes vs u (j + 1) next
+      unfolding setRegister
+      filling-register u low here e =
+          rw e (filling-value (2 + j) (omega arith) (here ∙ at-register R K bytes at j low) (place-register R j low))
+
+    none-left : numbersOf (readFields R K bytes (fieldCount R K - j) j at) ≡ [] → Filled R vs w
     none-left none i within = f .done i (omega (arith, length-drop j vs, ap length (f .left ∙ none))) within
 
-    pub filling-refused : (read : Field) (why : Refusal) → j < count → read ≡ fieldAt R K bytes j at → read ≡ field.Refused why
+    pub filling-refused : (read : Field) (why : Refusal) → j < fieldCount R K → read ≡ fieldAt R K bytes j at → read ≡ field.Refused why
         → Filled R vs w
-    filling-refused read why more here e = none-left (ap numbersOf (fields-refused R K bytes count j at more why (sym here ∙ e)))
+    filling-refused read why more here e = none-left (ap numbersOf (fields-refused R K bytes (fieldCount R K) j at more why (sym here ∙ e)))
 
-    pub filling-last : count ≤ j → Filled R vs w
-    filling-last last = none-left (ap numbersOf (fields-last R K bytes count j at last))
+    pub filling-last : fieldCount R K ≤ j → Filled R vs w
+    filling-last last = none-left (ap numbersOf (fields-last R K bytes (fieldCount R K) j at last))
+
+  pub filling-cell : (vs w : List ℕ) (i g at : ℕ) → Filling R K bytes vs w (R + 3 * i + g) at → poolLength R K ≤ length w
+      → (read : Field) (v next : ℕ) → read ≡ field.Value v next → (u : List ℕ) → i < K → g < 3 → read ≡ fieldOf (eqb g 2) K bytes at
+      → u ≡ setCell R w (i + 1) (g + 1) v → Filling R K bytes vs u (R + 3 * i + (g + 1)) next
+  unfolding setCell
+  filling-cell vs w i g at f room read v next value u below low here e =
+      let j = R + 3 * i + g in
+      let after : R + 3 * i + (g + 1) ≡ j + 1 = omega arith in
+      rw (e, after)
+      (filling-value vs w j at f room read v next value (cellAt R (i + 1) (g + 1)) (omega arith) (here ∙ at-cell R K bytes at i g low)
+      (omega (arith, place-cell R j (omega arith))))

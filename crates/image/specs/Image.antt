@@ -62,9 +62,13 @@ bounded free most over number.OutOfRange = field.Refused refusal.OutOfRange
 abbrev pub countAt : ℕ → List ℕ → Field
 countAt n bytes = bounded false n refusal.TooManyCells (readAt bytes 0)
 
--- Number j behind K. "Are registers and links at most K? No: 8."
+-- A number behind K, a value or not. "Are registers and links at most K? No: 8."
+abbrev pub fieldOf : Bool → ℕ → List ℕ → ℕ → Field
+fieldOf free K bytes at = bounded free K refusal.LinkRange (readAt bytes at)
+
+-- Number j behind K.
 abbrev pub fieldAt : ℕ → ℕ → List ℕ → ℕ → ℕ → Field
-fieldAt R K bytes j at = bounded (isValue R j) K refusal.LinkRange (readAt bytes at)
+fieldAt R K bytes j at = fieldOf (isValue R j) K bytes at
 
 -- Some numbers of an image and the place behind them, or the first fault.
 pub data Fields : Type 0 where

@@ -6,8 +6,8 @@ ghost use mathlib.Core.Path.{_≡_};
 ghost use Prim.Native.Nat.{_+_, _<_, _≤_};
 ghost use lib.ListN.{length};
 ghost use Rattle.pool.specs.Layout.{cellLimit, registerCount, poolLength};
-ghost use Rattle.image.specs.Image.{isValue, bounded, fieldAt, fieldCount, readFields, withFields, readImage};
-ghost use Rattle.image.specs.Load.{scanOf, fieldPlace, numbersOf, Filled, sweepState, markStates, loadOf, checkOf, Handed};
+ghost use Rattle.image.specs.Image.{bounded, fieldOf, fieldCount, readFields, withFields, readImage};
+ghost use Rattle.image.specs.Load.{scanOf, numbersOf, Filled, sweepState, markStates, loadOf, checkOf, Handed};
 
 // A number of an image, and the place behind it, or why it is refused.
 pub enum Field {
@@ -51,38 +51,22 @@ fn bounded(number: Number, free: bool, most: u32, over: Refusal) -> Field
     }
 }
 
-// Is number j behind the number of cells a value, and no link?
-fn is_value(j: u32) -> bool
-    ensures { λ r. ⌜ r ≡ isValue registerCount j ⌝ }
+// A number of an image behind its number of cells, k: a value, which is free, or a link, which is at most k.
+fn read_field(bytes: &[u8], at: usize, k: u32, free: bool) -> Field
+    ensures { λ r. ⌜ r ≡ fieldOf free k (now (bytes .entry)) at ⌝ }
 {
-    if j < Pool::REGISTERS {
-        return false;
-    }
-    (j - Pool::REGISTERS) % 3 == 2
+    bounded(reader::number_at(bytes, at), free, k, Refusal::LinkRange)
 }
 
-// Number j behind the number of cells, which is k.
-fn read_field(bytes: &[u8], at: usize, k: u32, j: u32) -> Field
-    ensures { λ r. ⌜ r ≡ fieldAt registerCount k (now (bytes .entry)) j at ⌝ }
-{
-    bounded(
-        reader::number_at(bytes, at),
-        is_value(j),
-        k,
-        Refusal::LinkRange,
-    )
-}
-
-// Reads all numbers behind the number of cells, without a write.
+// Reads all numbers behind the number of cells, without a write: the registers, then left, right and value of each cell.
 fn scan_fields(bytes: &[u8], start: usize, k: u32) -> Scan
     requires { ⌜ k ≤ cellLimit ⌝ }
     ensures { λ r. ⌜ r ≡ scanOf (withFields k start (readFields registerCount k (now (bytes .entry)) (fieldCount registerCount k) 0 start)) ⌝ }
 {
-    let count = Pool::REGISTERS + 3 * k;
-    let mut j = 0;
     let mut at = start;
-    while j < count {
-        match read_field(bytes, at, k, j) {
+    let mut j = 0;
+    while j < Pool::REGISTERS {
+        match read_field(bytes, at, k, false) {
             Field::Value { value: _, next } => {
                 at = next;
                 j += 1;
@@ -91,6 +75,22 @@ fn scan_fields(bytes: &[u8], start: usize, k: u32) -> Scan
                 return Scan::Refused(why);
             },
         }
+    }
+    let mut i = 0;
+    while i < k {
+        let mut f: u32 = 0;
+        while f < 3 {
+            match read_field(bytes, at, k, f == 2) {
+                Field::Value { value: _, next } => {
+                    at = next;
+                    f += 1;
+                },
+                Field::Refused(why) => {
+                    return Scan::Refused(why);
+                },
+            }
+        }
+        i += 1;
     }
     Scan::Whole {
         cells: k,
@@ -131,33 +131,33 @@ pub extern "C" fn check_image(bytes: &[u8], n: u32) -> u32
     }
 }
 
-// The word of a pool for number j of an image behind its number of cells.
-fn field_place(j: u32) -> usize
-    ensures { λ r. ⌜ r ≡ fieldPlace registerCount j ⌝ }
-{
-    if j < Pool::REGISTERS {
-        return Pool::FIRST_REGISTER + j as usize;
-    }
-    let i = (j - Pool::REGISTERS) as usize;
-    Pool::FIRST_CELL + Pool::CELL_WORDS * (i / 3) + (i % 3 + 1)
-}
-
 // Writes the numbers behind the number of cells to their words.
 fn fill(words: &mut [u32], bytes: &[u8], start: usize, k: u32)
     requires { ⌜ (k ≤ cellLimit) × (poolLength registerCount k ≤ length (now words)) ⌝ }
     ensures { λ _. ⌜ Filled registerCount (numbersOf (readFields registerCount k (now (bytes .entry)) (fieldCount registerCount k) 0 start)) (now (words .exit)) ⌝ }
 {
-    let count = Pool::REGISTERS + 3 * k;
-    let mut j = 0;
     let mut at = start;
-    while j < count {
-        let Field::Value { value, next } = read_field(bytes, at, k, j) else {
+    let mut j = 0;
+    while j < Pool::REGISTERS {
+        let Field::Value { value, next } = read_field(bytes, at, k, false) else {
             return;
         };
-        let place = field_place(j);
-        words[place] = value;
+        pool::write_register(words, j, value);
         at = next;
         j += 1;
+    }
+    let mut i = 0;
+    while i < k {
+        let mut f = 0;
+        while f < 3 {
+            let Field::Value { value, next } = read_field(bytes, at, k, f == 2) else {
+                return;
+            };
+            pool::write_cell(words, i + 1, f + 1, value);
+            at = next;
+            f += 1;
+        }
+        i += 1;
     }
 }
 

@@ -2,12 +2,11 @@
 use Prim.Native.Nat.{ℕ, zero, suc, _+_, _-_, _<_, _≤_}
 use native.Mathlib.Omega.{arith}
 use native.Mathlib.Decide.{ℕ-discrete}
-use mathlib.Core.Path.{_≡_, refl, sym, ap, _∙_}
+use mathlib.Core.Path.{_≡_, refl, sym, _∙_}
 use mathlib.Core.List.{List}
 use mathlib.Core.Bool.{Bool, true, false, cond}
 use lib.ListN.{length, getD}
-use Rattle.pool.specs.Words.{tabulate}
-use Rattle.pool.specs.Layout.{poolLength, cellAt, cell, head, state}
+use Rattle.pool.specs.Layout.{poolLength, cell, head, state}
 use Rattle.pool.specs.Retain.{lowestFree, freeAbove, retainedField, retainedWord, retain, keptCount}
 use Rattle.pool.proofs.Every.{tabulate-list}
 use Rattle.pool.proofs.Retained.{Place, place, word-stays, word-field, retain-cell, retain-elsewhere, length-retain, retain-cong, kept-most}

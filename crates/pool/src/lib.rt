@@ -5,7 +5,7 @@
 ghost use mathlib.Core.Path.{_≡_};
 ghost use Prim.Native.Nat.{_+_, _<_, _≤_};
 ghost use lib.ListN.{length, replicate};
-ghost use Rattle.pool.specs.Layout.{cellLimit, registerCount, poolLength, cellsOfLength, cellsOf, cell, setCell, register, setRegister, head, setHead};
+ghost use Rattle.pool.specs.Layout.{registerCount, poolLength, cellsOfLength, cellsOf, cell, setCell, register, setRegister, head, setHead};
 ghost use Rattle.pool.specs.Validity.{validLink, validCell, registersValid, cellsValid, wellFormed};
 ghost use Rattle.pool.specs.Retain.{sweepOf, freeCell};
 ghost use Rattle.pool.specs.Outcome.{refusalNumber, freshOutcome, occupiedOutcome};

@@ -51,106 +51,92 @@ module _ (k : ℕ) (f : ℕ → ℕ) where
         | no last ↦ let same : i ≡ suc j = omega arith in rw same (omega arith)
       ]
 
-  -- The size of the first numbers, as the loop sums it.
-  pub record Sizing (count size j : ℕ) : Type 0 where
-    pub few : j ≤ count
+  -- The size of the first numbers, as the loops sum it.
+  pub record Sizing (size j : ℕ) : Type 0 where
     pub sum : size ≡ length (start j)
     pub most : size ≤ 5 * (j + 1)
 
-  pub sizing-first : (count size : ℕ) → size ≡ length (encode k) → Sizing count size 0
-  sizing-first count size e =
-      record { few = omega arith; sum = e ∙ ap length (sym start-none); most = omega (arith, encode-size k) }
+  pub sizing-first : (size : ℕ) → size ≡ length (encode k) → Sizing size 0
+  sizing-first size e = record { sum = e ∙ ap length (sym start-none); most = omega (arith, encode-size k) }
 
-  pub sizing-more : (count size j v add : ℕ) → Sizing count size j → j < count → v ≡ f j → add ≡ length (encode v)
-      → Sizing count (size + add) (j + 1)
-  sizing-more count size j v add s more e a =
+  pub sizing-more : (size j v add : ℕ) → Sizing size j → v ≡ f j → add ≡ length (encode v) → Sizing (size + add) (j + 1)
+  sizing-more size j v add s e a =
       let long : add ≡ length (encode (f j)) = a ∙ ap (λ (x : ℕ). length (encode x)) e in
       record {
-        few = omega arith;
         sum = omega (arith, s .sum, ap length (start-more j), length-append (start j) (encode (f j)));
         most = omega (arith, s .most, encode-size (f j));
       }
 
-  -- The output with the bytes of the first numbers, as the loop writes them.
-  pub record Output (count : ℕ) (out₀ out : List ℕ) (at j : ℕ) : Type 0 where
-    pub few : j ≤ count
+  -- From the output out₀ to out, the bytes of k and the first j numbers are written, up to the place `at`.
+  pub record Output (out₀ out : List ℕ) (at j : ℕ) : Type 0 where
     pub place : at ≡ length (start j)
     pub bytes : out ≡ start j ++ drop at out₀
     pub len : length out ≡ length out₀
 
-  pub output-first-room : (count : ℕ) (out₀ : List ℕ) → length (start count) ≤ length out₀ → 0 + length (encode k) ≤ length out₀
-  output-first-room count out₀ room = omega (arith, ap length start-none, start-grows 0 count (omega arith))
+  pub output-first-room : (count : ℕ) (out : List ℕ) → length (start count) ≤ length out → 0 + length (encode k) ≤ length out
+  output-first-room count out room = omega (arith, ap length start-none, start-grows 0 count (omega arith))
 
-  -- k is written first, which makes `out₁` of the output `out₀`.
-  module _ (count : ℕ) (out₀ out₁ : List ℕ) (room : length (start count) ≤ length out₀)
-      (first : out₁ ≡ take 0 out₀ ++ encode k ++ drop (0 + length (encode k)) out₀) (same : length out₁ ≡ length out₀) where
-    -- Behind k the output is as it was.
-    behind : (m : ℕ) → drop (length (encode k) + m) out₁ ≡ drop (length (encode k) + m) out₀
+  pub output-first : (out₀ out : List ℕ) (at : ℕ) → at ≡ 0 + length (encode k)
+      → out ≡ take 0 out₀ ++ encode k ++ drop (0 + length (encode k)) out₀ → length out ≡ length out₀ → Output out₀ out at 0
+  output-first out₀ out at place bytes len =
+      record {
+        place = omega (arith, ap length start-none);
+        bytes = bytes ∙ ap₂ (λ (a b : List ℕ). a ++ b) (sym start-none) (ap (λ (x : ℕ). drop x out₀) (sym place));
+        len = len;
+      }
+
+  module _ (out₀ out : List ℕ) (at j : ℕ) (o : Output out₀ out at j) where
+    -- Behind that place the output is as it was.
+    behind : (m : ℕ) → drop (at + m) out ≡ drop (at + m) out₀
     behind m =
-        let place : 0 + length (encode k) + m ≡ length (encode k) + m = omega arith in
-        ap (drop (length (encode k) + m)) first
-        ∙ (drop-append-add (encode k) (drop (0 + length (encode k)) out₀) m
-        ∙ (drop-drop m (0 + length (encode k)) out₀ ∙ ap (λ (x : ℕ). drop x out₀) place))
+        ap (drop (at + m)) (o .bytes)
+        ∙ (ap (λ (x : ℕ). drop (x + m) (start j ++ drop at out₀)) (o .place)
+        ∙ (drop-append-add (start j) (drop at out₀) m ∙ drop-drop m at out₀))
 
-    pub output-first : (at : ℕ) → at ≡ 0 + length (encode k) → Output count out₁ out₁ at 0
-    output-first at place =
-        let here : at ≡ length (encode k) + 0 = omega arith in
+    -- It is seen as written to what it is now, or, if that was written before, to what it was then.
+    pub output-again : Output out out at j
+    output-again =
+        let here : at + 0 ≡ at = omega arith in
+        record { place = o .place; bytes = o .bytes ∙ ap (λ (l : List ℕ). start j ++ l) (rw here at (sym (behind 0))); len = refl }
+
+    -- There is room for the next number.
+    pub output-room : (count v : ℕ) → length (start count) ≤ length out → j < count → v ≡ f j → at + length (encode v) ≤ length out
+    output-room count v room more e =
+        omega (
+          arith,
+          o .place,
+          ap (λ (x : ℕ). length (encode x)) e,
+          ap length (start-more j),
+          length-append (start j) (encode (f j)),
+          start-grows (j + 1) count (omega arith),
+        )
+
+    pub output-more : (next : List ℕ) (v after : ℕ) → v ≡ f j → after ≡ at + length (encode v)
+        → next ≡ take at out ++ encode v ++ drop (at + length (encode v)) out → length next ≡ length out → Output out₀ next after (j + 1)
+    output-more next v after e place bytes len =
         record {
-          few = omega arith;
-          place = omega (arith, ap length start-none);
+          place = omega (arith, o .place, ap length (start-more j), length-append (start j) (encode (f j)), ap (λ (x : ℕ). length (encode x)) e);
           bytes =
-              first
-              ∙ ap₂ (λ (a b : List ℕ). a ++ b) (sym start-none)
-              (ap (λ (x : ℕ). drop x out₀) (sym place ∙ here) ∙ (sym (behind 0) ∙ ap (λ (x : ℕ). drop x out₁) (sym here)));
-          len = refl;
+              bytes
+              ∙ ap₂ (λ (a b : List ℕ). a ++ b) front
+              (behind (length (encode v)) ∙ ap (λ (x : ℕ). drop x out₀) (sym place));
+          len = len ∙ o .len;
         }
+      where
+        front : take at out ++ encode v ≡ start (j + 1)
+        front =
+            rw (start-more j)
+            (ap₂ (λ (a b : List ℕ). a ++ b) (ap (take at) (o .bytes) ∙ take-at (start j) (drop at out₀) at (sym (o .place))) (ap encode e))
 
-    module _ (out : List ℕ) (at j : ℕ) (o : Output count out₁ out at j) where
-      -- There is room for the next number.
-      pub output-room : (v : ℕ) → j < count → v ≡ f j → at + length (encode v) ≤ length out
-      output-room v more e =
-          omega (
-            arith,
-            o .place,
-            o .len,
-            ap (λ (x : ℕ). length (encode x)) e,
-            ap length (start-more j),
-            length-append (start j) (encode (f j)),
-            start-grows (j + 1) count (omega arith),
-          )
-
-      pub output-more : (next : List ℕ) (v after : ℕ) → j < count → v ≡ f j → after ≡ at + length (encode v)
-          → next ≡ take at out ++ encode v ++ drop (at + length (encode v)) out → length next ≡ length out
-          → Output count out₁ next after (j + 1)
-      output-more next v after more e place bytes len =
-          record {
-            few = omega arith;
-            place = omega (arith, o .place, ap length (start-more j), length-append (start j) (encode (f j)), ap (λ (x : ℕ). length (encode x)) e);
-            bytes = bytes ∙ ap₂ (λ (a b : List ℕ). a ++ b) front back;
-            len = len ∙ o .len;
-          }
-        where
-          front : take at out ++ encode v ≡ start (j + 1)
-          front =
-              rw (start-more j)
-              (ap₂ (λ (a b : List ℕ). a ++ b) (ap (take at) (o .bytes) ∙ take-at (start j) (drop at out₁) at (sym (o .place))) (ap encode e))
-
-          back : drop (at + length (encode v)) out ≡ drop after out₁
-          back =
-              ap (λ (l : List ℕ). drop (at + length (encode v)) l) (o .bytes)
-              ∙ (ap (λ (x : ℕ). drop (x + length (encode v)) (start j ++ drop at out₁)) (o .place)
-              ∙ (drop-append-add (start j) (drop at out₁) (length (encode v))
-              ∙ (drop-drop (length (encode v)) at out₁ ∙ ap (λ (x : ℕ). drop x out₁) (sym place))))
-
-      pub output-last : count ≤ j → out ≡ start count ++ drop (length (start count)) out₀
-      output-last last =
-          let all : j ≡ count = omega (arith, o .few) in
-          let m = length (start count) - length (encode k) in
-          let long : length (start count) ≡ length (encode k) + m = omega (arith, ap length start-none, start-grows 0 count (omega arith)) in
-          o .bytes
-          ∙ (rw (o .place, all)
-          (ap (λ (l : List ℕ). start count ++ l)
-          (ap (λ (x : ℕ). drop x out₁) long ∙ (behind m ∙ ap (λ (x : ℕ). drop x out₀) (sym long)))))
+  pub output-after : (out₀ out₁ out : List ℕ) (at₁ at i j : ℕ) → Output out₀ out₁ at₁ i → Output out₁ out at j → i ≤ j → Output out₀ out at j
+  output-after out₀ out₁ out at₁ at i j o p later =
+      let m = at - at₁ in
+      let far : at ≡ at₁ + m = omega (arith, o .place, p .place, start-grows i j later) in
+      record {
+        place = p .place;
+        bytes = p .bytes ∙ ap (λ (l : List ℕ). start j ++ l) (rw far (behind out₀ out₁ at₁ i o m));
+        len = p .len ∙ o .len;
+      }
 
 -- The image of the pool is that of its number of cells and all its numbers.
 pub image-start : (R n : ℕ) (w : List ℕ) (k : ℕ) → k ≡ keptCells R n w
@@ -175,9 +161,11 @@ module _ (out last : List ℕ) (at v : ℕ) (r : Written) (room : at + length (e
       let never : written.NoRoom ≡ written.Next (at + length (encode v)) = sym is ∙ ap (λ x. x .0) (wrote e) in
       let z : _≡_ {A = ℕ} 0 1 = cc in omega arith
 
--- The whole size.
-pub sizing-last : (R n : ℕ) (w : List ℕ) (k size j : ℕ) → k ≡ keptCells R n w → Sizing k (savedField R w (reachedCells R n w)) (fieldCount R k) size j
-    → fieldCount R k ≤ j → size ≡ length (imageOf R n w)
-sizing-last R n w k size j e s last =
-    let all : j ≡ fieldCount R k = omega (arith, s .few) in
-    rw (image-start R n w k e) (rw all at (s .sum))
+-- The whole size, and the whole output.
+module _ (R n : ℕ) (w : List ℕ) (k : ℕ) (kept : k ≡ keptCells R n w) where
+  pub sizing-last : (size j : ℕ) → Sizing k (savedField R w (reachedCells R n w)) size j → j ≡ fieldCount R k → size ≡ length (imageOf R n w)
+  sizing-last size j s all = rw (image-start R n w k kept) (rw all at (s .sum))
+
+  pub output-last : (out₀ out : List ℕ) (at j : ℕ) → Output k (savedField R w (reachedCells R n w)) out₀ out at j → j ≡ fieldCount R k
+      → out ≡ imageOf R n w ++ drop (length (imageOf R n w)) out₀
+  output-last out₀ out at j o all = rw (image-start R n w k kept) (rw all at (rw (o .place) at (o .bytes)))

@@ -1,20 +1,21 @@
 -- The numbers of an image, read from the pool and the scratch.
-use Prim.Native.Nat.{ℕ, zero, suc, _+_, _-_, _/_, _%_, _<_, _≤_}
+use Prim.Native.Nat.{ℕ, zero, suc, _+_, _*_, _<_, _≤_}
 use native.Mathlib.Omega.{arith}
 use native.Mathlib.Numerals.{add-one}
-use mathlib.Core.Path.{_≡_, sym, _∙_}
+use mathlib.Core.Path.{_≡_, sym, ap, _∙_}
 use mathlib.Core.List.{List, List·Memᴰ}
 use lib.ListN.{length, getD}
-use borrow.Author.Tests.{lt-ltb, le-ltb, eq-eqb, ne-eqb}
+use borrow.Author.Tests.{eq-eqb, ne-eqb}
 use Rattle.graph.proofs.Lists.{getD-member}
 use Rattle.graph.proofs.Theorems.{order-reached, order-length}
 use Rattle.pool.specs.Layout.{register, cell, graphOf, rootsOf}
 use Rattle.pool.proofs.WellFormed.{Link, WellFormed, well-formed-read}
 use Rattle.pool.proofs.PoolGraph.{Used, link-bound, used-links, reached-used, pool-within}
 use Rattle.collector.specs.Collect.{reachedCells, keptCells}
-use Rattle.image.specs.Image.{numberIn, fieldCount, savedField}
+use Rattle.image.specs.Image.{numberIn, savedField}
 use Rattle.save.specs.Steps.{Savable, numberAt, Ordered}
 use Rattle.save.proofs.Numbering.{place-none}
+use Rattle.save.proofs.SavedFields.{field-register, field-value, field-link}
 
 module _ (R n : ℕ) (w s : List ℕ) (savable : Savable R n w (length s)) where
   well : WellFormed R n w
@@ -37,34 +38,38 @@ module _ (R n : ℕ) (w s : List ℕ) (savable : Savable R n w (length s)) where
     link-numbered x (Link.used low high used) = simp (ne-eqb x 0 (λ e. omega arith)) (ordered .numbers x low high)
 
     pub saved-register : (j v : ℕ) → j < R → v ≡ numberAt s (register w j) → v ≡ savedField R w (reachedCells R n w) j
-    saved-register j v low e = e ∙ (link-numbered (register w j) (well .registers j low) ∙ simp (lt-ltb j R low))
+    saved-register j v low e = e ∙ (link-numbered (register w j) (well .registers j low) ∙ sym (field-register R w (reachedCells R n w) j low))
 
-    module _ (j : ℕ) (high : R ≤ j) (below : j < fieldCount R (keptCells R n w)) where
-      -- The cell whose fields stand there.
+    module _ (p : ℕ) (below : p < keptCells R n w) where
+      -- The image's cell p.
       abbrev cellHere : ℕ
-      cellHere = getD s (n + (j - R) / 3) 0
+      cellHere = getD s (n + p) 0
 
-      cell-order : cellHere ≡ getD (reachedCells R n w) ((j - R) / 3) 0
-      cell-order = ordered .cells ((j - R) / 3) (omega arith)
+      cell-order : cellHere ≡ getD (reachedCells R n w) p 0
+      cell-order = ordered .cells p below
 
       pub cell-used : Used R n w cellHere
-      cell-used = rw cell-order (order-used _ (getD-member (reachedCells R n w) ((j - R) / 3) (omega arith)))
+      cell-used = rw cell-order (order-used _ (getD-member (reachedCells R n w) p below))
 
-      link-here : (f : ℕ) → f < 2 → Link R n w (cell R w cellHere (suc f))
-      link-here zero h = used-links well cell-used .0
-      link-here (suc zero) h = used-links well cell-used .1
-      link-here (suc (suc f)) h = absurd (omega arith)
+      pub saved-value : (v f : ℕ) → f ≡ 2 → v ≡ cell R w cellHere 3 → v ≡ savedField R w (reachedCells R n w) (R + 3 * p + f)
+      saved-value v f last e =
+          rw last (e ∙ (ap (λ (x : ℕ). cell R w x 3) cell-order ∙ sym (field-value R w (reachedCells R n w) p)))
 
-      pub saved-value : (v : ℕ) → (j - R) % 3 ≡ 2 → v ≡ cell R w cellHere 3 → v ≡ savedField R w (reachedCells R n w) j
-      saved-value v last e = e ∙ simp (cell-order, le-ltb j R high, eq-eqb ((j - R) % 3) 2 last)
+      link-of : (f : ℕ) → f < 2 → Link R n w (cell R w cellHere (f + 1))
+      link-of zero h = used-links well cell-used .0
+      link-of (suc zero) h = used-links well cell-used .1
+      link-of (suc (suc f)) h = absurd (omega arith)
 
-      module _ (other : (j - R) % 3 ≡ 2 → ⊥) where
-        here : Link R n w (cell R w cellHere ((j - R) % 3 + 1))
-        here = rw (add-one ((j - R) % 3)) (link-here ((j - R) % 3) (omega (arith, other)))
+      module _ (f : ℕ) (low : f < 3) (other : f ≡ 2 → ⊥) where
+        here : Link R n w (cell R w cellHere (f + 1))
+        here = link-of f (omega (arith, other))
 
-        pub link-here-bound : cell R w cellHere ((j - R) % 3 + 1) ≤ n
+        pub link-here-bound : cell R w cellHere (f + 1) ≤ n
         link-here-bound = link-bound here
 
-        pub saved-link : (v : ℕ) → v ≡ numberAt s (cell R w cellHere ((j - R) % 3 + 1)) → v ≡ savedField R w (reachedCells R n w) j
+        pub saved-link : (v : ℕ) → v ≡ numberAt s (cell R w cellHere (f + 1)) → v ≡ savedField R w (reachedCells R n w) (R + 3 * p + f)
         saved-link v e =
-            e ∙ (link-numbered _ here ∙ simp (add-one ((j - R) % 3), cell-order, le-ltb j R high, ne-eqb ((j - R) % 3) 2 other))
+            e
+            ∙ (link-numbered _ here
+            ∙ (ap (λ (x : ℕ). numberIn (reachedCells R n w) (cell R w x (f + 1))) cell-order
+            ∙ (rw (add-one f) (sym (field-link R w (reachedCells R n w) p f (omega (arith, other)))))))

@@ -5,11 +5,11 @@ use pool::Refusal;
 ghost use mathlib.Core.Path.{_≡_};
 ghost use mathlib.Core.List.{_++_};
 ghost use Prim.Native.Nat.{_+_, _*_, _<_, _≤_};
-ghost use lib.ListN.{length, take, drop, replicate};
+ghost use lib.ListN.{length, take, drop};
 ghost use Rattle.leb128.specs.Leb128.{encode};
 ghost use Rattle.pool.specs.Layout.{registerCount};
 ghost use Rattle.collector.specs.Collect.{reachedCells, keptCells};
-ghost use Rattle.image.specs.Image.{fieldCount, savedField, imageOf};
+ghost use Rattle.image.specs.Image.{savedField, imageOf};
 ghost use Rattle.save.specs.Save.{savedOutcome, saveImage, saveOf};
 ghost use Rattle.save.specs.Steps.{numberAt, isNew, Savable, Clear, Numbered, NumbersWithin, Listed, Ordered};
 
@@ -89,20 +89,16 @@ fn link_number(scratch: &[u32], x: u32) -> u32
     scratch[x as usize - 1]
 }
 
-// Number j of the image behind its number of cells.
-fn image_number(words: &[u32], scratch: &[u32], n: u32, j: u32) -> u32
-    requires { ⌜ Savable registerCount n (now words) (length (now scratch)) × Ordered registerCount n (now words) (now scratch) × (j < fieldCount registerCount (keptCells registerCount n (now words))) ⌝ }
-    ensures { λ r. ⌜ r ≡ savedField registerCount (now (words .entry)) (reachedCells registerCount n (now (words .entry))) j ⌝ }
+// Number f of the three of the image's cell p, from 0: its left link, its right link, its value.
+fn cell_number(words: &[u32], scratch: &[u32], n: u32, p: u32, f: usize) -> u32
+    requires { ⌜ Savable registerCount n (now words) (length (now scratch)) × Ordered registerCount n (now words) (now scratch) × (p < keptCells registerCount n (now words)) × (f < 3) ⌝ }
+    ensures { λ r. ⌜ r ≡ savedField registerCount (now (words .entry)) (reachedCells registerCount n (now (words .entry))) (registerCount + 3 * p + f) ⌝ }
 {
-    if j < Pool::REGISTERS {
-        return link_number(scratch, pool::read_register(words, j));
-    }
-    let i = (j - Pool::REGISTERS) as usize;
-    let cell = scratch[n as usize + i / 3];
-    if i % 3 == 2 {
+    let cell = scratch[n as usize + p as usize];
+    if f == 2 {
         return pool::read_cell(words, cell, Pool::VALUE);
     }
-    link_number(scratch, pool::read_cell(words, cell, i % 3 + 1))
+    link_number(scratch, pool::read_cell(words, cell, f + 1))
 }
 
 // The number of bytes of the image of k cells.
@@ -110,12 +106,20 @@ fn image_size(words: &[u32], scratch: &[u32], n: u32, k: u32) -> usize
     requires { ⌜ Savable registerCount n (now words) (length (now scratch)) × Ordered registerCount n (now words) (now scratch) × (k ≡ keptCells registerCount n (now words)) ⌝ }
     ensures { λ r. ⌜ r ≡ length (imageOf registerCount n (now (words .entry))) ⌝ }
 {
-    let count = Pool::REGISTERS + 3 * k;
     let mut size = leb128::number_size(k);
     let mut j = 0;
-    while j < count {
-        size += leb128::number_size(image_number(words, scratch, n, j));
+    while j < Pool::REGISTERS {
+        size += leb128::number_size(link_number(scratch, pool::read_register(words, j)));
         j += 1;
+    }
+    let mut p = 0;
+    while p < k {
+        let mut f = 0;
+        while f < 3 {
+            size += leb128::number_size(cell_number(words, scratch, n, p, f));
+            f += 1;
+        }
+        p += 1;
     }
     size
 }
@@ -136,12 +140,20 @@ fn write_image(words: &[u32], scratch: &[u32], n: u32, k: u32, out: &mut [u8])
     requires { ⌜ Savable registerCount n (now words) (length (now scratch)) × Ordered registerCount n (now words) (now scratch) × (k ≡ keptCells registerCount n (now words)) × (length (imageOf registerCount n (now words)) ≤ length (now out)) ⌝ }
     ensures { λ _. ⌜ now (out .exit) ≡ imageOf registerCount n (now (words .entry)) ++ drop (length (imageOf registerCount n (now (words .entry)))) (now (out .entry)) ⌝ }
 {
-    let count = Pool::REGISTERS + 3 * k;
     let mut at = put_number(out, 0, k);
     let mut j = 0;
-    while j < count {
-        at = put_number(out, at, image_number(words, scratch, n, j));
+    while j < Pool::REGISTERS {
+        at = put_number(out, at, link_number(scratch, pool::read_register(words, j)));
         j += 1;
+    }
+    let mut p = 0;
+    while p < k {
+        let mut f = 0;
+        while f < 3 {
+            at = put_number(out, at, cell_number(words, scratch, n, p, f));
+            f += 1;
+        }
+        p += 1;
     }
 }
 

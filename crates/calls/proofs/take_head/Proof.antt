@@ -2,6 +2,7 @@
 use borrow.Author.Needs.{needs}
 use Rattle.calls.proofs.take_head.Statement.{statement}
 use Rattle.calls.proofs.take_head.Tie as tie
+use Rattle.calls.proofs.Allocate.{taken}
 
 read-head-requires : tie.Need-read-head-requires
 read-head-requires c κs = search needs
@@ -31,7 +32,15 @@ same-length : tie.Need-same-length
 same-length c = search needs
 
 returns : tie.Need-returns
-returns c = cc
+returns c =
+    let read = c .before .before .before .before .before .before .before .before .before .before .before .before .before .before .before .before .before .before .before .before .before .before .before .before in
+    taken _ _ _ _ _ (read .before .before .read-head .ensures) (read .read-cell .ensures)
+    (c .before .before .before .before .before .before .before .before .before .before .before .before .before .before .before .before .before .before .before .before .before .before .write-cell .ensures)
+    (c .before .before .before .before .before .before .before .before .before .before .before .before .before .before .before .before .before .before .write-cell2 .ensures)
+    (c .before .before .before .before .before .before .before .before .before .before .before .before .before .before .write-cell3 .ensures)
+    (c .before .before .before .before .before .before .before .before .before .before .write-cell4 .ensures)
+    (c .before .before .before .before .before .before .write-head .ensures)
+    (c .before .before .write-register .ensures)
 
 pub take-head-spec : {M : Type 1} → statement M
 take-head-spec =

@@ -2,39 +2,29 @@
 use borrow.Author.Needs.{needs}
 use Rattle.collector.proofs.collect.Statement.{statement}
 use Rattle.collector.proofs.collect.Tie as tie
-use Rattle.collector.proofs.collect.Reads as reads
-use Rattle.collector.proofs.collect.Lts as lts
-use Rattle.collector.proofs.collect_in.Reads as collect-in-reads
-use Rattle.pool.proofs.cells.Reads as cells-reads
 use native.Mathlib.Omega.{arith}
 use denote.Ref.{now}
 use borrow.Author.Tests.{lt-ltb}
 use Rattle.pool.specs.Layout.{registerCount}
 use Rattle.pool.proofs.Questions.{some-cells}
 
--- src/lib.rt:132:9
 cells-requires : tie.Need-cells-requires
 cells-requires c κs = search needs
 
--- src/lib.rt:134:9
 same-length : tie.Need-same-length
 same-length c = search needs
 
--- src/lib.rt:134:9
 returns : tie.Need-returns
 returns c = simp (← c .before .cells .ensures, c .if1 .taken)
 
--- src/lib.rt:136:5
 collect-in-requires : tie.Need-collect-in-requires
 collect-in-requires c κs =
     let sized = some-cells registerCount (now (c .before .before .before .before .before .args .words)) _ (c .before .before .cells .ensures) (c .before .if1 .left) in
     omega (arith, sized)
 
--- src/lib.rt:129:1
 same-length-2 : tie.Need-same-length-2
 same-length-2 c = search needs
 
--- src/lib.rt:129:1
 returns-2 : tie.Need-returns-2
 returns-2 c = simp (← c .before .before .before .before .before .cells .ensures, lt-ltb 0 (c .before .before .before .before .before .cells .result) (omega arith)) (c .before .before .collect-in .ensures)
 

@@ -2,40 +2,28 @@
 use borrow.Author.Needs.{needs}
 use Rattle.collector.proofs.collect_in.Statement.{statement}
 use Rattle.collector.proofs.collect_in.Tie as tie
-use Rattle.collector.proofs.collect_in.Reads as reads
-use Rattle.collector.proofs.collect_in.Lts as lts
-use Rattle.collector.proofs.mark.Reads as mark-reads
-use Rattle.pool.proofs.sweep.Reads as sweep-reads
-use Rattle.pool.proofs.well_formed.Reads as well-formed-reads
 use mathlib.Core.Path.{sym, _∙_}
 use Rattle.collector.proofs.MarkSweep.{collect-made}
 
--- src/lib.rt:119:8
 well-formed-requires : tie.Need-well-formed-requires
 well-formed-requires c κs = search needs
 
--- src/lib.rt:120:13
 mark-requires : tie.Need-mark-requires
 mark-requires c κs = (sym (c .before .before .well-formed .ensures) ∙ c .before .if1 .taken, c .before .before .before .before .before .pre .0, c .before .before .before .before .before .pre .1)
 
--- src/lib.rt:121:13
 sweep-requires : tie.Need-sweep-requires
 sweep-requires c κs = search needs
 
--- src/lib.rt:115:1
 same-length : tie.Need-same-length
 same-length c = search needs
 
--- src/lib.rt:115:1
 returns : tie.Need-returns
 returns c =
     collect-made _ _ _ _ _ _ (sym (c .before .before .before .before .before .before .before .before .before .well-formed .ensures) ∙ c .before .before .before .before .before .before .before .before .if1 .taken) (c .before .before .before .before .before .before .before .before .before .before .before .before .pre .0) (c .before .before .before .before .before .before .mark .ensures) (c .before .before .sweep .ensures)
 
--- src/lib.rt:115:1
 same-length-2 : tie.Need-same-length-2
 same-length-2 c = search needs
 
--- src/lib.rt:115:1
 returns-2 : tie.Need-returns-2
 returns-2 c = simp (sym (c .before .well-formed .ensures) ∙ c .if1 .left)
 

@@ -2,20 +2,14 @@
 use borrow.Author.Needs.{needs}
 use Rattle.collector.proofs.is_unmarked.Statement.{statement}
 use Rattle.collector.proofs.is_unmarked.Tie as tie
-use Rattle.collector.proofs.is_unmarked.Reads as reads
-use Rattle.collector.proofs.is_unmarked.Lts as lts
-use Rattle.pool.proofs.read_cell.Reads as read-cell-reads
 use borrow.Author.Tests.{eq-eqb, ne-eqb}
 
--- src/lib.rt:35:9
 returns : tie.Need-returns
 returns c = simp (eq-eqb _ _ (c .if1 .taken))
 
--- src/lib.rt:37:5
 read-cell-requires : tie.Need-read-cell-requires
 read-cell-requires c κs = search needs
 
--- src/lib.rt:30:1
 returns-2 : tie.Need-returns-2
 returns-2 c = simp (ne-eqb _ _ (c .before .if1 .left), c .read-cell .ensures)
 

@@ -1,11 +1,6 @@
 -- `collector::mark` meets its contract: the loop makes the runs over the registers (`Marking`), from the first to the last.
 use Rattle.collector.proofs.mark.Statement.{statement}
 use Rattle.collector.proofs.mark.Tie as tie
-use Rattle.collector.proofs.mark.Reads as reads
-use Rattle.collector.proofs.mark.Lts as lts
-use Rattle.collector.proofs.is_unmarked.Reads as is-unmarked-reads
-use Rattle.collector.proofs.mark_from.Reads as mark-from-reads
-use Rattle.pool.proofs.read_register.Reads as read-register-reads
 use Prim.Native.Nat.{_-_}
 use native.Mathlib.Omega.{arith}
 use mathlib.Core.Path.{sym, _∙_}
@@ -18,21 +13,17 @@ Inv-loop words₀ n visits₀ k₀ words visits k = Marking registerCount n word
 abbrev μ-loop : tie.MeasureT-loop
 μ-loop words₀ n visits₀ k₀ words visits k = registerCount - k
 
--- src/lib.rt:102:5
 loop-holds : tie.Need-loop-holds Inv-loop μ-loop
 loop-holds c = marking-first registerCount _ _ (c .before .pre .0) (c .before .pre .1)
 
--- src/lib.rt:103:13
 read-register-requires : tie.Need-read-register-requires Inv-loop μ-loop
 read-register-requires c κs = (c .before .loop-test .taken, omega (arith, c .before .before .before .before .pre .1, c .before .before .loop .inv .len))
 
--- src/lib.rt:104:12
 is-unmarked-requires : tie.Need-is-unmarked-requires Inv-loop μ-loop
 is-unmarked-requires c κs =
     let s = c .before .before .before .before .before .before in
     omega (arith, s .pre .1, c .before .before .before .before .loop .inv .len, marking-bound registerCount _ _ (s .pre .0) (s .pre .1) _ _ _ _ (c .before .before .before .before .loop .inv) (c .before .before .before .loop-test .taken) (c .before .read-register .ensures))
 
--- src/lib.rt:105:13
 mark-from-requires : tie.Need-mark-from-requires Inv-loop μ-loop
 mark-from-requires c κs =
     let s = c .before .before .before .before .before .before .before .before .before in (
@@ -40,39 +31,31 @@ mark-from-requires c κs =
       (omega (arith, s .pre .1, c .before .before .before .before .before .before .before .loop .inv .len), s .pre .2),
     )
 
--- src/lib.rt:106:13
 add-k : tie.Need-add-k Inv-loop μ-loop
 add-k c = omega arith
 
--- src/lib.rt:102:5
 loop-less : tie.Need-loop-less Inv-loop μ-loop
 loop-less c = omega arith
 
--- src/lib.rt:102:5
 loop-again : tie.Need-loop-again Inv-loop μ-loop
 loop-again c =
     let s = c .before .before .before .before .before .before .before .before .before .before .before .before in
     marking-run registerCount _ _ (s .pre .0) (s .pre .1) _ _ _ _ (c .before .before .before .before .before .before .before .before .before .before .loop .inv) (c .before .before .before .before .before .before .before .before .before .loop-test .taken) (c .before .before .before .before .before .before .before .read-register .ensures) _ _ (sym (c .before .before .before .before .before .is-unmarked .ensures) ∙ c .before .before .before .before .if1 .taken) (c .before .before .mark-from .ensures)
 
--- src/lib.rt:108:13
 add-k-2 : tie.Need-add-k-2 Inv-loop μ-loop
 add-k-2 c = omega arith
 
--- src/lib.rt:102:5
 loop-less-2 : tie.Need-loop-less-2 Inv-loop μ-loop
 loop-less-2 c = omega arith
 
--- src/lib.rt:102:5
 loop-again-2 : tie.Need-loop-again-2 Inv-loop μ-loop
 loop-again-2 c =
     let s = c .before .before .before .before .before .before .before .before in
     marking-skip registerCount _ _ (s .pre .0) (s .pre .1) _ _ _ _ (c .before .before .before .before .before .before .loop .inv) (c .before .before .before .before .before .loop-test .taken) (c .before .before .before .read-register .ensures) (sym (c .before .is-unmarked .ensures) ∙ c .if1 .left)
 
--- src/lib.rt:96:1
 same-length : tie.Need-same-length Inv-loop μ-loop
 same-length c = c .before .loop .inv .len
 
--- src/lib.rt:96:1
 returns : tie.Need-returns Inv-loop μ-loop
 returns c = marking-last registerCount _ _ (c .before .before .before .pre .0) (c .before .before .before .pre .1) _ _ _ (c .before .loop .inv) (c .loop-test .left)
 

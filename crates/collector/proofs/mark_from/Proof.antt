@@ -1,9 +1,6 @@
 -- `collector::mark_from` meets its contract: the loop makes the visits of the run (`Going`); what is left of them falls.
 use Rattle.collector.proofs.mark_from.Statement.{statement}
 use Rattle.collector.proofs.mark_from.Tie as tie
-use Rattle.collector.proofs.mark_from.Reads as reads
-use Rattle.collector.proofs.mark_from.Lts as lts
-use Rattle.collector.proofs.Marker.visit.Reads as visit-reads
 use native.Mathlib.Omega.{arith}
 use native.Mathlib.Numerals.{add-one}
 use Rattle.pool.specs.Layout.{registerCount}
@@ -16,34 +13,27 @@ Inv-loop words₀ n p visits m₀ words m = Going registerCount n p visits words
 abbrev μ-loop : tie.MeasureT-loop
 μ-loop words₀ n p visits m₀ words m = remaining registerCount n words
 
--- src/lib.rt:86:19
 add-t6 : tie.Need-add-t6 Inv-loop μ-loop
 add-t6 c = omega (arith, c .before .pre .1 .1)
 
--- src/lib.rt:89:5
 loop-holds : tie.Need-loop-holds Inv-loop μ-loop
 loop-holds c = going-first registerCount _ _ _ _ _ (add-one _)
 
--- src/lib.rt:90:9
 visit-requires : tie.Need-visit-requires Inv-loop μ-loop
 visit-requires c κs =
     let (ready, few) = going-visit registerCount _ _ _ _ _ _ (c .before .before .before .loop .inv) (c .before .before .before .before .before .pre .0) (c .before .if1 .taken) in
     (ready, omega (arith, c .before .before .before .before .before .pre .1 .0, c .before .before .before .loop .inv .len), few)
 
--- src/lib.rt:89:5
 loop-less : tie.Need-loop-less Inv-loop μ-loop
 loop-less c =
     going-less registerCount _ _ _ _ _ _ (c .before .before .before .before .before .before .loop .inv) _ _ (c .before .before .before .before .before .before .before .before .pre .0) (c .before .before .before .before .before .before .before .before .pre .1 .0) (c .before .before .before .before .if1 .taken) (c .before .before .visit .ensures)
 
--- src/lib.rt:89:5
 loop-again : tie.Need-loop-again Inv-loop μ-loop
 loop-again c = going-next registerCount _ _ _ _ _ _ (c .before .before .before .before .before .before .loop .inv) _ _ (c .before .before .before .before .if1 .taken) (c .before .before .visit .ensures)
 
--- src/lib.rt:79:1
 same-length : tie.Need-same-length Inv-loop μ-loop
 same-length c = c .before .before .loop .inv .len
 
--- src/lib.rt:79:1
 returns : tie.Need-returns Inv-loop μ-loop
 returns c = going-last registerCount _ _ _ _ _ _ (c .before .before .loop .inv) (c .if1 .left)
 

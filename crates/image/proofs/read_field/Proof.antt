@@ -7,14 +7,11 @@ use mathlib.Core.Path.{_∙_}
 number-at-requires : tie.Need-number-at-requires
 number-at-requires c κs = search needs
 
-is-value-requires : tie.Need-is-value-requires
-is-value-requires c κs = search needs
-
 bounded-requires : tie.Need-bounded-requires
 bounded-requires c κs = search needs
 
 returns : tie.Need-returns
-returns c = c .bounded .ensures ∙ rw (c .before .is-value .ensures, c .before .before .number-at .ensures)
+returns c = c .bounded .ensures ∙ rw (c .before .number-at .ensures)
 
 pub read-field-spec : {M : Type 1} → statement M
-read-field-spec = tie.close (tie.spec number-at-requires is-value-requires bounded-requires returns)
+read-field-spec = tie.close (tie.spec number-at-requires bounded-requires returns)

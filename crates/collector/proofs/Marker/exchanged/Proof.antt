@@ -1,14 +1,10 @@
 -- `collector::Marker::exchanged` meets its contract: the test decides.
 use Rattle.collector.proofs.Marker.exchanged.Statement.{statement}
 use Rattle.collector.proofs.Marker.exchanged.Tie as tie
-use Rattle.collector.proofs.Marker.exchanged.Reads as reads
-use Rattle.collector.proofs.Marker.exchanged.Lts as lts
 
--- src/lib.rt:71:5
 returns : tie.Need-returns
 returns c = simp (c .if1 .taken)
 
--- src/lib.rt:71:5
 returns-2 : tie.Need-returns-2
 returns-2 c = simp (c .if1 .left)
 

@@ -2,41 +2,28 @@
 use borrow.Author.Needs.{needs}
 use Rattle.collector.proofs.Marker.visit.Statement.{statement}
 use Rattle.collector.proofs.Marker.visit.Tie as tie
-use Rattle.collector.proofs.Marker.visit.Reads as reads
-use Rattle.collector.proofs.Marker.visit.Lts as lts
-use Rattle.collector.proofs.Marker.exchanged.Reads as exchanged-reads
-use Rattle.collector.proofs.moves_on.Reads as moves-on-reads
-use Rattle.pool.proofs.read_cell.Reads as read-cell-reads
-use Rattle.pool.proofs.write_cell.Reads as write-cell-reads
 use native.Mathlib.Omega.{arith}
 use Prim.Native.Nat.{ℕ, _+_}
-use mathlib.Core.Path.{ap, ap₂, _∙_}
-use mathlib.Core.List.{List}
+use mathlib.Core.Path.{ap, _∙_}
 use Rattle.pool.specs.Layout.{registerCount}
 use Rattle.collector.specs.declared.Marker.{Marker}
 use Rattle.collector.proofs.VisitStep.{visit-made}
 
--- src/lib.rt:59:21
 read-cell-requires : tie.Need-read-cell-requires
 read-cell-requires c κs = search needs
 
--- src/lib.rt:59:21
 add-state : tie.Need-add-state
 add-state c = search needs
 
--- src/lib.rt:60:13
 read-cell-requires-2 : tie.Need-read-cell-requires-2
 read-cell-requires-2 c κs = search needs
 
--- src/lib.rt:61:9
 write-cell-requires : tie.Need-write-cell-requires
 write-cell-requires c κs = search needs
 
--- src/lib.rt:62:13
 read-cell-requires-3 : tie.Need-read-cell-requires-3
 read-cell-requires-3 c κs = search needs
 
--- src/lib.rt:63:13
 moves-on-requires : tie.Need-moves-on-requires
 moves-on-requires c κs =
     let pre = c .before .before .before .before .before .before .before .before .before .before .before .before .pre in (
@@ -44,27 +31,21 @@ moves-on-requires c κs =
       omega (arith, pre .0 .early, c .before .before .before .before .before .before .before .before .before .read-cell .ensures),
     )
 
--- src/lib.rt:64:9
 write-cell-requires-2 : tie.Need-write-cell-requires-2
 write-cell-requires-2 c κs = search needs
 
--- src/lib.rt:65:9
 write-cell-requires-3 : tie.Need-write-cell-requires-3
 write-cell-requires-3 c κs = search needs
 
--- src/lib.rt:66:9
 add-self : tie.Need-add-self
 add-self c = search needs
 
--- src/lib.rt:67:9
 exchanged-requires : tie.Need-exchanged-requires
 exchanged-requires c κs = search needs
 
--- src/lib.rt:53:5
 same-length : tie.Need-same-length
 same-length c = search needs
 
--- src/lib.rt:53:5
 returns : tie.Need-returns
 returns c =
     let s = c .before .before .before .before .before .before .before .before .before .before .before .before .before .before .before .before .before .before .before .before .before .before .before in

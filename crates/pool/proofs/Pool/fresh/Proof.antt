@@ -4,7 +4,7 @@ use Rattle.pool.proofs.Pool.fresh.Statement.{statement}
 use Rattle.pool.proofs.Pool.fresh.Tie as tie
 use native.Mathlib.Omega.{arith}
 use mathlib.Core.Path.{_∙_}
-use lib.ListN.{length, length-set}
+use lib.ListN.{length-set}
 use Rattle.pool.proofs.FreshPool.{fresh-length, fresh-made}
 use denote.Ref.{now}
 
