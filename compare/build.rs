@@ -1,10 +1,11 @@
-//! With the feature `archive`: link libcellpool.a, and the C baseline of the benchmark where a C compiler is found.
+//! With the feature `archive`: link libcellpool.a, and where a C compiler is found the C baseline of the benchmark; make
+//! the program runscript in plain C.
 //!
 //! CELLPOOL_LIB_DIR names another directory of the archive; CC another C compiler.
 
 use std::env;
 use std::ffi::OsStr;
-use std::path::PathBuf;
+use std::path::{Path, PathBuf};
 use std::process::Command;
 
 fn main() {
@@ -54,11 +55,25 @@ fn link_archive() {
     println!("cargo:rustc-env=CELLPOOL_ARCHIVE={}", archive.display());
 }
 
+/// Compile C files into an object or a program.
+fn compile(cc: &OsStr, options: &[&str], sources: &[&Path], result: &Path) {
+    let include = manifest_dir().join("../include");
+    println!("cargo:rerun-if-changed={}", include.display());
+    let compiled = Command::new(cc)
+        .args(["-std=c99", "-O2", "-Wall", "-Wextra", "-Werror"])
+        .args(options)
+        .arg("-I")
+        .arg(&include)
+        .args(sources)
+        .arg("-o")
+        .arg(result)
+        .status();
+    assert!(matches!(compiled, Ok(status) if status.success()), "{} is not made of {sources:?}", result.display());
+}
+
 fn build_c_baseline() -> bool {
     let source = manifest_dir().join("baseline/baseline.c");
-    let include = manifest_dir().join("../include");
     println!("cargo:rerun-if-changed={}", source.display());
-    println!("cargo:rerun-if-changed={}", include.display());
     let out = PathBuf::from(env::var_os("OUT_DIR").expect("cargo sets OUT_DIR"));
     let object = out.join("baseline.o");
     let archive = out.join("libcellpool_baseline.a");
@@ -66,15 +81,12 @@ fn build_c_baseline() -> bool {
     if !answers(&cc) {
         return false;
     }
-    let compiled = Command::new(cc)
-        .args(["-std=c99", "-O2", "-Wall", "-Wextra", "-Werror", "-fPIC", "-c"])
-        .arg("-I")
-        .arg(&include)
-        .arg(&source)
-        .arg("-o")
-        .arg(&object)
-        .status();
-    assert!(matches!(compiled, Ok(status) if status.success()), "{} does not compile", source.display());
+    compile(&cc, &["-fPIC", "-c"], &[&source], &object);
+    let script = manifest_dir().join("baseline/runscript.c");
+    let program = out.join("plain_runscript");
+    println!("cargo:rerun-if-changed={}", script.display());
+    compile(&cc, &["-DBASELINE_AS_CELLPOOL"], &[&source, &script], &program);
+    println!("cargo:rustc-env=PLAIN_RUNSCRIPT={}", program.display());
     let _ = std::fs::remove_file(&archive);
     let packed = Command::new("ar").arg("crs").arg(&archive).arg(&object).status();
     assert!(matches!(packed, Ok(status) if status.success()), "ar makes no archive of {}", object.display());

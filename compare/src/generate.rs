@@ -1,8 +1,11 @@
 //! Random calls, words and images, and graphs of known shape.
 
+use crate::baseline::PlainRust;
 use crate::model::{groups, Model};
 use crate::random::Random;
-use crate::{apply, cell_at, words_for, Call, Interface, CELL, FREE, HEADER, REGISTERS, USED};
+use crate::refusal::FULL;
+use crate::script::line;
+use crate::{apply, cell_at, words_for, Answer, Call, Interface, CELL, FREE, HEADER, REGISTERS, USED};
 
 /// A register number: mostly one of the first few, seldom one that is refused.
 fn register(random: &mut Random, among: usize) -> u32 {
@@ -258,6 +261,130 @@ pub fn image(random: &mut Random, n: usize) -> Vec<u8> {
         _ => {}
     }
     bytes
+}
+
+/// Change a line so that it is bad, most often.
+fn spoil(random: &mut Random, line: &mut Vec<u8>) {
+    let spaces: Vec<usize> = (0..line.len()).filter(|&place| line[place] == b' ').collect();
+    let place = random.below(line.len() + 1);
+    let byte = random.pick(b"\0\t\r +-.,09:/afgnzGNZx\x7F\x80\xA0\xFF");
+    match random.below(13) {
+        0 => line.clear(),
+        1 => line.push(b'\r'),
+        2 => line.push(b' '),
+        3 => line.insert(0, b' '),
+        // One number too few, one too many, or one too large.
+        4 => line.truncate(spaces.last().copied().unwrap_or(0)),
+        5 => line.extend(b" 0"),
+        6 | 7 => {
+            line.truncate(spaces.last().copied().unwrap_or(1));
+            let large = [" 4294967296", " 0004294967296", " 5000000000", " 9999999999", " 18446744073709551616"];
+            line.extend(random.pick(&large).as_bytes());
+        }
+        8 if !spaces.is_empty() => line.insert(random.pick(&spaces), b' '),
+        9 if !spaces.is_empty() => line[random.pick(&spaces)] = byte,
+        10 => line[0] = byte,
+        11 => line.truncate(place),
+        _ => line.insert(place, byte),
+    }
+}
+
+/// A script of about so many lines: calls on small pools, bad lines, sizes that are refused, any end.
+pub fn script(random: &mut Random, count: usize) -> Vec<u8> {
+    let mut script = Vec::new();
+    let (among, weight) = (random.pick(&[1, 2, 4, 8, REGISTERS]), random.pick(&[3, 8, 20]));
+    let bad = random.pick(&[2, 8, 40, 1_000]);
+    let before = random.pick(&[0, 0, 1, 5]);
+    for place in 0..count {
+        let mut line = if place == before || random.once_in(60) {
+            let n = if random.once_in(4) { random.pick(&[0, 4_001, 65_536, u32::MAX]) } else { cells(random) as u32 };
+            format!("f {n}")
+        } else {
+            line(call(random, among, weight))
+        };
+        if random.once_in(20) {
+            line = line.replace(' ', random.pick(&[" 0", " 00", " 0000000000000000000000"]));
+        }
+        let mut line = line.into_bytes();
+        if random.once_in(bad) {
+            spoil(random, &mut line);
+        }
+        script.extend(line);
+        script.push(b'\n');
+    }
+    match random.below(4) {
+        0 => script.truncate(random.below(script.len() + 1)),
+        1 => {
+            script.pop();
+        }
+        _ => {}
+    }
+    script
+}
+
+/// A script of so many lines on a pool of `n` cells: mostly accepted calls of every kind. The last four registers hold
+/// lists that grow, and are now and then given up.
+pub fn mixed_script(random: &mut Random, lines: usize, n: usize) -> String {
+    let mut words = vec![0; words_for(n)];
+    let mut script = format!("f {n}\n");
+    PlainRust.fresh(&mut words).expect("the size is right");
+    let mut count = 1;
+    while count < lines {
+        let mut below = |limit: usize| random.below(limit) as u32;
+        let (r, a, b, list, v) = (below(12), below(12), below(12), 12 + below(4), below(100_000));
+        let call = match random.below(100_000) {
+            0..10 => Call::Collect,
+            10..20 => Call::Clear { r: list },
+            20..2_000 => Call::New { r: list, a: list, b: a, v },
+            2_000..20_000 => Call::New { r, a, b, v },
+            20_000..32_000 => Call::Left { r, a },
+            32_000..44_000 => Call::Right { r, a },
+            44_000..52_000 => Call::SetLeft { a, b },
+            52_000..60_000 => Call::SetRight { a, b },
+            60_000..70_000 => Call::Value { a },
+            70_000..74_000 => Call::Value { a: list },
+            74_000..82_000 => Call::SetValue { a, v },
+            82_000..88_000 => Call::Same { a, b },
+            88_000..95_000 => Call::Copy { r, a },
+            _ => Call::Clear { r },
+        };
+        let mut calls = vec![call];
+        match apply(&PlainRust, &mut words, call).0 {
+            // Give the cells back.
+            Answer::Refused(FULL) => calls.extend((0..REGISTERS as u32).map(|r| Call::Clear { r })),
+            // Few calls of a script are refused.
+            Answer::Refused(_) if !random.once_in(20) => continue,
+            _ => {}
+        }
+        for &call in &calls[1..] {
+            apply(&PlainRust, &mut words, call);
+        }
+        for call in calls {
+            if count < lines {
+                script += &line(call);
+                script.push('\n');
+                count += 1;
+            }
+        }
+    }
+    script
+}
+
+/// A script of so many lines on a pool of `n` cells: mostly `new`, with at most sixteen cells live.
+pub fn new_script(random: &mut Random, lines: usize, n: usize) -> String {
+    let mut script = format!("f {n}\n");
+    let nil = REGISTERS as u32 - 1;
+    for _ in 1..lines {
+        let r = random.below(REGISTERS - 1) as u32;
+        let call = if random.once_in(10) {
+            Call::Same { a: r, b: nil }
+        } else {
+            Call::New { r, a: nil, b: nil, v: random.below(100_000) as u32 }
+        };
+        script += &line(call);
+        script.push('\n');
+    }
+    script
 }
 
 /// Graphs of the tables of source document 003, and two more.

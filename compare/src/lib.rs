@@ -4,6 +4,7 @@
 //! * `reference` is the document's reference model: cells that are never collected, and a limit.
 //! * `baseline` is a second implementation with the algorithms of the source documents, and the benchmark's baseline.
 //! * `pool` (feature `archive`) is the library under test behind safe functions.
+//! * `script` says what the program `runscript` prints.
 //! * `checks` are the comparisons; the tests run them on every implementation.
 
 pub mod baseline;
@@ -15,6 +16,7 @@ pub mod model;
 pub mod pool;
 pub mod random;
 pub mod reference;
+pub mod script;
 
 /// Refusal numbers of the document.
 pub mod refusal {
