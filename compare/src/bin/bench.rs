@@ -1,7 +1,9 @@
-//! Times of the library beside the same algorithms in plain Rust and plain C, on the same words in one run.
+//! Times of the library beside the same algorithms in plain Rust and plain C, on the same words in one run; and of the
+//! program runscript beside the same program in plain C.
 //!
 //! Each figure is the median of several samples of processor time. The samples of the implementations take turns, and a
-//! ratio is the median of the ratios of one turn. BENCH_SAMPLES sets the number of samples.
+//! ratio is the median of the ratios of one turn. BENCH_SAMPLES sets the number of samples. The arguments name the
+//! sections to run; without any, all are run.
 
 use cellpool_compare::baseline::PlainRust;
 use cellpool_compare::generate::{Shape, SHAPES};
@@ -40,6 +42,9 @@ fn now() -> Duration {
     static START: OnceLock<Instant> = OnceLock::new();
     START.get_or_init(Instant::now).elapsed()
 }
+
+/// Cells of the pools, but for the growth with their number.
+const CELLS: usize = 4000;
 
 struct Bench {
     pools: Vec<(&'static str, &'static dyn Interface)>,
@@ -175,26 +180,25 @@ impl Bench {
     }
 }
 
-fn main() {
-    let bench = Bench::new();
-    let mut random = Random::new(7);
-    let n = 4000;
-    println!("Median of {} samples; every cell of a graph is reached, except in the random one.\n", bench.samples);
-
+fn collect(bench: &Bench, random: &mut Random) {
+    let n = CELLS;
     println!("### Collect by link reversal, {n} cells\n");
     println!("| graph | library, µs |{}", bench.others());
     bench.rule(1, 1);
     for shape in SHAPES {
-        let mut words = shape.words(n, &mut random);
+        let mut words = shape.words(n, random);
         let figures = bench.collect(&mut words);
         println!("| {} | {:.1} |{}", shape.name(), figures.library / 1e3, figures.ratios());
     }
+}
 
-    println!("\n### Collect with a lent stack, {n} cells\n");
+fn stack(bench: &Bench, random: &mut Random) {
+    let n = CELLS;
+    println!("### Collect with a lent stack, {n} cells\n");
     println!("| graph | stack words | enough | library, µs | library's reversal / stack |{}", bench.others());
     bench.rule(3, 2);
     for shape in SHAPES {
-        let words = shape.words(n, &mut random);
+        let words = shape.words(n, random);
         let reversal = bench.collect(&mut words.clone());
         for length in [n, 16] {
             let (figures, enough) = bench.stack(&mut words.clone(), length);
@@ -208,8 +212,11 @@ fn main() {
             );
         }
     }
+}
 
-    println!("\n### Calls, {n} cells\n");
+fn calls(bench: &Bench, random: &mut Random) {
+    let n = CELLS;
+    println!("### Calls, {n} cells\n");
     println!("| call | library, ns |{}", bench.others());
     bench.rule(1, 1);
     let mut words = vec![0; words_for(n)];
@@ -220,7 +227,7 @@ fn main() {
     println!("| new, a cell is free | {:.1} |{}", figures.library, figures.ratios());
     let figures = bench.calls(8 * n, fresh, |pool, words, v| pool.new_cell(words, 0, 1, 1, v).is_ok(), &mut words);
     println!("| new, its collections shared out, one cell live | {:.1} |{}", figures.library, figures.ratios());
-    let chain = Shape::LeftChain.words(n, &mut random);
+    let chain = Shape::LeftChain.words(n, random);
     let restart = |_: &dyn Interface, words: &mut [u32]| words.copy_from_slice(&chain);
     let figures = bench.calls(n - 1, restart, |pool, words, _| pool.left(words, 0, 0).is_ok(), &mut words);
     println!("| left, down a chain | {:.1} |{}", figures.library, figures.ratios());
@@ -228,27 +235,32 @@ fn main() {
     println!("| setright | {:.1} |{}", figures.library, figures.ratios());
     let figures = bench.calls(n, restart, |pool, words, _| pool.value(words, 0).is_ok(), &mut words);
     println!("| value | {:.1} |{}", figures.library, figures.ratios());
+}
 
-    println!("\n### Images, {n} cells\n");
+fn images(bench: &Bench, random: &mut Random) {
+    let n = CELLS;
+    println!("### Images, {n} cells\n");
     println!("| graph | function | library, ns a cell |{}", bench.others());
     bench.rule(2, 1);
     for shape in [Shape::Balanced, Shape::LeftChain, Shape::Random] {
-        let mut words = shape.words(n, &mut random);
+        let mut words = shape.words(n, random);
         let (save, image) = bench.save(&mut words);
         let (load, check) = (bench.load(n, &image), bench.check(n, &image));
         for (name, figures) in [("save", save), ("load", load), ("check", check)] {
             println!("| {} | {name} | {:.1} |{}", shape.name(), figures.library / n as f64, figures.ratios());
         }
     }
+}
 
-    println!("\n### Growth with the number of cells: the library's ns a cell (library / plain Rust)\n");
+fn growth(bench: &Bench, random: &mut Random) {
+    println!("### Growth with the number of cells: the library's ns a cell (library / plain Rust)\n");
     let sizes = [500, 1000, 2000, 4000];
     println!("| graph | function |{}", sizes.map(|n| format!(" N = {n} |")).concat());
     println!("|---|---|{}", "---:|".repeat(sizes.len()));
     for shape in [Shape::Balanced, Shape::LeftChain, Shape::Ladder, Shape::Random] {
         let mut rows = ["collect", "collect with a stack", "save", "load"].map(|name| (name, String::new()));
         for n in sizes {
-            let mut words = shape.words(n, &mut random);
+            let mut words = shape.words(n, random);
             let (save, image) = bench.save(&mut words);
             let load = bench.load(n, &image);
             let collect = bench.collect(&mut words);
@@ -259,6 +271,121 @@ fn main() {
         }
         for (name, cells) in rows {
             println!("| {} | {name} |{cells}", shape.name());
+        }
+    }
+}
+
+/// Processor time, of the user and of the system, of the children that have ended.
+#[cfg(all(c_baseline, target_os = "linux"))]
+fn children() -> Duration {
+    use std::ffi::{c_int, c_long};
+    #[repr(C)]
+    struct Timeval {
+        seconds: c_long,
+        microseconds: c_long,
+    }
+    #[repr(C)]
+    struct Usage {
+        user: Timeval,
+        system: Timeval,
+        others: [c_long; 14],
+    }
+    extern "C" {
+        fn getrusage(who: c_int, usage: *mut Usage) -> c_int;
+    }
+    const CHILDREN: c_int = -1;
+    let zero = || Timeval { seconds: 0, microseconds: 0 };
+    let mut usage = Usage { user: zero(), system: zero(), others: [0; 14] };
+    // SAFETY: the pointer is to a local structure of the layout that the function writes.
+    let answer = unsafe { getrusage(CHILDREN, &mut usage) };
+    assert_eq!(answer, 0, "the usage is there");
+    [usage.user, usage.system]
+        .iter()
+        .map(|time| Duration::from_secs(time.seconds as u64) + Duration::from_micros(time.microseconds as u64))
+        .sum()
+}
+
+/// The program runscript and the same program in plain C, each on a file and into nothing.
+#[cfg(all(c_baseline, target_os = "linux"))]
+fn scripts(bench: &Bench, random: &mut Random) {
+    use cellpool_compare::{generate, script};
+    use std::fs::{self, File};
+    use std::path::Path;
+    use std::process::{Command, Stdio};
+
+    type Maker = fn(&mut Random, usize, usize) -> String;
+    const LINES: usize = 1_000_000;
+    println!("### Scripts, {LINES} lines, {CELLS} cells\n");
+    let Some(program) = script::program() else {
+        println!("`rt check runscript` builds the program; or set CELLPOOL_RUNSCRIPT to its path.");
+        return;
+    };
+    let plain = Path::new(env!("PLAIN_RUNSCRIPT"));
+    println!("| script | MB | replies, MB | runscript, ns a line | plain C, ns a line | runscript / plain C |");
+    println!("|---|{}", "---:|".repeat(5));
+    let path = std::env::temp_dir().join(format!("cellpool-bench-{}.txt", std::process::id()));
+    let makers: [(&str, Maker); 2] =
+        [("calls of every kind", generate::mixed_script), ("`new`, at most 15 cells live", generate::new_script)];
+    for (name, maker) in makers {
+        let text = maker(random, LINES, CELLS);
+        fs::write(&path, &text).expect("the script is written");
+        let command = |program: &Path| {
+            let mut command = Command::new(program);
+            command.stdin(File::open(&path).expect("the script is there"));
+            command
+        };
+        let expected = script::replies(&PlainRust, text.as_bytes());
+        for program in [&program, plain] {
+            let output = command(program).output().expect("the program starts");
+            assert!(output.stdout == expected.as_bytes(), "{}: other replies", program.display());
+        }
+        let time = |program: &Path| {
+            let start = children();
+            let status = command(program).stdout(Stdio::null()).status().expect("the program starts");
+            assert!(status.success());
+            (children() - start).as_nanos() as f64 / LINES as f64
+        };
+        let rounds: Vec<(f64, f64)> = (0..bench.samples).map(|_| (time(&program), time(plain))).collect();
+        println!(
+            "| {name} | {:.1} | {:.1} | {:.1} | {:.1} | {:.2} |",
+            text.len() as f64 / 1e6,
+            expected.len() as f64 / 1e6,
+            median(rounds.iter().map(|times| times.0).collect()),
+            median(rounds.iter().map(|times| times.1).collect()),
+            median(rounds.iter().map(|times| times.0 / times.1).collect())
+        );
+    }
+    fs::remove_file(&path).expect("the script is removed");
+}
+
+#[cfg(not(all(c_baseline, target_os = "linux")))]
+fn scripts(_: &Bench, _: &mut Random) {
+    println!("### Scripts\n\nThis section needs a C compiler and Linux.");
+}
+
+type Section = fn(&Bench, &mut Random);
+
+const SECTIONS: [(&str, Section); 6] = [
+    ("collect", collect),
+    ("stack", stack),
+    ("calls", calls),
+    ("images", images),
+    ("growth", growth),
+    ("scripts", scripts),
+];
+
+fn main() {
+    let wanted: Vec<String> = std::env::args().skip(1).collect();
+    for name in &wanted {
+        let names = SECTIONS.map(|(name, _)| name);
+        assert!(names.contains(&name.as_str()), "no section `{name}`; the sections are {}", names.join(", "));
+    }
+    let bench = Bench::new();
+    println!("Median of {} samples; every cell of a graph is reached, except in the random one.", bench.samples);
+    for (name, section) in SECTIONS {
+        if wanted.is_empty() || wanted.iter().any(|other| other == name) {
+            println!();
+            section(&bench, &mut Random::new(7));
         }
     }
 }
