@@ -3,3 +3,4 @@ pub mod Reading
 pub mod Decimals
 pub mod Putting
 pub mod Scanning
+pub mod Digits

@@ -6,8 +6,8 @@ ghost use Prim.Native.Nat.{_+_, _<_, _≤_};
 ghost use mathlib.Core.Path.{_≡_};
 ghost use mathlib.Core.List.{[], _∷_};
 ghost use lib.ListN.{length, drop};
-ghost use Rattle.script.specs.Lines.{command};
-ghost use Rattle.script.specs.Reader.{withoutNumbers, newReader, badReader, spaceOf, letterOf, digitOf, feedOf, endOf, begunOf};
+ghost use Rattle.script.specs.Lines.{isDigit, command};
+ghost use Rattle.script.specs.Reader.{withoutNumbers, newReader, badReader, withLast, readDigits, spaceOf, letterOf, digitOf, feedOf, endOf, begunOf};
 ghost use Rattle.script.specs.Scripts.{nextLine};
 ghost use Rattle.script.specs.Replies.{decimal, afterSpace, spaced, freshReply, replyText, replyRoom, Put, writeAt};
 
@@ -40,6 +40,12 @@ pub enum Found {
     Line { line: Line, next: usize },
     // The part ends, and the line goes on behind it.
     More(LineReader),
+}
+
+// How far a reader has come.
+struct Reached {
+    reader: LineReader,
+    next: usize,
 }
 
 impl LineReader {
@@ -105,28 +111,32 @@ impl LineReader {
         LineReader::without_numbers(false, true, b)
     }
 
+    // The last number has that value.
+    fn with_last(self, v: u32) -> LineReader
+        ensures { λ r. ⌜ r ≡ withLast self v ⌝ }
+    {
+        LineReader {
+            bad: false,
+            complete: true,
+            letter: self.letter,
+            count: self.count,
+            first: self.first,
+            second: self.second,
+            third: self.third,
+            fourth: v,
+        }
+    }
+
     // After a byte of a number.
     fn digit(self, b: u8) -> LineReader
         ensures { λ r. ⌜ r ≡ digitOf self b ⌝ }
     {
-        if b < b'0' {
-            return LineReader::spoilt();
-        }
-        if b'9' < b {
+        if !is_digit(b) {
             return LineReader::spoilt();
         }
         let v = 10 * (self.fourth as u64) + ((b - b'0') as u64);
         if v < 4294967296 {
-            LineReader {
-                bad: false,
-                complete: true,
-                letter: self.letter,
-                count: self.count,
-                first: self.first,
-                second: self.second,
-                third: self.third,
-                fourth: v as u32,
-            }
+            self.with_last(v as u32)
         } else {
             LineReader::spoilt()
         }
@@ -184,6 +194,53 @@ impl LineReader {
         }
     }
 
+    // Reads the digits that stand at a place, if a number has begun: the same as to feed them one by one, and quicker.
+    fn digits(self, bytes: &[u8], at: usize) -> Reached
+        ensures { λ r. ⌜ (at ≤ r .next) × (nextLine (r .reader) (drop (r .next) (now (bytes .entry))) (r .next) ≡ nextLine self (drop at (now (bytes .entry))) at) ⌝ }
+    {
+        if self.bad {
+            return Reached {
+                reader: self,
+                next: at,
+            };
+        }
+        if self.count == 0 {
+            return Reached {
+                reader: self,
+                next: at,
+            };
+        }
+        let mut v = self.fourth;
+        let mut i = at;
+        while i < bytes.len() {
+            let b = bytes[i];
+            if !is_digit(b) {
+                return self.reached(v, at, i);
+            }
+            let w = 10 * (v as u64) + ((b - b'0') as u64);
+            i += 1;
+            if 4294967295 < w {
+                return Reached {
+                    reader: LineReader::spoilt(),
+                    next: i,
+                };
+            }
+            v = w as u32;
+        }
+        self.reached(v, at, i)
+    }
+
+    // The digits from `at` to `next`, if any, are read, and the last number has come to v.
+    fn reached(self, v: u32, at: usize, next: usize) -> Reached
+        ensures { λ r. ⌜ (r .reader ≡ readDigits self at next v) × (r .next ≡ next) ⌝ }
+    {
+        if next == at {
+            return Reached { reader: self, next };
+        }
+        let reader = self.with_last(v);
+        Reached { reader, next }
+    }
+
     // Reads on in a part of the script, from a place on, up to the next line feed.
     pub fn next_line(self, bytes: &[u8], at: usize) -> Found
         ensures { λ r. ⌜ r ≡ nextLine self (drop at (now (bytes .entry))) at ⌝ }
@@ -197,11 +254,22 @@ impl LineReader {
                 let next = i + 1;
                 return Found::Line { line, next };
             }
-            reader = reader.feed(b);
-            i += 1;
+            let fed = reader.feed(b);
+            let behind = fed.digits(bytes, i + 1);
+            reader = behind.reader;
+            i = behind.next;
         }
         Found::More(reader)
     }
+}
+
+fn is_digit(b: u8) -> bool
+    ensures { λ r. ⌜ r ≡ isDigit b ⌝ }
+{
+    if b < b'0' {
+        return false;
+    }
+    b <= b'9'
 }
 
 // What a letter with no number says.

@@ -35,15 +35,19 @@ returns c =
 feed-requires : tie.Need-feed-requires Inv-loop μ-loop
 feed-requires c κs = search needs
 
-add-i : tie.Need-add-i Inv-loop μ-loop
-add-i c = omega arith
+add-digits : tie.Need-add-digits Inv-loop μ-loop
+add-digits c = omega arith
+
+digits-requires : tie.Need-digits-requires Inv-loop μ-loop
+digits-requires c κs = search needs
 
 loop-less : tie.Need-loop-less Inv-loop μ-loop
-loop-less c = omega arith
+loop-less c = omega (arith, c .before .digits .ensures .0)
 
 loop-again : tie.Need-loop-again Inv-loop μ-loop
 loop-again c =
-    rw (c .feed .ensures) (sym (line-goes-on _ _ _ (c .before .before .before .loop-test .taken) (c .before .if1 .left)) ∙ c .before .before .before .before .loop .inv)
+    c .before .digits .ensures .1
+    ∙ rw (c .before .before .feed .ensures) (sym (line-goes-on _ _ _ (c .before .before .before .before .before .loop-test .taken) (c .before .before .before .if1 .left)) ∙ c .before .before .before .before .before .before .loop .inv)
 
 returns-2 : tie.Need-returns-2 Inv-loop μ-loop
 returns-2 c = sym (part-ends _ _ _ (c .loop-test .left)) ∙ c .before .loop .inv
@@ -60,7 +64,8 @@ next-line-spec =
     add-next
     returns
     feed-requires
-    add-i
+    add-digits
+    digits-requires
     loop-less
     loop-again
     returns-2)
