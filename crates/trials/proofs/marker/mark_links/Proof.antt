@@ -1,0 +1,54 @@
+-- `trials::marker::mark_links` meets its contract: both links of a marked cell, one after the other.
+use borrow.Author.Needs.{needs}
+use native.Mathlib.Omega.{arith}
+use Rattle.trials.proofs.Passes.{grown-none, grown-links}
+use Rattle.trials.proofs.marker.mark_links.Statement.{statement}
+use Rattle.trials.proofs.marker.mark_links.Tie as tie
+
+mul-if1 : tie.Need-mul-if1
+mul-if1 c = search needs
+
+slice-read-if1 : tie.Need-slice-read-if1
+slice-read-if1 c = search needs
+
+returns : tie.Need-returns
+returns c = (grown-none _ _ _, λ h. absurd (omega arith))
+
+read-cell-requires : tie.Need-read-cell-requires
+read-cell-requires c κs = search needs
+
+mark-link-requires : tie.Need-mark-link-requires
+mark-link-requires c κs = search needs
+
+read-cell-requires-2 : tie.Need-read-cell-requires-2
+read-cell-requires-2 c κs = search needs
+
+mark-link-requires-2 : tie.Need-mark-link-requires-2
+mark-link-requires-2 c κs = search needs
+
+add-result : tie.Need-add-result
+add-result c = omega arith
+
+same-length : tie.Need-same-length
+same-length c = search needs
+
+returns-2 : tie.Need-returns-2
+returns-2 c =
+    let a = c .before .before .before .before .before .before .before .before .before .before .before .before .before .before .args in
+    grown-links (a .n) (a .words .now) (a .i) (c .before .before .before .before .before .before .before .before .read-cell .ensures) (c .before .before .before .read-cell2 .ensures) (omega arith)
+    (c .before .before .before .before .before .before .before .mark-link .ensures) (c .before .before .mark-link2 .ensures)
+
+pub mark-links-spec : {M : Type 1} → statement M
+mark-links-spec =
+    tie.close
+    (tie.spec
+    mul-if1
+    slice-read-if1
+    returns
+    read-cell-requires
+    mark-link-requires
+    read-cell-requires-2
+    mark-link-requires-2
+    add-result
+    same-length
+    returns-2)

@@ -1,0 +1,81 @@
+// Reads and writes of slices of words, and what a collection has to leave of a pool's words by the marks of its cells.
+ghost use Prim.Native.Nat.{_<_};
+ghost use lib.ListN.{length};
+
+// Stores a word, where there is that place.
+pub fn put(words: &mut [u32], k: usize, v: u32) {
+    if k < words.len() {
+        words[k] = v;
+    }
+}
+
+// Stores a word of a cell.
+pub fn put_cell(words: &mut [u32], i: u32, field: u32, v: u32) {
+    put(words, 14 + 4 * (i as usize) + field as usize, v);
+}
+
+pub fn copy(to: &mut [u32], from: &[u32]) {
+    let mut k = 0;
+    while k < from.len() {
+        put(to, k, from[k]);
+        k += 1;
+    }
+}
+
+pub fn same(a: &[u32], b: &[u32]) -> bool {
+    if a.len() != b.len() {
+        return false;
+    }
+    let mut k = 0;
+    while k < a.len() {
+        if a[k] != b[k] {
+            return false;
+        }
+        k += 1;
+    }
+    true
+}
+
+pub fn set_all(words: &mut [u32], v: u32) {
+    let mut k = 0;
+    while k < words.len() {
+        words[k] = v;
+        k += 1;
+    }
+}
+
+pub fn all_are(words: &[u32], v: u32) -> bool {
+    let mut k = 0;
+    while k < words.len() {
+        if words[k] != v {
+            return false;
+        }
+        k += 1;
+    }
+    true
+}
+
+// Makes the words what a collection has to leave of them, by the marks alone. Gives the number of marked cells.
+pub fn keep_marked(words: &mut [u32], n: u32, marks: &[u32]) -> u32
+    requires { ⌜ n < length (now marks) ⌝ }
+{
+    let mut kept = 0;
+    let mut next = 0;
+    let mut i = n;
+    while 0 < i {
+        if marks[i as usize] == 0 {
+            put_cell(words, i, 0, 4);
+            put_cell(words, i, 1, next);
+            put_cell(words, i, 2, 0);
+            put_cell(words, i, 3, 0);
+            next = i;
+            i -= 1;
+        } else {
+            put_cell(words, i, 0, 0);
+            kept += 1;
+            i -= 1;
+        }
+    }
+    put(words, 1, next);
+    kept
+}
