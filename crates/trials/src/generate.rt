@@ -140,28 +140,21 @@ pub fn fill(words: &mut [u32], n: u32, seed: u32)
     }
 }
 
-// Makes a pool of two cells or more malformed: a register past the cells or to a free cell, a state, a link past the cells or to a free cell.
+// Makes a pool malformed: a register that leads past the cells or to a free cell, a state that is none, or a link that leads past the cells.
 pub fn damage(words: &mut [u32], n: u32, seed: u32) {
     let x = draw(seed, 9000);
     let i = any_cell(n, draw(seed, 9001));
     let past = std::num::wrapping_add_u32(n, 1 + x % 1000);
-    match draw(seed, 9002) % 6 {
-        0 => words::put(words, 2 + (x % 16) as usize, past),
+    match x % 4 {
+        0 => words::put(words, 2 + (x / 4 % 16) as usize, past),
         1 => {
             words::put_cell(words, i, 0, 4);
-            words::put(words, 2 + (x % 16) as usize, i);
+            words::put(words, 2 + (x / 4 % 16) as usize, i);
         }
-        2 => words::put_cell(words, i, 0, 1 + x % 3),
-        3 => words::put_cell(words, i, 0, 5 + x % 1000),
-        4 => {
-            words::put_cell(words, i, 0, 0);
-            words::put_cell(words, i, 1 + x % 2, past);
-        }
+        2 => words::put_cell(words, i, 0, 1 + x / 4 % 3),
         _ => {
-            let other = any_cell(n, i);
-            words::put_cell(words, i, 0, 4);
-            words::put_cell(words, other, 0, 0);
-            words::put_cell(words, other, 1 + x % 2, i);
+            words::put_cell(words, i, 0, 0);
+            words::put_cell(words, i, 1 + x / 4 % 2, past);
         }
     }
 }

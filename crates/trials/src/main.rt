@@ -7,251 +7,226 @@ mod words;
 
 use collector::Collection;
 use stack_marker::StackCollection;
-use totals::Totals;
-ghost use Prim.Native.Nat.{_<_, _≤_};
+ghost use mathlib.Core.Path.{_≡_};
+ghost use Prim.Native.Nat.{_≤_};
 ghost use lib.ListN.{length};
 ghost use Rattle.pool.specs.Layout.{registerCount, poolLength};
 
-// Seeds 0 to 2047 give pools of 1 to 64 cells, the last 160 larger ones.
-const SEEDS: u32 = 2208;
+// Seeds below 2048 give pools of 1 to 64 cells, the others larger ones.
+const SEEDS: u32 = 2184;
 
-// What a collection of a pool has to answer.
-struct Expected {
+// The markers that are tried: by reversal, the recursive one, and with stacks of no words, one word, and as many words as there are cells.
+const REVERSAL: u32 = 0;
+
+const RECURSIVE: u32 = 1;
+
+const NO_WORDS: u32 = 2;
+
+const ONE_WORD: u32 = 3;
+
+const N_WORDS: u32 = 4;
+
+const MARKERS: u32 = 5;
+
+// One marker on the pool of a seed, as it is or damaged.
+struct Trial {
+    n: u32,
+    seed: u32,
     malformed: bool,
+    marker: u32,
+}
+
+// What a collection answers: the number of the refusal or 0, the kept cells, and the visits, or with a stack 1 where it was enough.
+struct Answer {
+    refusal: u32,
     kept: u32,
+    more: u32,
 }
 
-fn is_expected(answer: Collection, expected: Expected) -> bool {
-    match answer {
-        Collection::Kept { kept, visits } => {
-            !expected.malformed && kept == expected.kept && visits as u64 == 3 * (kept as u64)
-        }
-        Collection::Refused(refusal) => expected.malformed && refusal.number() == 3,
-    }
+struct Outcome {
+    agreed: bool,
+    kept: u32,
+    more: u32,
 }
 
-fn is_expected_of_stack(answer: StackCollection, expected: Expected) -> bool {
-    match answer {
-        StackCollection::Kept { kept, enough: _ } => !expected.malformed && kept == expected.kept,
-        StackCollection::Refused(refusal) => expected.malformed && refusal.number() == 3,
-    }
-}
-
-fn was_enough(answer: StackCollection) -> bool {
-    match answer {
-        StackCollection::Kept { kept: _, enough } => enough,
-        StackCollection::Refused(_) => false,
-    }
-}
-
-fn try_reversal(
-    before: &[u32],
-    after: &[u32],
-    work: &mut [u32],
-    expected: Expected,
-    t: &mut Totals,
-) {
-    words::copy(work, before);
-    let answer = collector::collect(work);
-    let agreed = is_expected(answer, expected) && words::same(work, after);
-    totals::count_trial(t, totals::REVERSAL, agreed);
-}
-
-// The recursive marker takes at most 64 cells.
-fn try_recursive(
-    before: &[u32],
-    after: &[u32],
-    work: &mut [u32],
-    expected: Expected,
-    t: &mut Totals,
-) {
-    if 18 + 4 * 64 < before.len() {
-        return;
-    }
-    words::copy(work, before);
-    let answer = recursive_marker::collect_recursive(work);
-    let agreed = is_expected(answer, expected) && words::same(work, after);
-    totals::count_trial(t, totals::RECURSIVE, agreed);
-}
-
-// The stack's words are 7 before. After a collection they have to be 0, and after a refusal as before.
-fn try_stack(
-    before: &[u32],
-    after: &[u32],
-    work: &mut [u32],
-    stack: &mut [u32],
-    expected: Expected,
-    t: &mut Totals,
-    place: usize,
-) {
-    words::copy(work, before);
-    words::set_all(stack, 7);
-    let answer = stack_marker::collect_stack(work, stack);
-    let left = if expected.malformed { 7 } else { 0 };
-    let agreed = is_expected_of_stack(answer, expected)
-        && words::same(work, after)
-        && words::all_are(stack, left);
-    totals::count_trial(t, place, agreed);
-    if was_enough(answer) {
-        totals::count(t, std::num::wrapping_add_usize(place, 2), 1);
-    }
-}
-
-// Tries every marker on a pool, with stacks of no words, one word, and as many words as there are cells.
-fn try_markers(
-    before: &[u32],
-    after: &[u32],
-    work: &mut [u32],
-    stack: &mut [u32],
-    expected: Expected,
-    t: &mut Totals,
-) {
-    let mut none = [0u32; 0];
-    let mut one = [0u32; 1];
-    try_reversal(before, after, work, expected, t);
-    try_recursive(before, after, work, expected, t);
-    try_stack(
-        before,
-        after,
-        work,
-        &mut none,
-        expected,
-        t,
-        totals::NO_WORDS,
-    );
-    try_stack(before, after, work, &mut one, expected, t, totals::ONE_WORD);
-    try_stack(before, after, work, stack, expected, t, totals::N_WORDS);
-}
-
-// Makes a pool, works out what a collection has to leave of it, and tries every marker.
-fn try_well_formed(
-    before: &mut [u32],
-    after: &mut [u32],
-    work: &mut [u32],
-    marks: &mut [u32],
-    stack: &mut [u32],
-    n: u32,
-    seed: u32,
-    t: &mut Totals,
-)
-    requires { ⌜ (n ≤ 4000) × (poolLength registerCount n ≤ length (now before)) × (n < length (now marks)) ⌝ }
+// The trials are numbered: for each seed every marker, on the pool and then on the damaged pool.
+fn trial_of(number: u32) -> Trial
+    ensures { λ r. ⌜ r .n ≤ 4000 ⌝ }
 {
-    generate::fill(before, n, seed);
-    marker::mark(before, n, marks);
-    words::copy(after, before);
-    let kept = words::keep_marked(after, n, marks);
-    totals::count(t, totals::POOLS, 1);
-    totals::count(t, totals::CELLS, n);
-    totals::count(t, totals::KEPT, kept);
-    try_markers(
-        before,
-        after,
-        work,
-        stack,
-        Expected {
-            malformed: false,
-            kept,
-        },
-        t,
-    );
-}
-
-// Makes a malformed pool, and tries that every marker refuses it and changes nothing.
-fn try_malformed(
-    before: &mut [u32],
-    work: &mut [u32],
-    stack: &mut [u32],
-    n: u32,
-    seed: u32,
-    t: &mut Totals,
-)
-    requires { ⌜ n ≤ 4000 ⌝ }
-{
-    generate::fill(before, n, seed);
-    generate::damage(before, n, seed);
-    totals::count(t, totals::MALFORMED, 1);
-    try_markers(
-        before,
-        before,
-        work,
-        stack,
-        Expected {
-            malformed: true,
-            kept: 0,
-        },
-        t,
-    );
-}
-
-// The pool of a seed, and from two cells on the same pool damaged.
-fn try_pool(
-    before: &mut [u32],
-    after: &mut [u32],
-    work: &mut [u32],
-    marks: &mut [u32],
-    stack: &mut [u32],
-    n: u32,
-    seed: u32,
-    t: &mut Totals,
-)
-    requires { ⌜ (n ≤ 4000) × (poolLength registerCount n ≤ length (now before)) × (n < length (now marks)) ⌝ }
-{
-    try_well_formed(before, after, work, marks, stack, n, seed, t);
-    if 1 < n {
-        try_malformed(before, work, stack, n, seed, t);
-    }
-}
-
-// The parts of the arrays that the pool of a seed takes.
-fn try_parts(
-    before: &mut [u32],
-    after: &mut [u32],
-    work: &mut [u32],
-    marks: &mut [u32],
-    stack: &mut [u32],
-    seed: u32,
-    t: &mut Totals,
-)
-    requires { ⌜ (16018 ≤ length (now before)) × (16018 ≤ length (now after)) × (16018 ≤ length (now work)) × (4000 < length (now marks)) × (4000 ≤ length (now stack)) ⌝ }
-{
+    let seed = number / (2 * MARKERS);
     let n = generate::cells_of(seed);
-    let end = 18 + 4 * n as usize;
-    let most = n as usize;
-    try_pool(
-        &mut before[..end],
-        &mut after[..end],
-        &mut work[..end],
-        marks,
-        &mut stack[..most],
+    Trial {
         n,
         seed,
-        t,
-    );
+        malformed: number / MARKERS % 2 == 1,
+        marker: number % MARKERS,
+    }
 }
 
-fn try_seed(seed: u32, t: &mut Totals) {
-    let mut before = [0u32; 16018];
-    let mut after = [0u32; 16018];
-    let mut work = [0u32; 16018];
+fn refused(refusal: u32) -> Answer {
+    Answer {
+        refusal,
+        kept: 0,
+        more: 0,
+    }
+}
+
+fn of_collection(collection: Collection) -> Answer {
+    match collection {
+        Collection::Kept { kept, visits } => Answer {
+            refusal: 0,
+            kept,
+            more: visits,
+        },
+        Collection::Refused(refusal) => refused(refusal.number()),
+    }
+}
+
+fn of_stack(collection: StackCollection) -> Answer {
+    match collection {
+        StackCollection::Kept { kept, enough } => {
+            if enough {
+                Answer {
+                    refusal: 0,
+                    kept,
+                    more: 1,
+                }
+            } else {
+                Answer {
+                    refusal: 0,
+                    kept,
+                    more: 0,
+                }
+            }
+        }
+        StackCollection::Refused(refusal) => refused(refusal.number()),
+    }
+}
+
+fn collect(words: &mut [u32], stack: &mut [u32], marker: u32) -> Answer {
+    match marker {
+        REVERSAL => of_collection(collector::collect(words)),
+        RECURSIVE => of_collection(recursive_marker::collect_recursive(words)),
+        _ => of_stack(stack_marker::collect_stack(words, stack)),
+    }
+}
+
+// The refusal that has to come, or 0: the recursive marker takes at most 64 cells.
+fn refusal_of(trial: Trial) -> u32 {
+    if trial.marker == RECURSIVE && 64 < trial.n {
+        return 11;
+    }
+    if trial.malformed { 3 } else { 0 }
+}
+
+// How many of the stack's words are lent.
+fn stack_words(trial: Trial) -> usize
+    requires { ⌜ trial .n ≤ 4000 ⌝ }
+    ensures { λ r. ⌜ r ≤ 4000 ⌝ }
+{
+    let marker = trial.marker;
+    match marker {
+        NO_WORDS => 0,
+        ONE_WORD => 1,
+        _ => trial.n as usize,
+    }
+}
+
+// Makes the words the pool of a trial.
+fn make(words: &mut [u32], trial: Trial)
+    requires { ⌜ trial .n ≤ 4000 ⌝ }
+{
+    generate::fill(words, trial.n, trial.seed);
+    if trial.malformed {
+        generate::damage(words, trial.n, trial.seed);
+    }
+}
+
+// Makes the words what the trial has to leave: by the marks alone, or where it is refused the pool as it was. Gives the number of kept cells.
+fn expect(after: &mut [u32], trial: Trial) -> u32
+    requires { ⌜ (trial .n ≤ 4000) × (poolLength registerCount (trial .n) ≤ length (now after)) ⌝ }
+{
+    make(after, trial);
+    if refusal_of(trial) != 0 {
+        return 0;
+    }
     let mut marks = [0u32; 4001];
-    let mut stack = [0u32; 4000];
-    try_parts(
-        &mut before,
-        &mut after,
-        &mut work,
-        &mut marks,
-        &mut stack,
-        seed,
-        t,
-    );
+    marker::mark(after, trial.n, &mut marks);
+    words::keep_marked(after, trial.n, &marks)
+}
+
+fn is_expected(answer: Answer, trial: Trial, kept: u32) -> bool {
+    if answer.refusal != refusal_of(trial) {
+        return false;
+    }
+    if answer.kept != kept {
+        return false;
+    }
+    let marker = trial.marker;
+    match marker {
+        REVERSAL | RECURSIVE => answer.more as u64 == 3 * (kept as u64),
+        N_WORDS => answer.more == 1 || answer.refusal != 0,
+        _ => true,
+    }
+}
+
+// The stack's words are 7 before, and after a collection that lends them 0.
+fn is_stack_expected(stack: &[u32], trial: Trial) -> bool {
+    if trial.marker < NO_WORDS || trial.malformed {
+        words::all_are(stack, 7)
+    } else {
+        words::all_are(stack, 0)
+    }
+}
+
+fn run(words: &mut [u32], after: &mut [u32], stack: &mut [u32], trial: Trial) -> Outcome
+    requires { ⌜ (trial .n ≤ 4000) × (poolLength registerCount (trial .n) ≤ length (now after)) ⌝ }
+{
+    let kept = expect(after, trial);
+    make(words, trial);
+    words::set_all(stack, 7);
+    let answer = collect(words, stack, trial.marker);
+    let agreed = is_expected(answer, trial, kept)
+        && is_stack_expected(stack, trial)
+        && words::same(words, after);
+    Outcome {
+        agreed,
+        kept,
+        more: answer.more,
+    }
+}
+
+// Runs a trial in the parts of the lent words that it takes.
+fn run_in(words: &mut [u32], after: &mut [u32], stack: &mut [u32], trial: Trial) -> Outcome
+    requires { ⌜ (trial .n ≤ 4000) × (length (now words) ≡ 16018) × (length (now after) ≡ 16018) × (length (now stack) ≡ 4000) ⌝ }
+{
+    let end = 18 + 4 * trial.n as usize;
+    let most = stack_words(trial);
+    run(
+        &mut words[..end],
+        &mut after[..end],
+        &mut stack[..most],
+        trial,
+    )
 }
 
 fn main() {
-    let mut t = [0u32; 17];
-    let mut seed = SEEDS;
-    while 0 < seed {
-        seed -= 1;
-        try_seed(seed, &mut t);
+    let mut words = [0u32; 16018];
+    let mut after = [0u32; 16018];
+    let mut stack = [0u32; 4000];
+    let mut t = [0u32; 19];
+    let mut number = SEEDS * 2 * MARKERS;
+    while 0 < number {
+        number -= 1;
+        let trial = trial_of(number);
+        let outcome = run_in(&mut words, &mut after, &mut stack, trial);
+        if trial.marker == REVERSAL {
+            totals::count_pool(&mut t, trial.malformed, trial.n, outcome.kept);
+        }
+        totals::count_trial(&mut t, trial.marker, outcome.agreed, outcome.more);
     }
-    totals::print_all(&t);
+    totals::print(
+        &t,
+        b"well-formed pools: #\ncells: #\nkept cells: #\nmalformed pools: #\nreversal: agreed #, differed #, visits #\nrecursive marker: agreed #, differed #, visits #\nstack of no words: agreed #, differed #, enough #\nstack of one word: agreed #, differed #, enough #\nstack of N words: agreed #, differed #, enough #\n",
+    );
 }

@@ -14,14 +14,6 @@ pub fn put_cell(words: &mut [u32], i: u32, field: u32, v: u32) {
     put(words, 14 + 4 * (i as usize) + field as usize, v);
 }
 
-pub fn copy(to: &mut [u32], from: &[u32]) {
-    let mut k = 0;
-    while k < from.len() {
-        put(to, k, from[k]);
-        k += 1;
-    }
-}
-
 pub fn same(a: &[u32], b: &[u32]) -> bool {
     if a.len() != b.len() {
         return false;

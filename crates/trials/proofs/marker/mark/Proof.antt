@@ -23,9 +23,11 @@ mark-roots-requires : tie.Need-mark-roots-requires Inv-loop μ-loop
 mark-roots-requires c κs = search needs
 
 loop-holds : tie.Need-loop-holds Inv-loop μ-loop
-loop-holds c =
-    let clear = clear-sound _ (length (c .before .before .before .before .before .before .before .before .before .before .args .marks .now)) (c .before .before .before .before .before .before .clear .ensures) in
-    (omega arith, c .before .before .mark-roots .ensures .0 clear, c .before .before .mark-roots .ensures .1)
+loop-holds c = (
+  omega arith,
+  c .before .before .mark-roots .ensures .0 (clear-sound _ (length (c .before .before .before .before .before .before .before .before .before .before .args .marks .now)) (c .before .before .before .before .before .before .clear .ensures)),
+  c .before .before .mark-roots .ensures .1,
+)
 
 pass-requires : tie.Need-pass-requires Inv-loop μ-loop
 pass-requires c κs = search needs
