@@ -98,20 +98,14 @@ impl Generator {
         let mut words = self.well_formed();
         let x = draw(self.seed, DAMAGE);
         let i = self.cell(draw(self.seed, DAMAGE + 1));
-        let register = 2 + (x / 4 % 16) as usize;
-        let state = cell_at(i);
-        let past = self.n + 1 + x % 1000;
-        match x % 4 {
-            0 => words[register] = past,
-            1 => {
-                words[state] = FREE;
-                words[register] = i;
-            }
-            2 => words[state] = 1 + x / 4 % 3,
-            _ => {
-                words[state] = USED;
-                words[state + 1 + (x / 4 % 2) as usize] = past;
-            }
+        let (register, part) = (2 + (x / 3 % 16) as usize, (x / 3 % 2) as usize);
+        let past = self.n + 5 + x % 1000;
+        match (x % 3, self.is_used(i)) {
+            (0, true) => words[register] = past,
+            (0, false) => words[register] = i,
+            (1, true) => words[cell_at(i) + 1 + part] = past,
+            (1, false) => words[cell_at(i)] = past,
+            _ => words[cell_at(i)] = 1 + x / 3 % 3,
         }
         words
     }

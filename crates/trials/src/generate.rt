@@ -140,21 +140,33 @@ pub fn fill(words: &mut [u32], n: u32, seed: u32)
     }
 }
 
-// Makes a pool malformed: a register that leads past the cells or to a free cell, a state that is none, or a link that leads past the cells.
+// Where a pool is damaged: in a register, in a link of a used cell, or in a state.
+fn damaged_place(n: u32, seed: u32, i: u32, x: u32) -> usize {
+    if x % 3 == 0 {
+        return 2 + (x / 3 % 16) as usize;
+    }
+    if x % 3 == 1 && is_used(n, seed, i) {
+        return 15 + 4 * (i as usize) + (x / 3 % 2) as usize;
+    }
+    14 + 4 * (i as usize)
+}
+
+// What stands there then: the number of a free cell or one past the cells, which is no state either, or the state of a cell being marked.
+fn damaged_word(n: u32, seed: u32, i: u32, x: u32) -> u32 {
+    if x % 3 == 0 && !is_used(n, seed, i) {
+        return i;
+    }
+    if x % 3 == 2 {
+        return 1 + x / 3 % 3;
+    }
+    std::num::wrapping_add_u32(n, 5 + x % 1000)
+}
+
+// Makes a pool malformed.
 pub fn damage(words: &mut [u32], n: u32, seed: u32) {
     let x = draw(seed, 9000);
     let i = any_cell(n, draw(seed, 9001));
-    let past = std::num::wrapping_add_u32(n, 1 + x % 1000);
-    match x % 4 {
-        0 => words::put(words, 2 + (x / 4 % 16) as usize, past),
-        1 => {
-            words::put_cell(words, i, 0, 4);
-            words::put(words, 2 + (x / 4 % 16) as usize, i);
-        }
-        2 => words::put_cell(words, i, 0, 1 + x / 4 % 3),
-        _ => {
-            words::put_cell(words, i, 0, 0);
-            words::put_cell(words, i, 1 + x / 4 % 2, past);
-        }
-    }
+    let place = damaged_place(n, seed, i, x);
+    let word = damaged_word(n, seed, i, x);
+    words::put(words, place, word);
 }

@@ -186,11 +186,11 @@ fn run(words: &mut [u32], after: &mut [u32], stack: &mut [u32], trial: Trial) ->
     make(words, trial);
     words::set_all(stack, 7);
     let answer = collect(words, stack, trial.marker);
-    let agreed = is_expected(answer, trial, kept)
-        && is_stack_expected(stack, trial)
-        && words::same(words, after);
+    let is_answer = is_expected(answer, trial, kept);
+    let is_stack = is_stack_expected(stack, trial);
+    let is_same = words::same(words, after);
     Outcome {
-        agreed,
+        agreed: is_answer & is_stack & is_same,
         kept,
         more: answer.more,
     }
@@ -220,9 +220,7 @@ fn main() {
         number -= 1;
         let trial = trial_of(number);
         let outcome = run_in(&mut words, &mut after, &mut stack, trial);
-        if trial.marker == REVERSAL {
-            totals::count_pool(&mut t, trial.malformed, trial.n, outcome.kept);
-        }
+        totals::count_pool(&mut t, trial.marker, trial.malformed, trial.n, outcome.kept);
         totals::count_trial(&mut t, trial.marker, outcome.agreed, outcome.more);
     }
     totals::print(

@@ -15,8 +15,11 @@ fn count(t: &mut Totals, place: usize, x: u32) {
     }
 }
 
-// A pool of n cells of which some are kept.
-pub fn count_pool(t: &mut Totals, malformed: bool, n: u32, kept: u32) {
+// A pool of n cells of which some are kept; once for all markers.
+pub fn count_pool(t: &mut Totals, marker: u32, malformed: bool, n: u32, kept: u32) {
+    if marker != 0 {
+        return;
+    }
     if malformed {
         count(t, 3, 1);
     } else {
