@@ -1,6 +1,8 @@
 // Reads and writes of slices of words, and what a collection has to leave of a pool's words by the marks of its cells.
-ghost use Prim.Native.Nat.{_<_};
-ghost use lib.ListN.{length};
+ghost use mathlib.Core.Path.{_≡_};
+ghost use mathlib.Core.Bool.{true};
+ghost use Prim.Native.Nat.{ℕ, _<_};
+ghost use lib.ListN.{length, getD};
 
 // Stores a word, where there is that place.
 pub fn put(words: &mut [u32], k: usize, v: u32) {
@@ -14,7 +16,10 @@ pub fn put_cell(words: &mut [u32], i: u32, field: u32, v: u32) {
     put(words, 14 + 4 * (i as usize) + field as usize, v);
 }
 
-pub fn same(a: &[u32], b: &[u32]) -> bool {
+// Are the words the same?
+pub fn same(a: &[u32], b: &[u32]) -> bool
+    ensures { λ r. ⌜ (r ≡ true → now (a .entry) ≡ now (b .entry)) ⌝ }
+{
     if a.len() != b.len() {
         return false;
     }
@@ -36,7 +41,10 @@ pub fn set_all(words: &mut [u32], v: u32) {
     }
 }
 
-pub fn all_are(words: &[u32], v: u32) -> bool {
+// Is every word v?
+pub fn all_are(words: &[u32], v: u32) -> bool
+    ensures { λ r. ⌜ (r ≡ true → (k : ℕ) → k < length (now (words .entry)) → getD (now (words .entry)) k 0 ≡ v) ⌝ }
+{
     let mut k = 0;
     while k < words.len() {
         if words[k] != v {
