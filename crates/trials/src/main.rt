@@ -8,6 +8,7 @@ mod words;
 use collector::Collection;
 use stack_marker::StackCollection;
 ghost use mathlib.Core.Path.{_≡_};
+ghost use mathlib.Core.Bool.{true};
 ghost use Prim.Native.Nat.{_≤_};
 ghost use lib.ListN.{length};
 ghost use Rattle.pool.specs.Layout.{registerCount, poolLength};
@@ -179,8 +180,10 @@ fn is_stack_expected(stack: &[u32], trial: Trial) -> bool {
     }
 }
 
+// Runs a trial: what is expected, the pool, the collection, and the comparison.
 fn run(words: &mut [u32], after: &mut [u32], stack: &mut [u32], trial: Trial) -> Outcome
     requires { ⌜ (trial .n ≤ 4000) × (poolLength registerCount (trial .n) ≤ length (now after)) ⌝ }
+    ensures { λ r. ⌜ (r .agreed ≡ true → now (words .exit) ≡ now (after .exit)) ⌝ }
 {
     let kept = expect(after, trial);
     make(words, trial);
