@@ -2,13 +2,11 @@
 use Prim.Native.Nat.{ℕ, _+_, _<_, _≤_}
 use mathlib.Core.Path.{_≡_}
 use mathlib.Core.Logic.{_⊎_, _↔_}
-use mathlib.Core.Bool.{true}
 use mathlib.Core.List.{List}
 use lib.ListN.{getD}
 use Rattle.graph.specs.Graph.{Reach}
 use Rattle.graph.specs.Marking.{marked}
 use Rattle.pool.specs.Layout.{registerCount, register, left, right, graphOf, rootsOf}
-use Rattle.pool.specs.Validity.{wellFormed}
 
 -- The registers of a pool with the words w reach the cell x.
 abbrev pub Reached : List ℕ → ℕ → Type 0

@@ -44,6 +44,7 @@ struct Answer {
     more: u32,
 }
 
+// How a trial went: whether the answer and all words were as expected, the kept cells that were expected, and the answer's last number.
 struct Outcome {
     agreed: bool,
     kept: u32,
@@ -104,6 +105,7 @@ fn of_stack(collection: StackCollection) -> Answer {
     }
 }
 
+// Collects with one of the markers.
 fn collect(words: &mut [u32], stack: &mut [u32], marker: u32) -> Answer {
     match marker {
         REVERSAL => of_collection(collector::collect(words)),
@@ -156,6 +158,7 @@ fn expect(after: &mut [u32], trial: Trial) -> u32
     words::keep_marked(after, trial.n, &marks)
 }
 
+// Is the answer the one that has to come? As many stack words as cells have to be enough.
 fn is_expected(answer: Answer, trial: Trial, kept: u32) -> bool {
     if answer.refusal != refusal_of(trial) {
         return false;
@@ -171,7 +174,7 @@ fn is_expected(answer: Answer, trial: Trial, kept: u32) -> bool {
     }
 }
 
-// The stack's words are 7 before, and after a collection that lends them 0.
+// The stack's words are 7 before. After a collection with the stack they have to be 0, and otherwise as before.
 fn is_stack_expected(stack: &[u32], trial: Trial) -> bool {
     if trial.marker < NO_WORDS || trial.malformed {
         words::all_are(stack, 7)

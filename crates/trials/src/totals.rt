@@ -29,6 +29,7 @@ pub fn count_pool(t: &mut Totals, marker: u32, malformed: bool, n: u32, kept: u3
     }
 }
 
+// A trial of a marker.
 pub fn count_trial(t: &mut Totals, marker: u32, agreed: bool, more: u32) {
     let place = 4 + 3 * (marker as usize);
     if agreed {

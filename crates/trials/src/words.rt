@@ -33,6 +33,7 @@ pub fn same(a: &[u32], b: &[u32]) -> bool
     true
 }
 
+// Makes every word v.
 pub fn set_all(words: &mut [u32], v: u32) {
     let mut k = 0;
     while k < words.len() {
