@@ -1,7 +1,6 @@
 // Tries every marker on many pseudo-random pools: a marker of another make says which cells a collection has to keep, and the answers and all words of
 // the others are compared with what follows from its marks alone.
 mod generate;
-mod marker;
 mod totals;
 mod words;
 
@@ -154,7 +153,7 @@ fn expect(after: &mut [u32], trial: Trial) -> u32
         return 0;
     }
     let mut marks = [0u32; 4001];
-    marker::mark(after, trial.n, &mut marks);
+    fixpoint_marker::mark(after, trial.n, &mut marks);
     words::keep_marked(after, trial.n, &marks)
 }
 

@@ -1,9 +1,9 @@
--- `trials::marker::mark_links` meets its contract: both links of a marked cell, one after the other.
+-- `fixpoint_marker::mark_links` meets its contract: both links of a marked cell, one after the other.
 use borrow.Author.Needs.{needs}
 use native.Mathlib.Omega.{arith}
-use Rattle.trials.proofs.Passes.{grown-none, grown-links}
-use Rattle.trials.proofs.marker.mark_links.Statement.{statement}
-use Rattle.trials.proofs.marker.mark_links.Tie as tie
+use Rattle.fixpoint_marker.proofs.Passes.{grown-none, grown-links}
+use Rattle.fixpoint_marker.proofs.mark_links.Statement.{statement}
+use Rattle.fixpoint_marker.proofs.mark_links.Tie as tie
 
 mul-if1 : tie.Need-mul-if1
 mul-if1 c = search needs

@@ -19,7 +19,8 @@ use Rattle.pool.specs.Validity.{wellFormed}
 use Rattle.pool.proofs.Every.{tabulate-member, member-tabulate}
 use Rattle.pool.proofs.WellFormed.{well-formed-read}
 use Rattle.pool.proofs.PoolGraph.{pool-within}
-use Rattle.trials.specs.Marks.{Reached, Exact, Marked, Sound, Rooted, Closed, Linked, Grown}
+use Rattle.collector.specs.CollectTheorem.{Reached}
+use Rattle.fixpoint_marker.specs.Marks.{Exact, Marked, Sound, Rooted, Closed, Linked, Grown}
 
 -- A link whose cell is marked, or which leads to none.
 pub linked-none : {n x : ℕ} (m : List ℕ) → Marked n m x → Linked n x m m 0

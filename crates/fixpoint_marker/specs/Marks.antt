@@ -1,16 +1,12 @@
--- What the marker of the trials does, pass by pass. Its marks are a list of words: the word at place i marks cell i where it is above 0.
+-- What a marker does that makes passes over all cells to a fixed point. Its marks are a list of words: the word at place i marks cell i where it is above 0.
 use Prim.Native.Nat.{ℕ, _+_, _<_, _≤_}
 use mathlib.Core.Path.{_≡_}
 use mathlib.Core.Logic.{_⊎_, _↔_}
 use mathlib.Core.List.{List}
 use lib.ListN.{getD}
-use Rattle.graph.specs.Graph.{Reach}
 use Rattle.graph.specs.Marking.{marked}
-use Rattle.pool.specs.Layout.{registerCount, register, left, right, graphOf, rootsOf}
-
--- The registers of a pool with the words w reach the cell x.
-abbrev pub Reached : List ℕ → ℕ → Type 0
-Reached w x = Reach (graphOf registerCount w) (rootsOf registerCount w) x
+use Rattle.pool.specs.Layout.{registerCount, register, left, right}
+use Rattle.collector.specs.CollectTheorem.{Reached}
 
 -- The marks are exact: a cell is marked exactly where it is reached.
 abbrev pub Exact : ℕ → List ℕ → List ℕ → Type 0

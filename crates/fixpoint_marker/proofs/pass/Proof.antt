@@ -1,12 +1,12 @@
--- `trials::marker::pass` meets its contract. The measure is the number of cells that are left.
+-- `fixpoint_marker::pass` meets its contract. The measure is the number of cells that are left.
 use borrow.Author.Needs.{needs}
 use native.Mathlib.Omega.{arith}
 use Prim.Native.Nat.{_≤_}
 use mathlib.Core.Path.{_≡_, refl}
 use lib.ListN.{length}
-use Rattle.trials.proofs.Passes.{Passed, passed-none, passed-more, grown-fits}
-use Rattle.trials.proofs.marker.pass.Statement.{statement}
-use Rattle.trials.proofs.marker.pass.Tie as tie
+use Rattle.fixpoint_marker.proofs.Passes.{Passed, passed-none, passed-more, grown-fits}
+use Rattle.fixpoint_marker.proofs.pass.Statement.{statement}
+use Rattle.fixpoint_marker.proofs.pass.Tie as tie
 
 abbrev Inv-loop : tie.InvT-loop
 Inv-loop words n marks₀ found₀ i₀ marks found i = (i ≤ n) × (length marks ≡ length marks₀) × Passed n words marks₀ marks found i

@@ -7,7 +7,7 @@ ghost use mathlib.Core.Bool.{true};
 ghost use lib.ListN.{length};
 ghost use Rattle.pool.specs.Layout.{registerCount, poolLength};
 ghost use Rattle.pool.specs.Validity.{wellFormed};
-ghost use Rattle.trials.specs.Marks.{Exact, Sound, Rooted, Closed, Linked, Grown};
+ghost use Rattle.fixpoint_marker.specs.Marks.{Exact, Sound, Rooted, Closed, Linked, Grown};
 
 // Marks the cell that a link leads to. Gives how many cells that newly marks: 1 or 0.
 fn mark_link(marks: &mut [u32], n: u32, x: u32) -> u32

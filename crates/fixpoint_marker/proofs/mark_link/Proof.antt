@@ -1,9 +1,9 @@
--- `trials::marker::mark_link` meets its contract: nil and what is past the cells is left, and so is a marked cell.
+-- `fixpoint_marker::mark_link` meets its contract: nil and what is past the cells is left, and so is a marked cell.
 use borrow.Author.Needs.{needs}
 use native.Mathlib.Omega.{arith}
-use Rattle.trials.proofs.Passes.{linked-none, linked-set}
-use Rattle.trials.proofs.marker.mark_link.Statement.{statement}
-use Rattle.trials.proofs.marker.mark_link.Tie as tie
+use Rattle.fixpoint_marker.proofs.Passes.{linked-none, linked-set}
+use Rattle.fixpoint_marker.proofs.mark_link.Statement.{statement}
+use Rattle.fixpoint_marker.proofs.mark_link.Tie as tie
 
 returns : tie.Need-returns
 returns c = linked-none _ (λ h k. absurd (omega arith))

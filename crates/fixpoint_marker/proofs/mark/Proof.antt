@@ -1,14 +1,14 @@
--- `trials::marker::mark` meets its contract. The measure is the number of unmarked cells.
+-- `fixpoint_marker::mark` meets its contract. The measure is the number of unmarked cells.
 use borrow.Author.Needs.{needs}
 use native.Mathlib.Omega.{arith}
 use Prim.Native.Nat.{_-_}
 use mathlib.Core.Path.{_≡_}
 use lib.ListN.{length, getD}
 use Rattle.graph.specs.Marking.{marked}
-use Rattle.trials.specs.Marks.{Sound, Rooted}
-use Rattle.trials.proofs.Passes.{clear-sound, exact, grown-fits, grown-rooted}
-use Rattle.trials.proofs.marker.mark.Statement.{statement}
-use Rattle.trials.proofs.marker.mark.Tie as tie
+use Rattle.fixpoint_marker.specs.Marks.{Sound, Rooted}
+use Rattle.fixpoint_marker.proofs.Passes.{clear-sound, exact, grown-fits, grown-rooted}
+use Rattle.fixpoint_marker.proofs.mark.Statement.{statement}
+use Rattle.fixpoint_marker.proofs.mark.Tie as tie
 
 abbrev Inv-loop : tie.InvT-loop
 Inv-loop words n marks₀ marks = (length marks ≡ length marks₀) × Sound words marks × Rooted n words marks

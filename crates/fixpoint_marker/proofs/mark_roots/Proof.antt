@@ -1,13 +1,13 @@
--- `trials::marker::mark_roots` meets its contract. The measure is the number of registers that are left.
+-- `fixpoint_marker::mark_roots` meets its contract. The measure is the number of registers that are left.
 use borrow.Author.Needs.{needs}
 use native.Mathlib.Omega.{arith}
 use Prim.Native.Nat.{_≤_, _-_}
 use mathlib.Core.Path.{_≡_, refl}
 use lib.ListN.{length}
 use Rattle.pool.specs.Layout.{registerCount}
-use Rattle.trials.proofs.Passes.{Started, started-none, started-more}
-use Rattle.trials.proofs.marker.mark_roots.Statement.{statement}
-use Rattle.trials.proofs.marker.mark_roots.Tie as tie
+use Rattle.fixpoint_marker.proofs.Passes.{Started, started-none, started-more}
+use Rattle.fixpoint_marker.proofs.mark_roots.Statement.{statement}
+use Rattle.fixpoint_marker.proofs.mark_roots.Tie as tie
 
 abbrev Inv-loop : tie.InvT-loop
 Inv-loop words n marks₀ k₀ marks k = (k ≤ registerCount) × (length marks ≡ length marks₀) × Started n words marks₀ marks k
