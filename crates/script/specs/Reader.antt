@@ -51,10 +51,6 @@ withLast s v =
       fourth = v;
     }
 
--- The digits from the place `at` to i, if any, are read, and the last number has come to v.
-abbrev pub readDigits : LineReader → ℕ → ℕ → ℕ → LineReader
-readDigits s at i v = cond (eqb i at) s (withLast s v)
-
 -- After a space: a complete word ends, and the next number begins; the fifth spoils the line.
 unfoldable pub spaceOf : LineReader → LineReader
 spaceOf s = cond (s .complete && ltb (s .count) 4) (nextNumber s) badReader

@@ -7,7 +7,7 @@ ghost use mathlib.Core.Path.{_≡_};
 ghost use mathlib.Core.List.{[], _∷_};
 ghost use lib.ListN.{length, drop};
 ghost use Rattle.script.specs.Lines.{isDigit, command};
-ghost use Rattle.script.specs.Reader.{withoutNumbers, newReader, badReader, withLast, readDigits, spaceOf, letterOf, digitOf, feedOf, endOf, begunOf};
+ghost use Rattle.script.specs.Reader.{withoutNumbers, newReader, badReader, spaceOf, letterOf, digitOf, feedOf, endOf, begunOf};
 ghost use Rattle.script.specs.Scripts.{nextLine};
 ghost use Rattle.script.specs.Replies.{decimal, afterSpace, spaced, freshReply, replyText, replyRoom, Put, writeAt};
 
@@ -111,22 +111,6 @@ impl LineReader {
         LineReader::without_numbers(false, true, b)
     }
 
-    // The last number has that value.
-    fn with_last(self, v: u32) -> LineReader
-        ensures { λ r. ⌜ r ≡ withLast self v ⌝ }
-    {
-        LineReader {
-            bad: false,
-            complete: true,
-            letter: self.letter,
-            count: self.count,
-            first: self.first,
-            second: self.second,
-            third: self.third,
-            fourth: v,
-        }
-    }
-
     // After a byte of a number.
     fn digit(self, b: u8) -> LineReader
         ensures { λ r. ⌜ r ≡ digitOf self b ⌝ }
@@ -136,7 +120,16 @@ impl LineReader {
         }
         let v = 10 * (self.fourth as u64) + ((b - b'0') as u64);
         if v < 4294967296 {
-            self.with_last(v as u32)
+            LineReader {
+                bad: false,
+                complete: true,
+                letter: self.letter,
+                count: self.count,
+                first: self.first,
+                second: self.second,
+                third: self.third,
+                fourth: v as u32,
+            }
         } else {
             LineReader::spoilt()
         }
@@ -198,47 +191,26 @@ impl LineReader {
     fn digits(self, bytes: &[u8], at: usize) -> Reached
         ensures { λ r. ⌜ (at ≤ r .next) × (nextLine (r .reader) (drop (r .next) (now (bytes .entry))) (r .next) ≡ nextLine self (drop at (now (bytes .entry))) at) ⌝ }
     {
-        if self.bad {
-            return Reached {
-                reader: self,
-                next: at,
-            };
-        }
-        if self.count == 0 {
-            return Reached {
-                reader: self,
-                next: at,
-            };
-        }
-        let mut v = self.fourth;
+        let mut reader = self;
         let mut i = at;
+        if reader.bad {
+            return Reached { reader, next: i };
+        }
+        if reader.count == 0 {
+            return Reached { reader, next: i };
+        }
         while i < bytes.len() {
             let b = bytes[i];
             if !is_digit(b) {
-                return self.reached(v, at, i);
+                return Reached { reader, next: i };
             }
-            let w = 10 * (v as u64) + ((b - b'0') as u64);
+            reader = reader.digit(b);
             i += 1;
-            if 4294967295 < w {
-                return Reached {
-                    reader: LineReader::spoilt(),
-                    next: i,
-                };
+            if reader.bad {
+                return Reached { reader, next: i };
             }
-            v = w as u32;
         }
-        self.reached(v, at, i)
-    }
-
-    // The digits from `at` to `next`, if any, are read, and the last number has come to v.
-    fn reached(self, v: u32, at: usize, next: usize) -> Reached
-        ensures { λ r. ⌜ (r .reader ≡ readDigits self at next v) × (r .next ≡ next) ⌝ }
-    {
-        if next == at {
-            return Reached { reader: self, next };
-        }
-        let reader = self.with_last(v);
-        Reached { reader, next }
+        Reached { reader, next: i }
     }
 
     // Reads on in a part of the script, from a place on, up to the next line feed.

@@ -33,22 +33,20 @@ cast-v-2 c = search needs
 add-v : tie.Need-add-v
 add-v c = search needs
 
-cast-with-last : tie.Need-cast-with-last
-cast-with-last c = search needs
-
-with-last-requires : tie.Need-with-last-requires
-with-last-requires c κs = search needs
+cast-t11 : tie.Need-cast-t11
+cast-t11 c = search needs
 
 spoilt-requires-2 : tie.Need-spoilt-requires-2
 spoilt-requires-2 c κs = search needs
 
 returns-2 : tie.Need-returns-2
 unfolding digitOf
-returns-2 c = c .with-last .ensures ∙ simp (a-digit (c .before .before .before .before .before .args .b) _ (c .before .before .before .before .is-digit .ensures) (c .before .before .before .if1 .left), lt-ltb _ _ (c .before .if2 .taken))
+returns-2 c = simp (a-digit (c .before .before .before .before .args .b) _ (c .before .before .before .is-digit .ensures) (c .before .before .if1 .left), lt-ltb _ _ (c .if2 .taken))
 
 returns-3 : tie.Need-returns-3
 unfolding digitOf
-returns-3 c = c .spoilt2 .ensures ∙ simp (a-digit (c .before .before .before .before .before .args .b) _ (c .before .before .before .before .is-digit .ensures) (c .before .before .before .if1 .left), le-ltb _ _ (c .before .if2 .left))
+returns-3 c =
+    c .spoilt2 .ensures ∙ simp (a-digit (c .before .before .before .before .before .args .b) _ (c .before .before .before .before .is-digit .ensures) (c .before .before .before .if1 .left), le-ltb _ _ (c .before .if2 .left))
 
 pub digit-spec : {M : Type 1} → statement M
 digit-spec =
@@ -62,8 +60,7 @@ digit-spec =
     sub-v
     cast-v-2
     add-v
-    cast-with-last
-    with-last-requires
+    cast-t11
     spoilt-requires-2
     returns-2
     returns-3)
