@@ -6,16 +6,16 @@ use mathlib.Core.Path.{_≡_, refl, ap}
 use mathlib.Core.List.{List, [], _∷_, _++_, append-assoc}
 use lib.ListN.{length, set, drop, length-append}
 use borrow.Author.Tests.{le-leb}
-use Rattle.pool.specs.Outcome.{Outcome}
+use Rattle.pool.specs.Outcome.{Outcome, status, given}
 use Rattle.calls.specs.declared.Call.{Call}
 use Rattle.calls.specs.declared.Call.the-variants as call
 use Rattle.calls.specs.Calls.{callOf}
 use Rattle.batch.specs.declared.Ran.the-variants as ran
-use Rattle.batch.specs.Program.{then, programOf, whole, programWords}
-use Rattle.batch.specs.Run.{verdictOf, givenOf, written, runFrom, answersOf, afterAll, answerWords, Runs-one-after-the-other, Every-list-has-words}
+use Rattle.batch.specs.Program.{then, programOf, programOfCalls, programWords}
+use Rattle.batch.specs.Run.{written, runFrom, answersOf, afterAll, answerWords, Runs-one-after-the-other, Every-list-has-words}
 
 pub every-list-has-words : Every-list-has-words
-unfolding programOf programWords whole
+unfolding programOf programWords programOfCalls
 every-list-has-words [] = refl
 every-list-has-words (call.Copy r a ∷ cs) = ap (then (call.Copy r a)) (every-list-has-words cs)
 every-list-has-words (call.Clear r ∷ cs) = ap (then (call.Clear r)) (every-list-has-words cs)
@@ -37,25 +37,25 @@ set-behind (x ∷ front) back (suc n) i v e = ap (λ (l : List ℕ). x ∷ l) (s
 
 -- the three words of an answer, written behind those of the answers before
 written-next : (front : List ℕ) (x y z : ℕ) (back : List ℕ) (k : ℕ) → length front ≡ 3 * k → (o : Outcome)
-    → written (front ++ x ∷ y ∷ z ∷ back) k o ≡ front ++ verdictOf o ∷ givenOf o 0 ∷ givenOf o 1 ∷ back
+    → written (front ++ x ∷ y ∷ z ∷ back) k o ≡ front ++ status o ∷ given o 0 0 ∷ given o 1 0 ∷ back
 written-next front x y z back k e o =
     rw (
-      set-behind front (x ∷ y ∷ z ∷ back) (3 * k) 0 (verdictOf o) (omega arith),
-      set-behind front (verdictOf o ∷ y ∷ z ∷ back) (3 * k + 1) 1 (givenOf o 0) (omega arith),
-      set-behind front (verdictOf o ∷ givenOf o 0 ∷ z ∷ back) (3 * k + 2) 2 (givenOf o 1) (omega arith),
+      set-behind front (x ∷ y ∷ z ∷ back) (3 * k) 0 (status o) (omega arith),
+      set-behind front (status o ∷ y ∷ z ∷ back) (3 * k + 1) 1 (given o 0 0) (omega arith),
+      set-behind front (status o ∷ given o 0 0 ∷ z ∷ back) (3 * k + 2) 2 (given o 1 0) (omega arith),
     )
 
 -- the run of the calls cs behind k others, whose answers are the words in front
 from : (cs : List Call) (k : ℕ) (w front back : List ℕ) → length front ≡ 3 * k → 3 * length cs ≤ length back
-    → runFrom k (whole cs) w (front ++ back) ≡ (ran.All (k + length cs), afterAll cs w, front ++ (answerWords (answersOf cs w) ++ drop (3 * length cs) back))
-unfolding runFrom whole afterAll answersOf answerWords
+    → runFrom k (programOfCalls cs) w (front ++ back) ≡ (ran.All (k + length cs), afterAll cs w, front ++ (answerWords (answersOf cs w) ++ drop (3 * length cs) back))
+unfolding runFrom programOfCalls afterAll answersOf answerWords
 from [] k w front back e room = rw add-zero
 from (c ∷ cs) k w front [] e room = absurd (omega arith)
 from (c ∷ cs) k w front (x ∷ []) e room = absurd (omega arith)
 from (c ∷ cs) k w front (x ∷ y ∷ []) e room = absurd (omega arith)
 from (c ∷ cs) k w front (x ∷ y ∷ z ∷ back) e room =
     let p = callOf c w in
-    let three = verdictOf (p .0) ∷ givenOf (p .0) 0 ∷ givenOf (p .0) 1 ∷ [] in
+    let three = status (p .0) ∷ given (p .0) 0 0 ∷ given (p .0) 1 0 ∷ [] in
     let place : k + suc (length cs) ≡ suc k + length cs = omega arith in
     let behind : 3 * suc (length cs) ≡ suc (suc (suc (3 * length cs))) = omega arith in
     let fits : 3 * k + 3 ≤ length (front ++ x ∷ y ∷ z ∷ back) = simp length-append (omega arith) in

@@ -42,10 +42,10 @@ programOf (code ∷ x ∷ []) = malformed
 programOf (code ∷ x ∷ y ∷ []) = malformed
 programOf (code ∷ x ∷ y ∷ z ∷ []) = malformed
 
--- A list of calls, whole.
-unfoldable pub whole : List Call → Program
-whole [] = ended
-whole (c ∷ cs) = then c (whole cs)
+-- The program that has these calls, and nothing else.
+unfoldable pub programOfCalls : List Call → Program
+programOfCalls [] = ended
+programOfCalls (c ∷ cs) = then c (programOfCalls cs)
 
 -- The five words of a call, and of each call of a list.
 abbrev pub callWords : Call → List ℕ

@@ -3,27 +3,18 @@ use Prim.Native.Nat.{ℕ, suc, _+_, _*_, _≤_}
 use mathlib.Core.Path.{_≡_}
 use mathlib.Core.List.{List, [], _∷_, _++_}
 use mathlib.Core.Bool.{true, false}
-use lib.ListN.{length, getD, set, drop}
+use lib.ListN.{length, set, drop}
 use lib.Dec.{leb}
-use Rattle.pool.specs.Outcome.{Outcome, answered, refused}
+use Rattle.pool.specs.Outcome.{Outcome, status, given}
 use Rattle.calls.specs.declared.Call.{Call}
 use Rattle.calls.specs.Calls.{callOf}
 use Rattle.batch.specs.declared.Ran.{Ran}
 use Rattle.batch.specs.declared.Ran.the-variants as ran
-use Rattle.batch.specs.Program.{Program, ended, malformed, then, programOf, whole, programWords}
+use Rattle.batch.specs.Program.{Program, ended, malformed, then, programOf, programOfCalls, programWords}
 
--- An answer as three words: 0 or the refusal's number, then the numbers given, 0 where there are fewer.
-abbrev pub verdictOf : Outcome → ℕ
-verdictOf (answered xs) = 0
-verdictOf (refused k) = k
-
-abbrev pub givenOf : Outcome → ℕ → ℕ
-givenOf (answered xs) i = getD xs i 0
-givenOf (refused k) i = 0
-
--- The three words of an answer, written at place k.
+-- An answer as three words, written at place k: 0 or the refusal's number, then the numbers given, 0 where there are fewer.
 abbrev pub written : List ℕ → ℕ → Outcome → List ℕ
-written out k o = set (set (set out (3 * k) (verdictOf o)) (3 * k + 1) (givenOf o 0)) (3 * k + 2) (givenOf o 1)
+written out k o = set (set (set out (3 * k) (status o)) (3 * k + 1) (given o 0 0)) (3 * k + 2) (given o 1 0)
 
 -- Runs the calls from place k on. It ends with the number of calls that ran: at the end of the list, at an entry that is no call, or at a call
 -- for whose answer there is no room. Later answer words stay.
@@ -50,14 +41,14 @@ afterAll (c ∷ cs) w = afterAll cs (callOf c w .1)
 
 unfoldable pub answerWords : List Outcome → List ℕ
 answerWords [] = []
-answerWords (o ∷ os) = verdictOf o ∷ givenOf o 0 ∷ givenOf o 1 ∷ answerWords os
+answerWords (o ∷ os) = status o ∷ given o 0 0 ∷ given o 1 0 ∷ answerWords os
 
 -- A list that holds the calls cs, with room for their answers: all of them run, one after the other, and the answers written are theirs.
 abbrev pub Runs-one-after-the-other : Type 0
 Runs-one-after-the-other =
-    (list : List ℕ) (cs : List Call) (w out : List ℕ) → programOf list ≡ whole cs → 3 * length cs ≤ length out
+    (list : List ℕ) (cs : List Call) (w out : List ℕ) → programOf list ≡ programOfCalls cs → 3 * length cs ≤ length out
     → runOf list w out ≡ (ran.All (length cs), afterAll cs w, answerWords (answersOf cs w) ++ drop (3 * length cs) out)
 
 -- Every list of calls can be given so.
 abbrev pub Every-list-has-words : Type 0
-Every-list-has-words = (cs : List Call) → programOf (programWords cs) ≡ whole cs
+Every-list-has-words = (cs : List Call) → programOf (programWords cs) ≡ programOfCalls cs

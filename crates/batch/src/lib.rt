@@ -1,12 +1,12 @@
 // Runs a list of calls that stands in lent words, and writes the answers to lent words.
-use calls::Answer;
+use answers::Answer;
 use calls::Call;
 ghost use mathlib.Core.Path.{_≡_};
 ghost use Prim.Native.Nat.{_+_, _*_, _≤_};
 ghost use lib.ListN.{length};
-ghost use Rattle.calls.specs.Answers.{answerOutcome};
+ghost use Rattle.answers.specs.Answers.{answerOutcome};
 ghost use Rattle.batch.specs.Program.{callNumbered, entryAt};
-ghost use Rattle.batch.specs.Run.{verdictOf, givenOf, written, runOf};
+ghost use Rattle.batch.specs.Run.{written, runOf};
 
 // The call of an entry of the list.
 pub enum Decoded {
@@ -66,51 +66,14 @@ fn entry(list: &[u32], at: usize) -> Decoded
     )
 }
 
-// The three words of an answer: 0 or the refusal's number, then the numbers that it gives.
-fn verdict(answer: Answer) -> u32
-    ensures { λ q. ⌜ q ≡ verdictOf (answerOutcome answer) ⌝ }
-{
-    match answer {
-        Answer::Done => 0,
-        Answer::Allocated { visits: _ } => 0,
-        Answer::Number(_) => 0,
-        Answer::Collected { kept: _, visits: _ } => 0,
-        Answer::Refused(k) => k.number(),
-    }
-}
-
-fn first_number(answer: Answer) -> u32
-    ensures { λ q. ⌜ q ≡ givenOf (answerOutcome answer) 0 ⌝ }
-{
-    match answer {
-        Answer::Done => 0,
-        Answer::Allocated { visits } => visits,
-        Answer::Number(x) => x,
-        Answer::Collected { kept, visits: _ } => kept,
-        Answer::Refused(_) => 0,
-    }
-}
-
-fn second_number(answer: Answer) -> u32
-    ensures { λ q. ⌜ q ≡ givenOf (answerOutcome answer) 1 ⌝ }
-{
-    match answer {
-        Answer::Done => 0,
-        Answer::Allocated { visits: _ } => 0,
-        Answer::Number(_) => 0,
-        Answer::Collected { kept: _, visits } => visits,
-        Answer::Refused(_) => 0,
-    }
-}
-
 // Writes the answer of the call at place k.
 fn write_answer(answers: &mut [u32], k: usize, answer: Answer)
     requires { ⌜ 3 * k + 3 ≤ length (now answers) ⌝ }
     ensures { λ _. ⌜ now (answers .exit) ≡ written (now (answers .entry)) k (answerOutcome answer) ⌝ }
 {
-    answers[3 * k] = verdict(answer);
-    answers[3 * k + 1] = first_number(answer);
-    answers[3 * k + 2] = second_number(answer);
+    answers[3 * k] = answer.status();
+    answers[3 * k + 1] = answer.first(0);
+    answers[3 * k + 2] = answer.second(0);
 }
 
 // Runs the calls of the list, one after the other, and writes three words for each: 0 or the number of its refusal, then the numbers that it

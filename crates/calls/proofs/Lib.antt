@@ -1,4 +1,2 @@
-pub mod Held
 pub mod Simple
-pub mod Allocate
 pub mod Admission

@@ -6,9 +6,10 @@ use mathlib.Core.Bool.{true, false}
 use borrow.Author.Tests.{eq-eqb, ne-eqb}
 use Rattle.pool.specs.Layout.{registerCount, setRegister, cell, setCell}
 use Rattle.pool.specs.Validity.{validLink}
+use Rattle.pool.specs.Calls.{holdsLink}
 use Rattle.pool.specs.Outcome.{answered, refused}
-use Rattle.calls.specs.Calls.{copyIn, followIn, linkIn, setValueIn, valueIn, sameIn, holdsLink}
-use Rattle.calls.proofs.Held.{Holds}
+use Rattle.calls.specs.Calls.{copyIn, followIn, linkIn, setValueIn, valueIn, sameIn}
+use Rattle.pool.proofs.RegisterLinks.{Holds}
 
 module _ (n : ℕ) (w : List ℕ) {a x : ℕ} (h : Holds n w a x) where
   pub copied : (r : ℕ) {w' : List ℕ} → w' ≡ setRegister w r x → (answered [], w') ≡ copyIn n w r a

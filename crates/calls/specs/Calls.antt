@@ -1,12 +1,14 @@
 -- What each of the eleven calls answers and leaves, on every list of words (01, "The eleven calls" and "Questions, in order").
-use Prim.Native.Nat.{ℕ, _*_}
+use Prim.Native.Nat.{ℕ}
 use mathlib.Core.List.{List, [], _∷_}
-use mathlib.Core.Bool.{Bool, cond, _&&_}
-use lib.Dec.{eqb, leb, ltb}
-use Rattle.pool.specs.Layout.{registerCount, cellsOf, head, setHead, register, setRegister, cell, setCell, state, left, value}
-use Rattle.pool.specs.Validity.{isFree, validLink, wellFormed}
+use mathlib.Core.Bool.{cond, _&&_}
+use lib.Dec.{eqb, ltb}
+use Rattle.pool.specs.Layout.{registerCount, cellsOf, register, setRegister, cell, setCell, value}
+use Rattle.pool.specs.Validity.{validLink}
+use Rattle.pool.specs.Calls.{holdsLink}
 use Rattle.pool.specs.Outcome.{Outcome, answered, refused}
-use Rattle.collector.specs.Collect.{keptCells, collected, collectOf}
+use Rattle.collector.specs.Collect.{collectOf}
+use Rattle.allocator.specs.Allocation.{newIn}
 use Rattle.calls.specs.declared.Call.{Call}
 use Rattle.calls.specs.declared.Call.the-variants as call
 
@@ -18,10 +20,6 @@ asked w r a b body =
     cond (ltb 0 n)
     (cond (ltb r registerCount && ltb a registerCount && ltb b registerCount) (body n) (refused 2, w))
     (refused 1, w)
-
--- "Are the registers read sound? No: 3."
-abbrev pub holdsLink : ℕ → List ℕ → ℕ → Bool
-holdsLink n w a = validLink registerCount n w (register w a)
 
 -- "copy r a"
 abbrev pub copyIn : ℕ → List ℕ → ℕ → ℕ → Outcome × List ℕ
@@ -63,37 +61,6 @@ abbrev pub sameIn : ℕ → List ℕ → ℕ → ℕ → Outcome × List ℕ
 sameIn n w a b =
     cond (holdsLink n w a && holdsLink n w b)
     (answered (cond (eqb (register w a) (register w b)) 1 0 ∷ []), w)
-    (refused 3, w)
-
--- "a used cell with left from a, right from b, value v; r gets it. It takes the head cell, and the head becomes that cell's left."
-abbrev pub take : List ℕ → ℕ → ℕ → ℕ → ℕ → List ℕ
-take w r x y v =
-    let i = head w in
-    let next = left registerCount w i in
-    let used = setCell registerCount (setCell registerCount (setCell registerCount (setCell registerCount w i 0 0) i 1 x) i 2 y) i 3 v in
-    setRegister (setHead used next) r i
-
--- "new with another head: is it 1 to N and free, its left at most N? No: 3."
-abbrev pub goodHead : ℕ → List ℕ → Bool
-goodHead n w = leb (head w) n && isFree (state registerCount w (head w)) && leb (left registerCount w (head w)) n
-
--- "Where the head is 0 it collects first, with r's old content still a root", if the pool is whole (3), and takes the head cell that it finds then.
--- "new, after collecting: is a cell free? No: 5", and nothing has changed. x and y are the links that a and b hold.
-abbrev pub takeCollected : ℕ → List ℕ → ℕ → ℕ → ℕ → ℕ → Outcome × List ℕ
-takeCollected n w r x y v =
-    cond (wellFormed registerCount n w)
-    (cond (eqb (head (collected registerCount n w)) 0)
-    (refused 5, w)
-    (answered (3 * keptCells registerCount n w ∷ []), take (collected registerCount n w) r x y v))
-    (refused 3, w)
-
--- "new r a b v", which "also reports visits: 0, or 3 × kept where it collected".
-abbrev pub newIn : ℕ → List ℕ → ℕ → ℕ → ℕ → ℕ → Outcome × List ℕ
-newIn n w r a b v =
-    let x = register w a in
-    let y = register w b in
-    cond (holdsLink n w a && holdsLink n w b)
-    (cond (eqb (head w) 0) (takeCollected n w r x y v) (cond (goodHead n w) (answered (0 ∷ []), take w r x y v) (refused 3, w)))
     (refused 3, w)
 
 -- "a call is one of eleven cases"

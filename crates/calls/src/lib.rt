@@ -1,5 +1,6 @@
 // The eleven calls on a pool. A function whose name ends in `_in` is a call behind its first two questions: it takes the number of cells, n, of words
 // that hold them, and registers that there are. The others ask these questions first, and run on any words and any numbers.
+use answers::Answer;
 use collector::Collection;
 use pool::Admitted;
 use pool::Held;
@@ -8,9 +9,9 @@ use pool::Refusal;
 ghost use mathlib.Core.Path.{_≡_};
 ghost use Prim.Native.Nat.{_<_, _≤_};
 ghost use lib.ListN.{length};
-ghost use Rattle.pool.specs.Layout.{cellLimit, registerCount, poolLength, head};
-ghost use Rattle.calls.specs.Answers.{answerOutcome};
-ghost use Rattle.calls.specs.Calls.{copyIn, clearIn, followIn, linkIn, setValueIn, valueIn, sameIn, newIn, goodHead, take, takeCollected, asked, callOf};
+ghost use Rattle.pool.specs.Layout.{registerCount, poolLength};
+ghost use Rattle.answers.specs.Answers.{answerOutcome};
+ghost use Rattle.calls.specs.Calls.{copyIn, clearIn, followIn, linkIn, setValueIn, valueIn, sameIn, asked, callOf};
 
 // A call: r, a and b are register numbers, v is a value.
 pub enum Call {
@@ -25,17 +26,6 @@ pub enum Call {
     Value { a: u32 },
     Same { a: u32, b: u32 },
     Collect,
-}
-
-// What a call answers.
-pub enum Answer {
-    // Done, with nothing to tell.
-    Done,
-    // A cell was taken; how many visits a collection made for it, 0 where none was needed.
-    Allocated { visits: u32 },
-    Number(u32),
-    Collected { kept: u32, visits: u32 },
-    Refused(Refusal),
 }
 
 // A call with its answer.
@@ -150,75 +140,6 @@ fn same_in(words: &[u32], n: u32, a: u32, b: u32) -> Answer
     }
 }
 
-// Takes the head cell: it becomes a used cell with these links and this value, its left becomes the head, and r gets it, last of all.
-fn take_head(words: &mut [u32], r: u32, x: u32, y: u32, v: u32)
-    requires { ⌜ (0 < head (now words)) × (poolLength registerCount (head (now words)) ≤ length (now words)) × (r < registerCount) ⌝ }
-    ensures { λ _. ⌜ now (words .exit) ≡ take (now (words .entry)) r x y v ⌝ }
-{
-    let i = pool::read_head(words);
-    let next = pool::read_cell(words, i, Pool::LEFT);
-    pool::write_cell(words, i, Pool::STATE, Pool::USED);
-    pool::write_cell(words, i, Pool::LEFT, x);
-    pool::write_cell(words, i, Pool::RIGHT, y);
-    pool::write_cell(words, i, Pool::VALUE, v);
-    pool::write_head(words, next);
-    pool::write_register(words, r, i);
-}
-
-// Is the head a free cell whose left is nil or a cell?
-fn good_head(words: &[u32], n: u32) -> bool
-    requires { ⌜ (poolLength registerCount n ≤ length (now words)) × (0 < head (now words)) ⌝ }
-    ensures { λ q. ⌜ q ≡ goodHead n (now (words .entry)) ⌝ }
-{
-    let i = pool::read_head(words);
-    if n < i {
-        return false;
-    }
-    if pool::read_cell(words, i, Pool::STATE) == Pool::FREE {
-        pool::read_cell(words, i, Pool::LEFT) <= n
-    } else {
-        false
-    }
-}
-
-// Collects, and takes the head cell if one is free then. No register is written before, so what r holds is kept too.
-fn take_collected(words: &mut [u32], n: u32, r: u32, x: u32, y: u32, v: u32) -> Answer
-    requires { ⌜ (poolLength registerCount n ≤ length (now words)) × (0 < n) × (n ≤ cellLimit) × (r < registerCount) × (head (now words) ≡ 0) ⌝ }
-    ensures { λ q. ⌜ (answerOutcome q, now (words .exit)) ≡ takeCollected n (now (words .entry)) r x y v ⌝ }
-{
-    let Collection::Kept { kept: _, visits } = collector::collect_in(words, n) else {
-        return Answer::Refused(Refusal::Malformed);
-    };
-    let free = pool::read_head(words);
-    if free == 0 {
-        return Answer::Refused(Refusal::Full);
-    }
-    take_head(words, r, x, y, v);
-    Answer::Allocated { visits }
-}
-
-// r gets a new cell with left from a, right from b, and value v.
-fn new_in(words: &mut [u32], n: u32, r: u32, a: u32, b: u32, v: u32) -> Answer
-    requires { ⌜ (poolLength registerCount n ≤ length (now words)) × (0 < n) × (n ≤ cellLimit) × (r < registerCount) × (a < registerCount) × (b < registerCount) ⌝ }
-    ensures { λ q. ⌜ (answerOutcome q, now (words .exit)) ≡ newIn n (now (words .entry)) r a b v ⌝ }
-{
-    let Held::Link(x) = pool::read_link(words, n, a) else {
-        return Answer::Refused(Refusal::Malformed);
-    };
-    let Held::Link(y) = pool::read_link(words, n, b) else {
-        return Answer::Refused(Refusal::Malformed);
-    };
-    if pool::read_head(words) == 0 {
-        return take_collected(words, n, r, x, y, v);
-    }
-    if good_head(words, n) {
-        take_head(words, r, x, y, v);
-        Answer::Allocated { visits: 0 }
-    } else {
-        Answer::Refused(Refusal::Malformed)
-    }
-}
-
 // copy r a: r gets what a holds.
 pub fn copy(words: &mut [u32], r: u32, a: u32) -> Answer
     ensures { λ q. ⌜ (answerOutcome q, now (words .exit)) ≡ callOf (Call.Copy r a) (now (words .entry)) ⌝ }
@@ -244,7 +165,7 @@ pub fn new(words: &mut [u32], r: u32, a: u32, b: u32, v: u32) -> Answer
     ensures { λ q. ⌜ (answerOutcome q, now (words .exit)) ≡ callOf (Call.New r a b v) (now (words .entry)) ⌝ }
 {
     match pool::admit(words, r, a, b) {
-        Admitted::Cells(n) => new_in(words, n, r, a, b, v),
+        Admitted::Cells(n) => allocator::new_in(words, n, r, a, b, v),
         Admitted::Refused(k) => Answer::Refused(k),
     }
 }
@@ -341,7 +262,7 @@ pub fn collect(words: &mut [u32]) -> Answer
 
 impl Call {
     // Runs the call.
-    pub fn answer(self, words: &mut [u32]) -> Answer
+    fn answer(self, words: &mut [u32]) -> Answer
         ensures { λ q. ⌜ (answerOutcome q, now (words .exit)) ≡ callOf self (now (words .entry)) ⌝ }
     {
         match self {

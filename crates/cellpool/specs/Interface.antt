@@ -2,46 +2,35 @@
 -- leaves as they were.
 use Prim.Native.Nat.{ℕ}
 use mathlib.Core.List.{List}
-use lib.ListN.{getD}
-use Rattle.pool.specs.Outcome.{Outcome, answered, refused}
+use Rattle.pool.specs.Outcome.{Outcome, status, given}
 use Rattle.tally.specs.declared.Tally.{Tally}
 use Rattle.image.specs.declared.Loaded.{Loaded}
 
--- 0 for an accepted call, or the number of the refusal.
-abbrev pub status : Outcome → ℕ
-status (answered xs) = 0
-status (refused k) = k
-
--- What a lent place holds afterwards: number i of those given, or what it held before.
-abbrev pub lent : Outcome → ℕ → ℕ → ℕ
-lent (answered xs) i old = getD xs i old
-lent (refused k) i old = old
-
 -- A call that gives no number, one number or two: its status, what it leaves, and the lent places.
-abbrev pub silent {ℓ} : {A : Type ℓ} → Outcome × A → ℕ × A
-silent x = (status (x .0), x .1)
+abbrev pub givingNone {ℓ} : {A : Type ℓ} → Outcome × A → ℕ × A
+givingNone x = (status (x .0), x .1)
 
 abbrev pub giving {ℓ} : {A : Type ℓ} → Outcome × A → ℕ → ℕ × A × ℕ
-giving x old = (status (x .0), x .1, lent (x .0) 0 old)
+giving x old = (status (x .0), x .1, given (x .0) 0 old)
 
 abbrev pub givingTwo {ℓ} : {A : Type ℓ} → Outcome × A → ℕ → ℕ → ℕ × A × ℕ × ℕ
-givingTwo x first second = (status (x .0), x .1, lent (x .0) 0 first, lent (x .0) 1 second)
+givingTwo x first second = (status (x .0), x .1, given (x .0) 0 first, given (x .0) 1 second)
 
 -- The same of the collection with a tally, which is lent as two numbers.
 abbrev pub tallying : Outcome × List ℕ × Tally → ℕ → ℕ → ℕ × List ℕ × ℕ × ℕ × ℕ × ℕ
-tallying x first second = (status (x .0), x .1, x .2 .collections, x .2 .visits, lent (x .0) 0 first, lent (x .0) 1 second)
+tallying x first second = (status (x .0), x .1, x .2 .collections, x .2 .visits, given (x .0) 0 first, given (x .0) 1 second)
 
 -- The same of the collection that is lent a stack.
 abbrev pub withStack : Outcome × List ℕ × List ℕ → ℕ → ℕ → ℕ × List ℕ × List ℕ × ℕ × ℕ
-withStack x first second = (status (x .0), x .1, x .2, lent (x .0) 0 first, lent (x .0) 1 second)
+withStack x first second = (status (x .0), x .1, x .2, given (x .0) 0 first, given (x .0) 1 second)
 
 -- An operation that leaves nothing but the number that it gives.
 abbrev pub number : Outcome → ℕ → ℕ × ℕ
-number o old = (status o, lent o 0 old)
+number o old = (status o, given o 0 old)
 
 -- Save leaves the pool's words as they are, and scratch and output as its definition says.
 abbrev pub saving : List ℕ → Outcome × List ℕ × List ℕ → ℕ → ℕ × List ℕ × List ℕ × List ℕ × ℕ
-saving w x old = (status (x .0), w, x .1, x .2, lent (x .0) 0 old)
+saving w x old = (status (x .0), w, x .1, x .2, given (x .0) 0 old)
 
 -- Load gives the place behind the image, refused too.
 abbrev pub loading : Loaded × List ℕ → ℕ × List ℕ × ℕ

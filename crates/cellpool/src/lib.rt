@@ -1,6 +1,6 @@
 // The pool as the firmware calls it: every operation as a C function. Each answers 0 or the number of its refusal, asks nothing of its arguments, and
 // writes the numbers that it gives to lent places, which a refusal leaves as they were.
-use calls::Answer;
+use answers::Answer;
 use collector::Collection;
 use pool::Fresh;
 use pool::Occupied;
@@ -12,7 +12,7 @@ ghost use mathlib.Core.Path.{_≡_};
 ghost use Rattle.pool.specs.Outcome.{freshOutcome, occupiedOutcome};
 ghost use Rattle.pool.specs.Calls.{freshOf, occupancyOf};
 ghost use Rattle.calls.specs.declared.Call.{Call};
-ghost use Rattle.calls.specs.Answers.{answerOutcome};
+ghost use Rattle.answers.specs.Answers.{answerOutcome};
 ghost use Rattle.calls.specs.Calls.{callOf};
 ghost use Rattle.collector.specs.Collect.{collectionOutcome};
 ghost use Rattle.recursive_marker.specs.Recursive.{recursiveOf};
@@ -20,46 +20,7 @@ ghost use Rattle.stack_marker.specs.StackCollect.{stackOutcome, stackOf};
 ghost use Rattle.tally.specs.TallyOf.{tallyOf};
 ghost use Rattle.image.specs.Load.{loadOf, checkOf};
 ghost use Rattle.save.specs.Save.{saveOf};
-ghost use Rattle.cellpool.specs.Interface.{status, lent, silent, giving, givingTwo, tallying, withStack, number, saving, loading};
-
-// 0, or the number of the refusal.
-fn status_of(answer: Answer) -> u32
-    ensures { λ r. ⌜ r ≡ status (answerOutcome answer) ⌝ }
-{
-    match answer {
-        Answer::Done => 0,
-        Answer::Allocated { visits: _ } => 0,
-        Answer::Number(_) => 0,
-        Answer::Collected { kept: _, visits: _ } => 0,
-        Answer::Refused(refusal) => refusal.number(),
-    }
-}
-
-// The first number that an answer gives, or what is there.
-fn first_of(answer: Answer, old: u32) -> u32
-    ensures { λ r. ⌜ r ≡ lent (answerOutcome answer) 0 old ⌝ }
-{
-    match answer {
-        Answer::Done => old,
-        Answer::Allocated { visits } => visits,
-        Answer::Number(x) => x,
-        Answer::Collected { kept, visits: _ } => kept,
-        Answer::Refused(_) => old,
-    }
-}
-
-// The second number that an answer gives, or what is there.
-fn second_of(answer: Answer, old: u32) -> u32
-    ensures { λ r. ⌜ r ≡ lent (answerOutcome answer) 1 old ⌝ }
-{
-    match answer {
-        Answer::Done => old,
-        Answer::Allocated { visits: _ } => old,
-        Answer::Number(_) => old,
-        Answer::Collected { kept: _, visits } => visits,
-        Answer::Refused(_) => old,
-    }
-}
+ghost use Rattle.cellpool.specs.Interface.{givingNone, giving, givingTwo, tallying, withStack, number, saving, loading};
 
 // The answers of the operations that are no calls, as a call would answer.
 fn of_fresh(fresh: Fresh) -> Answer
@@ -109,22 +70,24 @@ pub extern "C" fn cellpool_fresh(words: &mut [u32], cells: &mut u32) -> u32
     ensures { λ q. ⌜ (q, now (words .exit), now (cells .exit)) ≡ giving (freshOf (now (words .entry))) (now (cells .entry)) ⌝ }
 {
     let answer = of_fresh(Pool::fresh(words));
-    *cells = first_of(answer, *cells);
-    status_of(answer)
+    *cells = answer.first(*cells);
+    answer.status()
 }
 
 #[no_mangle]
 pub extern "C" fn cellpool_copy(words: &mut [u32], r: u32, a: u32) -> u32
-    ensures { λ q. ⌜ (q, now (words .exit)) ≡ silent (callOf (Call.Copy r a) (now (words .entry))) ⌝ }
+    ensures { λ q. ⌜ (q, now (words .exit)) ≡ givingNone (callOf (Call.Copy r a) (now (words .entry))) ⌝ }
 {
-    status_of(calls::copy(words, r, a))
+    let answer = calls::copy(words, r, a);
+    answer.status()
 }
 
 #[no_mangle]
 pub extern "C" fn cellpool_clear(words: &mut [u32], r: u32) -> u32
-    ensures { λ q. ⌜ (q, now (words .exit)) ≡ silent (callOf (Call.Clear r) (now (words .entry))) ⌝ }
+    ensures { λ q. ⌜ (q, now (words .exit)) ≡ givingNone (callOf (Call.Clear r) (now (words .entry))) ⌝ }
 {
-    status_of(calls::clear(words, r))
+    let answer = calls::clear(words, r);
+    answer.status()
 }
 
 #[no_mangle]
@@ -139,43 +102,48 @@ pub extern "C" fn cellpool_new(
     ensures { λ q. ⌜ (q, now (words .exit), now (visits .exit)) ≡ giving (callOf (Call.New r a b v) (now (words .entry))) (now (visits .entry)) ⌝ }
 {
     let answer = calls::new(words, r, a, b, v);
-    *visits = first_of(answer, *visits);
-    status_of(answer)
+    *visits = answer.first(*visits);
+    answer.status()
 }
 
 #[no_mangle]
 pub extern "C" fn cellpool_left(words: &mut [u32], r: u32, a: u32) -> u32
-    ensures { λ q. ⌜ (q, now (words .exit)) ≡ silent (callOf (Call.Left r a) (now (words .entry))) ⌝ }
+    ensures { λ q. ⌜ (q, now (words .exit)) ≡ givingNone (callOf (Call.Left r a) (now (words .entry))) ⌝ }
 {
-    status_of(calls::left(words, r, a))
+    let answer = calls::left(words, r, a);
+    answer.status()
 }
 
 #[no_mangle]
 pub extern "C" fn cellpool_right(words: &mut [u32], r: u32, a: u32) -> u32
-    ensures { λ q. ⌜ (q, now (words .exit)) ≡ silent (callOf (Call.Right r a) (now (words .entry))) ⌝ }
+    ensures { λ q. ⌜ (q, now (words .exit)) ≡ givingNone (callOf (Call.Right r a) (now (words .entry))) ⌝ }
 {
-    status_of(calls::right(words, r, a))
+    let answer = calls::right(words, r, a);
+    answer.status()
 }
 
 #[no_mangle]
 pub extern "C" fn cellpool_setleft(words: &mut [u32], a: u32, b: u32) -> u32
-    ensures { λ q. ⌜ (q, now (words .exit)) ≡ silent (callOf (Call.SetLeft a b) (now (words .entry))) ⌝ }
+    ensures { λ q. ⌜ (q, now (words .exit)) ≡ givingNone (callOf (Call.SetLeft a b) (now (words .entry))) ⌝ }
 {
-    status_of(calls::set_left(words, a, b))
+    let answer = calls::set_left(words, a, b);
+    answer.status()
 }
 
 #[no_mangle]
 pub extern "C" fn cellpool_setright(words: &mut [u32], a: u32, b: u32) -> u32
-    ensures { λ q. ⌜ (q, now (words .exit)) ≡ silent (callOf (Call.SetRight a b) (now (words .entry))) ⌝ }
+    ensures { λ q. ⌜ (q, now (words .exit)) ≡ givingNone (callOf (Call.SetRight a b) (now (words .entry))) ⌝ }
 {
-    status_of(calls::set_right(words, a, b))
+    let answer = calls::set_right(words, a, b);
+    answer.status()
 }
 
 #[no_mangle]
 pub extern "C" fn cellpool_setvalue(words: &mut [u32], a: u32, v: u32) -> u32
-    ensures { λ q. ⌜ (q, now (words .exit)) ≡ silent (callOf (Call.SetValue a v) (now (words .entry))) ⌝ }
+    ensures { λ q. ⌜ (q, now (words .exit)) ≡ givingNone (callOf (Call.SetValue a v) (now (words .entry))) ⌝ }
 {
-    status_of(calls::set_value(words, a, v))
+    let answer = calls::set_value(words, a, v);
+    answer.status()
 }
 
 #[no_mangle]
@@ -183,8 +151,8 @@ pub extern "C" fn cellpool_value(words: &mut [u32], a: u32, value: &mut u32) -> 
     ensures { λ q. ⌜ (q, now (words .exit), now (value .exit)) ≡ giving (callOf (Call.Value a) (now (words .entry))) (now (value .entry)) ⌝ }
 {
     let answer = calls::value(words, a);
-    *value = first_of(answer, *value);
-    status_of(answer)
+    *value = answer.first(*value);
+    answer.status()
 }
 
 #[no_mangle]
@@ -192,8 +160,8 @@ pub extern "C" fn cellpool_same(words: &mut [u32], a: u32, b: u32, same: &mut u3
     ensures { λ q. ⌜ (q, now (words .exit), now (same .exit)) ≡ giving (callOf (Call.Same a b) (now (words .entry))) (now (same .entry)) ⌝ }
 {
     let answer = calls::same(words, a, b);
-    *same = first_of(answer, *same);
-    status_of(answer)
+    *same = answer.first(*same);
+    answer.status()
 }
 
 #[no_mangle]
@@ -201,9 +169,9 @@ pub extern "C" fn cellpool_collect(words: &mut [u32], kept: &mut u32, visits: &m
     ensures { λ q. ⌜ (q, now (words .exit), now (kept .exit), now (visits .exit)) ≡ givingTwo (callOf Call.Collect (now (words .entry))) (now (kept .entry)) (now (visits .entry)) ⌝ }
 {
     let answer = calls::collect(words);
-    *kept = first_of(answer, *kept);
-    *visits = second_of(answer, *visits);
-    status_of(answer)
+    *kept = answer.first(*kept);
+    *visits = answer.second(*visits);
+    answer.status()
 }
 
 // The tally is two lent numbers here.
@@ -226,9 +194,9 @@ pub extern "C" fn cellpool_collect_tally(
     *collections = after.collections;
     *total_visits = after.visits;
     let answer = of_collection(collection);
-    *kept = first_of(answer, *kept);
-    *visits = second_of(answer, *visits);
-    status_of(answer)
+    *kept = answer.first(*kept);
+    *visits = answer.second(*visits);
+    answer.status()
 }
 
 // Kept, and 1 where the stack was enough, 0 where it was not.
@@ -242,9 +210,9 @@ pub extern "C" fn cellpool_collect_stack(
     ensures { λ q. ⌜ (q, now (words .exit), now (stack .exit), now (kept .exit), now (enough .exit)) ≡ withStack (stackOf (now (words .entry)) (now (stack .entry))) (now (kept .entry)) (now (enough .entry)) ⌝ }
 {
     let answer = of_stack(stack_marker::collect_stack(words, stack));
-    *kept = first_of(answer, *kept);
-    *enough = second_of(answer, *enough);
-    status_of(answer)
+    *kept = answer.first(*kept);
+    *enough = answer.second(*enough);
+    answer.status()
 }
 
 #[no_mangle]
@@ -256,9 +224,9 @@ pub extern "C" fn cellpool_collect_recursive(
     ensures { λ q. ⌜ (q, now (words .exit), now (kept .exit), now (visits .exit)) ≡ givingTwo (recursiveOf (now (words .entry))) (now (kept .entry)) (now (visits .entry)) ⌝ }
 {
     let answer = of_collection(recursive_marker::collect_recursive(words));
-    *kept = first_of(answer, *kept);
-    *visits = second_of(answer, *visits);
-    status_of(answer)
+    *kept = answer.first(*kept);
+    *visits = answer.second(*visits);
+    answer.status()
 }
 
 #[no_mangle]
@@ -301,6 +269,6 @@ pub extern "C" fn cellpool_occupancy(kept: u32, n: u32, percent: &mut u32) -> u3
     ensures { λ q. ⌜ (q, now (percent .exit)) ≡ number (occupancyOf kept n) (now (percent .entry)) ⌝ }
 {
     let answer = of_occupied(pool::occupancy(kept, n));
-    *percent = first_of(answer, *percent);
-    status_of(answer)
+    *percent = answer.first(*percent);
+    answer.status()
 }

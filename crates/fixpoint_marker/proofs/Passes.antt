@@ -20,7 +20,7 @@ use Rattle.pool.proofs.Every.{tabulate-member, member-tabulate}
 use Rattle.pool.proofs.WellFormed.{well-formed-read}
 use Rattle.pool.proofs.PoolGraph.{pool-within}
 use Rattle.collector.specs.CollectTheorem.{Reached}
-use Rattle.fixpoint_marker.specs.Marks.{Exact, Marked, Sound, Rooted, Closed, Linked, Grown}
+use Rattle.fixpoint_marker.specs.Marks.{Exact, Marked, OnlyReached, Rooted, Closed, Linked, Grown}
 
 -- A link whose cell is marked, or which leads to none.
 pub linked-none : {n x : ℕ} (m : List ℕ) → Marked n m x → Linked n x m m 0
@@ -58,7 +58,7 @@ module _ {n x : ℕ} (m : List ℕ) (positive : 0 < x) (bounded : x ≤ n) (room
       }
 
 -- Marks that are all 0 hold only what is reached.
-pub clear-sound : (w : List ℕ) (k : ℕ) {m : List ℕ} → m ≡ replicate k 0 → Sound w m
+pub clear-sound : (w : List ℕ) (k : ℕ) {m : List ℕ} → m ≡ replicate k 0 → OnlyReached w m
 clear-sound w k {m} e x h = absurd (go (decLt x k))
   where
     go : Dec (x < k) → ⊥
@@ -72,7 +72,7 @@ module _ (n : ℕ) (w : List ℕ) where
   grown-none m = record { keeps = λ y k. k; only = λ s. s; count = omega arith; still = λ e. refl }
 
   -- A link that leads to a reached cell.
-  pub linked-grown : {x k : ℕ} {m m′ : List ℕ} → Linked n x m m′ k → (Sound w m → 0 < x → Reached w x) → Grown n w m m′ k
+  pub linked-grown : {x k : ℕ} {m m′ : List ℕ} → Linked n x m m′ k → (OnlyReached w m → 0 < x → Reached w x) → Grown n w m m′ k
   linked-grown {x} {k} {m} {m′} l reached =
       record {
         keeps = l .keeps;
@@ -131,7 +131,7 @@ module _ (n : ℕ) (w : List ℕ) where
 
   -- The registers so far to k: only what is reached was marked, and their links are marked.
   pub record Started (m₀ m : List ℕ) (k : ℕ) : Type 0 where
-    pub sound : Sound w m₀ → Sound w m
+    pub sound : OnlyReached w m₀ → OnlyReached w m
     pub below : (j : ℕ) → j < k → Marked n m (register w j)
 
   pub started-none : (m : List ℕ) → Started m m 0
@@ -156,11 +156,11 @@ module _ (n : ℕ) (w : List ℕ) where
   grown-rooted g rooted k low p q = g .keeps (register w k) (rooted k low p q)
 
   -- Marks that hold only what is reached, and the registers' cells, are exact after a pass that closes every cell.
-  pub exact : {m₀ m : List ℕ} {k : ℕ} → Grown n w m₀ m k → Sound w m₀ → Rooted n w m₀ → ((i : ℕ) → 0 < i → i ≤ n → Closed n w m i)
+  pub exact : {m₀ m : List ℕ} {k : ℕ} → Grown n w m₀ m k → OnlyReached w m₀ → Rooted n w m₀ → ((i : ℕ) → 0 < i → i ≤ n → Closed n w m i)
       → wellFormed registerCount n w ≡ true → Exact n w m
   exact {m₀} {m} g sound₀ rooted closed well x positive bounded = (sound x, reach-least (λ y. 0 < getD m y 0) roots links)
     where
-      sound : Sound w m
+      sound : OnlyReached w m
       sound = g .only sound₀
 
       within : Within n (graphOf registerCount w) (rootsOf registerCount w)

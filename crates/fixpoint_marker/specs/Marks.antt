@@ -17,8 +17,8 @@ abbrev pub Marked : ℕ → List ℕ → ℕ → Type 0
 Marked n m x = 0 < x → x ≤ n → 0 < getD m x 0
 
 -- Only what is reached is marked.
-abbrev pub Sound : List ℕ → List ℕ → Type 0
-Sound w m = (x : ℕ) → 0 < getD m x 0 → Reached w x
+abbrev pub OnlyReached : List ℕ → List ℕ → Type 0
+OnlyReached w m = (x : ℕ) → 0 < getD m x 0 → Reached w x
 
 -- Every register leads to a marked cell, or to none.
 abbrev pub Rooted : ℕ → List ℕ → List ℕ → Type 0
@@ -40,6 +40,6 @@ pub record Linked (n x : ℕ) (m m′ : List ℕ) (k : ℕ) : Type 0 where
 -- Cells that are reached are marked in m, which gives m′; k cells are newly marked.
 pub record Grown (n : ℕ) (w m m′ : List ℕ) (k : ℕ) : Type 0 where
   pub keeps : (y : ℕ) → 0 < getD m y 0 → 0 < getD m′ y 0
-  pub only : Sound w m → Sound w m′
+  pub only : OnlyReached w m → OnlyReached w m′
   pub count : marked n (λ y. getD m y 0) + k ≤ marked n (λ y. getD m′ y 0)
   pub still : k ≡ 0 → m′ ≡ m

@@ -7,7 +7,7 @@ ghost use mathlib.Core.Bool.{true};
 ghost use lib.ListN.{length};
 ghost use Rattle.pool.specs.Layout.{registerCount, poolLength};
 ghost use Rattle.pool.specs.Validity.{wellFormed};
-ghost use Rattle.fixpoint_marker.specs.Marks.{Exact, Sound, Rooted, Closed, Linked, Grown};
+ghost use Rattle.fixpoint_marker.specs.Marks.{Exact, OnlyReached, Rooted, Closed, Linked, Grown};
 
 // Marks the cell that a link leads to. Gives how many cells that newly marks: 1 or 0.
 fn mark_link(marks: &mut [u32], n: u32, x: u32) -> u32
@@ -58,7 +58,7 @@ fn pass(words: &[u32], n: u32, marks: &mut [u32]) -> u32
 // Marks the cells that the registers hold.
 fn mark_roots(words: &[u32], n: u32, marks: &mut [u32])
     requires { ⌜ (poolLength registerCount n ≤ length (now words)) × (n < length (now marks)) ⌝ }
-    ensures { λ _. ⌜ (Sound (now (words .entry)) (now (marks .entry)) → Sound (now (words .entry)) (now (marks .exit))) × Rooted n (now (words .entry)) (now (marks .exit)) ⌝ }
+    ensures { λ _. ⌜ (OnlyReached (now (words .entry)) (now (marks .entry)) → OnlyReached (now (words .entry)) (now (marks .exit))) × Rooted n (now (words .entry)) (now (marks .exit)) ⌝ }
 {
     let mut k = 0;
     while k < Pool::REGISTERS {

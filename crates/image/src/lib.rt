@@ -116,10 +116,10 @@ pub extern "C" fn check_image(bytes: &[u8], n: u32) -> u32
     ensures { λ r. ⌜ r ≡ checkOf (now (bytes .entry)) n ⌝ }
 {
     if n < 1 {
-        return 1;
+        return Refusal::Size.number();
     }
     if Pool::CELLS < n {
-        return 1;
+        return Refusal::Size.number();
     }
     match scan_image(bytes, n) {
         Scan::Whole {

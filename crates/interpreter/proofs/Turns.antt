@@ -19,7 +19,7 @@ use Rattle.pool.specs.declared.Fresh.the-variants as fresh
 use Rattle.pool.proofs.Questions.{both, sized-length}
 use Rattle.calls.specs.declared.Call.{Call}
 use Rattle.calls.specs.declared.Call.the-variants as call
-use Rattle.calls.specs.Answers.{silent, compared}
+use Rattle.calls.specs.Compared.{silent, compared}
 use Rattle.calls.specs.Calls.{callOf}
 use Rattle.script.specs.declared.Line.{Line}
 use Rattle.script.specs.declared.Line.the-variants as line

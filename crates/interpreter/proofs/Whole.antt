@@ -1,15 +1,13 @@
 -- The start and the end of a script that is run in parts.
-use Prim.Native.Nat.{ℕ}
 use mathlib.Core.Path.{_≡_, refl}
-use mathlib.Core.List.{List, _++_}
+use mathlib.Core.List.{_++_}
 use mathlib.Core.Bool.{false}
 use lib.ListN.{drop-of-length-le}
 use Rattle.script.specs.Reader.{newReader, begunOf}
 use Rattle.script.specs.Scripts.{readScript}
 use Rattle.script.proofs.Scanning.{reads-scripts}
 use Rattle.interpreter.specs.Execute.{transcript}
-use Rattle.interpreter.specs.Work.{remaining, StartsWhole, PartsJoin, Ends}
-use Rattle.interpreter.specs.declared.Progress.{Progress}
+use Rattle.interpreter.specs.Work.{remaining, StartsWhole, PartsJoin, LastLineEnds}
 
 pub starts-whole : StartsWhole
 unfolding remaining
@@ -23,6 +21,6 @@ not-begun : begunOf newReader ≡ false
 unfolding begunOf
 not-begun = refl
 
-pub ends : (w : List ℕ) (p : Progress) → Ends w p
+pub last-line-ends : LastLineEnds
 unfolding remaining readScript transcript
-ends w p = record { begun = λ begun. rw (begun, not-begun); over = λ over. rw over }
+last-line-ends w p = record { begun = λ begun. rw (begun, not-begun); over = λ over. rw over }

@@ -8,7 +8,7 @@ use lib.Dec.{leb, ltb}
 use Rattle.pool.specs.Layout.{cellLimit, registerCount, poolLength}
 use Rattle.pool.specs.Retain.{freshWords}
 use Rattle.pool.specs.Outcome.{Outcome, answered, refused}
-use Rattle.calls.specs.Answers.{compared}
+use Rattle.calls.specs.Compared.{compared}
 use Rattle.calls.specs.Calls.{callOf}
 use Rattle.script.specs.declared.Line.{Line}
 use Rattle.script.specs.declared.Line.the-variants as line

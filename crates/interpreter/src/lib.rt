@@ -1,5 +1,5 @@
 // Scripts on a pool: what a line does to the pool, and what is printed for it.
-use calls::Answer;
+use answers::Answer;
 use calls::Call;
 use calls::Step;
 use pool::Pool;
@@ -14,7 +14,8 @@ ghost use Prim.Native.Nat.{_+_, _≤_};
 ghost use mathlib.Core.Bool.{_&&_};
 ghost use lib.Dec.{leb, ltb};
 ghost use lib.ListN.{length};
-ghost use Rattle.calls.specs.Answers.{answerOutcome, silent, compared};
+ghost use Rattle.answers.specs.Answers.{answerOutcome};
+ghost use Rattle.calls.specs.Compared.{silent, compared};
 ghost use Rattle.script.specs.Replies.{replyText, replyRoom};
 ghost use Rattle.interpreter.specs.Execute.{outcomeText, usedOf, sizeOf, executeOf};
 ghost use Rattle.interpreter.specs.Work.{HasRoom, LineRun, Advanced, Worked};
@@ -26,7 +27,7 @@ pub struct Turn {
 }
 
 // Runs a line on the words lent, of which the pool has the first `used`; none where there are fewer.
-pub fn execute(words: &mut [u32], used: usize, line: Line) -> Turn
+fn execute(words: &mut [u32], used: usize, line: Line) -> Turn
     ensures { λ r. ⌜ (replyText (r .reply), r .used, now (words .exit)) ≡ executeOf line used (now (words .entry)) ⌝ }
 {
     let pool = pool_words(words.len(), used);

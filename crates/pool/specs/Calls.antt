@@ -1,7 +1,7 @@
 -- What fresh, occupancy and the first questions answer.
 use Prim.Native.Nat.{ℕ, _*_, _/_}
 use mathlib.Core.List.{List, [], _∷_}
-use mathlib.Core.Bool.{cond, _&&_}
+use mathlib.Core.Bool.{Bool, cond, _&&_}
 use lib.ListN.{length}
 use lib.Dec.{leb, ltb}
 use Rattle.pool.specs.declared.Refusal.the-variants as refusal
@@ -31,6 +31,9 @@ admitOf w r a b =
     (admitted.Refused refusal.Register))
     (admitted.Refused refusal.Size)
 
--- "Are the registers read sound?": the link that register a holds, or that it is not valid.
+-- "Are the registers read sound? .. No: 3": whether register a holds a valid link, and that link.
+abbrev pub holdsLink : ℕ → List ℕ → ℕ → Bool
+holdsLink n w a = validLink registerCount n w (register w a)
+
 abbrev pub heldOf : ℕ → List ℕ → ℕ → Held
-heldOf n w a = cond (validLink registerCount n w (register w a)) (held.Link (register w a)) held.Malformed
+heldOf n w a = cond (holdsLink n w a) (held.Link (register w a)) held.Malformed

@@ -1,6 +1,7 @@
 -- What a call of the pool says, in the numbers of document 01.
 use Prim.Native.Nat.{ℕ}
 use mathlib.Core.List.{List, [], _∷_}
+use lib.ListN.{getD}
 use Rattle.pool.specs.declared.Refusal.{Refusal}
 use Rattle.pool.specs.declared.Refusal.the-variants as refusal
 use Rattle.pool.specs.declared.Fresh.{Fresh}
@@ -12,6 +13,16 @@ use Rattle.pool.specs.declared.Occupied.the-variants as occupied
 pub data Outcome : Type 0 where
   answered : List ℕ → Outcome
   refused : ℕ → Outcome
+
+-- 0 for an accepted call, or the number of the refusal.
+abbrev pub status : Outcome → ℕ
+status (answered xs) = 0
+status (refused k) = k
+
+-- Number i of those given, or another where there is none.
+abbrev pub given : Outcome → ℕ → ℕ → ℕ
+given (answered xs) i other = getD xs i other
+given (refused k) i other = other
 
 -- The number of each refusal (01, "Questions, in order").
 abbrev pub refusalNumber : Refusal → ℕ

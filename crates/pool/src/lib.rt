@@ -138,13 +138,13 @@ pub fn cells_of_length(len: usize) -> u32
     if len < Pool::FIRST_CELL + Pool::CELL_WORDS {
         return 0;
     }
-    if Pool::FIRST_CELL + Pool::CELL_WORDS * 4000 < len {
+    if Pool::FIRST_CELL + Pool::CELL_WORDS * (Pool::CELLS as usize) < len {
         return 0;
     }
-    if (len - Pool::FIRST_CELL) % 4 != 0 {
+    if (len - Pool::FIRST_CELL) % Pool::CELL_WORDS != 0 {
         return 0;
     }
-    ((len - Pool::FIRST_CELL) / 4) as u32
+    ((len - Pool::FIRST_CELL) / Pool::CELL_WORDS) as u32
 }
 
 // The number of cells of the pool, or 0 where the words are none: the first question.
@@ -326,7 +326,7 @@ pub fn well_formed(words: &[u32], n: u32) -> bool
 }
 
 // Puts a cell onto the free list, before `next`.
-pub fn free_cell(words: &mut [u32], i: u32, next: u32)
+fn free_cell(words: &mut [u32], i: u32, next: u32)
     requires { ⌜ (0 < i) × (poolLength registerCount i ≤ length (now words)) ⌝ }
     ensures { λ _. ⌜ now (words .exit) ≡ freeCell registerCount (now (words .entry)) i next ⌝ }
 {

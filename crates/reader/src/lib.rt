@@ -11,7 +11,7 @@ pub struct Reader<'a> {
 }
 
 // The place behind a number that was read at `at`; where there was none, `at` itself.
-pub fn place_behind(number: Number, at: usize) -> usize
+fn place_behind(number: Number, at: usize) -> usize
     ensures { λ r. ⌜ r ≡ placeBehind number at ⌝ }
 {
     match number {

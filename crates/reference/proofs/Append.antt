@@ -9,7 +9,7 @@ use lib.ListN.{length, length-set, length-append, List·getD-append}
 use lib.Seq.{getD-set-same, getD-set-other, getD-append-seam}
 use Rattle.graph.specs.Compare.{OneToOne}
 use Rattle.pool.specs.Layout.{registerCount, head, register, cell, state}
-use Rattle.calls.specs.Calls.{take}
+use Rattle.allocator.specs.Allocation.{take}
 use Rattle.reference.specs.Model.{Entry, Model, anyEntry, entry, held, append}
 use Rattle.reference.proofs.Places.{set-holds, append-holds}
 use Rattle.reference.proofs.Invariant.{Invariant, inv-first}

@@ -17,8 +17,8 @@ use Rattle.pool.proofs.Retained.{retain-register}
 use Rattle.pool.proofs.WellFormed.{well-formed-made}
 use Rattle.collector.specs.Collect.{isReached, reachedCells, keptCells, collected}
 use Rattle.collector.proofs.Collected.{head-nil-full}
-use Rattle.calls.specs.Answers.{silent}
-use Rattle.calls.specs.Calls.{newIn, goodHead, take}
+use Rattle.calls.specs.Compared.{silent}
+use Rattle.allocator.specs.Allocation.{newIn, goodHead, take}
 use Rattle.reference.specs.Model.{Model, live, append}
 use Rattle.reference.proofs.Pigeonhole.{distinct-length}
 use Rattle.reference.proofs.FreeList.{chain-within}

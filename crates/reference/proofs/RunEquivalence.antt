@@ -6,7 +6,7 @@ use Rattle.pool.specs.Layout.{registerCount}
 use Rattle.pool.specs.Retain.{freshWords}
 use Rattle.pool.specs.Outcome.{Outcome}
 use Rattle.calls.specs.declared.Call.{Call}
-use Rattle.calls.specs.Answers.{compared}
+use Rattle.calls.specs.Compared.{compared}
 use Rattle.calls.specs.Calls.{callOf}
 use Rattle.batch.specs.Run.{answersOf}
 use Rattle.batch.proofs.Whole.{runs-one-after-the-other}

@@ -12,10 +12,12 @@ use Rattle.pool.specs.Outcome.{Outcome, answered, refused}
 use Rattle.pool.proofs.Questions.{both}
 use Rattle.calls.specs.declared.Call.{Call}
 use Rattle.calls.specs.declared.Call.the-variants as call
-use Rattle.calls.specs.Answers.{compared}
-use Rattle.calls.specs.Calls.{newIn, callOf}
+use Rattle.calls.specs.Compared.{compared}
+use Rattle.allocator.specs.Allocation.{newIn}
+use Rattle.calls.specs.Calls.{callOf}
 use Rattle.reference.specs.Model.{Model, live, valid, modelOf}
-use Rattle.reference.specs.Equivalence.{poolAnswers, modelAnswers, tells, noneTells, poolAfter}
+use Rattle.batch.specs.Run.{afterAll}
+use Rattle.reference.specs.Equivalence.{poolAnswers, modelAnswers, tells, noneTells}
 use Rattle.reference.proofs.Invariant.{Invariant}
 use Rattle.reference.proofs.Fields.{Field}
 use Rattle.reference.proofs.Represents.{Represents}
@@ -119,8 +121,8 @@ never-told N call.Collect m e = false≢true e
 
 -- So the answers are equal, and what is left is a pool as before.
 pub along : (N : ℕ) (calls : List Call) {w : List ℕ} {m : Model} → Invariant N w → Represents w m
-    → (poolAnswers calls w ≡ modelAnswers N calls m) × Invariant N (poolAfter calls w)
-unfolding poolAnswers modelAnswers poolAfter
+    → (poolAnswers calls w ≡ modelAnswers N calls m) × Invariant N (afterAll calls w)
+unfolding poolAnswers modelAnswers afterAll
 along N [] inv rep = (refl, inv)
 along N (c ∷ cs) {w} {m} inv rep =
     let next : Step N (compared c ((callOf c w) .0), (callOf c w) .1) (modelOf N c m) = step (told N inv rep c) in

@@ -10,10 +10,11 @@ use lib.Dec.{eqb, ltb}
 use borrow.Author.Tests.{lt-ltb, ltb-true, eq-eqb, ne-eqb}
 use Rattle.graph.proofs.Marks.{zero-or-above}
 use Rattle.pool.specs.Layout.{registerCount, register, setRegister, cell, setCell, value}
+use Rattle.pool.specs.Calls.{holdsLink}
 use Rattle.pool.specs.Outcome.{Outcome, answered, refused}
 use Rattle.pool.proofs.Questions.{both}
 use Rattle.pool.proofs.WellFormed.{Link, link-made}
-use Rattle.calls.specs.Calls.{asked, holdsLink, withCell, copyIn, clearIn, followIn, linkIn, setValueIn, valueIn, sameIn}
+use Rattle.calls.specs.Calls.{asked, withCell, copyIn, clearIn, followIn, linkIn, setValueIn, valueIn, sameIn}
 use Rattle.reference.specs.Model.{Model, entry, held, hold, replace, valid, named, onCell}
 use Rattle.reference.proofs.Invariant.{Invariant, inv-cells, inv-setRegister, inv-setCell}
 use Rattle.reference.proofs.Fields.{Field, number, number-above, number-below, get, put, Related, link-related}

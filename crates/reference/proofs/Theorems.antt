@@ -13,7 +13,8 @@ use Rattle.pool.proofs.WellFormed.{well-formed-made}
 use Rattle.calls.specs.declared.Call.{Call}
 use Rattle.calls.specs.declared.Call.the-variants as call
 use Rattle.reference.specs.Model.{Model, empty, held, valid, live, named, onCell, modelOf}
-use Rattle.reference.specs.Equivalence.{modelAnswers, poolAfter, Equivalence, EquivalenceAtLimit, ReachedPools, NeverMalformed}
+use Rattle.batch.specs.Run.{afterAll}
+use Rattle.reference.specs.Equivalence.{modelAnswers, Equivalence, EquivalenceAtLimit, ReachedPools, NeverMalformed}
 use Rattle.reference.proofs.FreeList.{exact-free-list}
 use Rattle.reference.proofs.Invariant.{inv-cells}
 use Rattle.reference.proofs.Start.{fresh-inv, fresh-rep}
@@ -28,7 +29,7 @@ equivalence-at-limit N calls low high = along N calls (fresh-inv N low high) (fr
 pub reached-pools : ReachedPools
 reached-pools N calls low high =
     let inv = along N calls (fresh-inv N low high) (fresh-rep N low high) .1 in
-    (inv-cells inv, well-formed-made registerCount N (poolAfter calls (freshWords registerCount N)) (inv .well), exact-free-list (inv .free))
+    (inv-cells inv, well-formed-made registerCount N (afterAll calls (freshWords registerCount N)) (inv .well), exact-free-list (inv .free))
 
 -- An answer that is neither refusal 1 nor refusal 3.
 abbrev Mild : Outcome → Type 0

@@ -12,7 +12,8 @@ use Rattle.pool.specs.Retain.{freshWords, freeList}
 use Rattle.pool.specs.Outcome.{Outcome, refused}
 use Rattle.calls.specs.declared.Call.{Call}
 use Rattle.calls.specs.declared.Call.the-variants as call
-use Rattle.calls.specs.Answers.{compared}
+use Rattle.calls.specs.Compared.{compared}
+use Rattle.batch.specs.Run.{afterAll}
 use Rattle.calls.specs.Calls.{callOf}
 use Rattle.reference.specs.Model.{Model, empty, live, valid, modelOf}
 
@@ -58,11 +59,6 @@ abbrev pub EquivalenceAtLimit : Type 0
 EquivalenceAtLimit =
     (N : ℕ) (calls : List Call) → 1 ≤ N → N ≤ cellLimit → poolAnswers calls (freshWords registerCount N) ≡ modelAnswers N calls empty
 
--- The words that a list of calls leaves.
-unfoldable pub poolAfter : List Call → List ℕ → List ℕ
-poolAfter [] w = w
-poolAfter (c ∷ cs) w = poolAfter cs ((callOf c w) .1)
-
 -- The free list has every free cell once, and nothing else.
 pub record ExactFreeList (n : ℕ) (w : List ℕ) : Type 0 where
   pub once : Distinct (freeList registerCount n w)
@@ -73,9 +69,9 @@ pub record ExactFreeList (n : ℕ) (w : List ℕ) : Type 0 where
 abbrev pub ReachedPools : Type 0
 ReachedPools =
     (N : ℕ) (calls : List Call) → 1 ≤ N → N ≤ cellLimit
-    → (cellsOf registerCount (poolAfter calls (freshWords registerCount N)) ≡ N)
-    × (wellFormed registerCount N (poolAfter calls (freshWords registerCount N)) ≡ true)
-    × ExactFreeList N (poolAfter calls (freshWords registerCount N))
+    → (cellsOf registerCount (afterAll calls (freshWords registerCount N)) ≡ N)
+    × (wellFormed registerCount N (afterAll calls (freshWords registerCount N)) ≡ true)
+    × ExactFreeList N (afterAll calls (freshWords registerCount N))
 
 -- "Refusals .. 1 and 3 never come": no list of calls on a fresh pool is ever refused with 1 or 3.
 abbrev pub NeverMalformed : Type 0

@@ -9,9 +9,9 @@ use Rattle.pool.specs.Layout.{registerCount, cellLimit}
 use Rattle.pool.specs.Retain.{freshWords}
 use Rattle.pool.specs.Outcome.{Outcome}
 use Rattle.calls.specs.declared.Call.{Call}
-use Rattle.calls.specs.Answers.{compared}
+use Rattle.calls.specs.Compared.{compared}
 use Rattle.batch.specs.declared.Ran.the-variants as ran
-use Rattle.batch.specs.Program.{programOf, whole}
+use Rattle.batch.specs.Program.{programOf, programOfCalls}
 use Rattle.batch.specs.Run.{runOf, answersOf, afterAll, answerWords}
 use Rattle.reference.specs.Model.{empty}
 use Rattle.reference.specs.Equivalence.{modelAnswers, noneTells}
@@ -31,5 +31,5 @@ pub record RunsAlike (N L : ℕ) (list out : List ℕ) (cs : List Call) (os : Li
 
 abbrev pub RunEquivalence : Type 0
 RunEquivalence =
-    (N L : ℕ) (list out : List ℕ) (cs : List Call) → 1 ≤ N → N ≤ cellLimit → programOf list ≡ whole cs → 3 * length cs ≤ length out
+    (N L : ℕ) (list out : List ℕ) (cs : List Call) → 1 ≤ N → N ≤ cellLimit → programOf list ≡ programOfCalls cs → 3 * length cs ≤ length out
     → RunsAlike N L list out cs (answersOf cs (freshWords registerCount N))

@@ -136,7 +136,7 @@ impl LineReader {
     }
 
     // One more byte of the line, no line feed.
-    pub fn feed(self, b: u8) -> LineReader
+    fn feed(self, b: u8) -> LineReader
         ensures { λ r. ⌜ r ≡ feedOf self b ⌝ }
     {
         if self.bad {

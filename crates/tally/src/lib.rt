@@ -22,7 +22,7 @@ fn count(a: u32, b: u32) -> u32
 
 impl Tally {
     // One collection more, and its visits.
-    pub fn advanced(self, visits: u32) -> Tally
+    fn advanced(self, visits: u32) -> Tally
         ensures { λ r. ⌜ r ≡ advancedOf self visits ⌝ }
     {
         let collections = count(self.collections, 1);

@@ -12,7 +12,7 @@ pub fn put(words: &mut [u32], k: usize, v: u32) {
 }
 
 // Stores a word of a cell.
-pub fn put_cell(words: &mut [u32], i: u32, field: u32, v: u32) {
+fn put_cell(words: &mut [u32], i: u32, field: u32, v: u32) {
     put(words, 14 + 4 * (i as usize) + field as usize, v);
 }
 

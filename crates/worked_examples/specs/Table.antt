@@ -8,6 +8,7 @@ use Rattle.pool.specs.Outcome.{answered}
 use Rattle.pool.specs.Calls.{occupancyOf}
 use Rattle.collector.specs.Collect.{collectOf}
 use Rattle.stack_marker.specs.StackCollect.{stackOf}
+use Rattle.stack_marker.specs.StackExample.{leafPool}
 use Rattle.image.specs.Load.{checkOf}
 
 -- A case: the bytes of a number; bytes that a pool of one cell refuses as an image; a pool, and what its collection keeps and visits; a pool and a number
@@ -35,10 +36,6 @@ selfLinked = (1 ∷ 0 ∷ 1 ∷ []) ++ replicate 15 0 ++ (0 ∷ 1 ∷ 1 ∷ 7 �
 abbrev pub unreached : List ℕ
 unreached = (2 ∷ 0 ∷ []) ++ replicate 16 0 ++ (0 ∷ 2 ∷ 0 ∷ 7 ∷ []) ++ (0 ∷ 0 ∷ 0 ∷ 8 ∷ [])
 
--- A pool of a cell with both links to one leaf, with register 0 leading to it.
-abbrev pub oneLeaf : List ℕ
-oneLeaf = (2 ∷ 0 ∷ 1 ∷ []) ++ replicate 15 0 ++ (0 ∷ 2 ∷ 2 ∷ 7 ∷ []) ++ (0 ∷ 0 ∷ 0 ∷ 8 ∷ [])
-
 abbrev pub table : List Case
 table =
     -- "127 is 7F", "128 is 80 01", "300 is AC 02", "4294967295 is FF FF FF FF 0F", "a fifth byte 10 is refused 7"
@@ -51,8 +48,8 @@ table =
     ∷ collection selfLinked 1 3
     ∷ collection unreached 0 0
     -- "A cell with both links to one leaf: one stack word is enough, none is not."
-    ∷ stack oneLeaf 1 2 1
-    ∷ stack oneLeaf 0 2 0
+    ∷ stack leafPool 1 2 1
+    ∷ stack leafPool 0 2 0
     -- "Gauge 1 of 3: 33"
     ∷ percent 1 3 33
     ∷ []

@@ -1,6 +1,6 @@
 // Tries the examples of the customer's scope that are not in the table of theorems, and what its last section warns of, and prints each with its
 // result. (The table is specs/Table.antt.)
-use calls::Answer;
+use answers::Answer;
 use collector::Collection;
 use libc::STDOUT_FILENO;
 use pool::Fresh;

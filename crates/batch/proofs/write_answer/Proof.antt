@@ -5,8 +5,8 @@ use Rattle.batch.proofs.write_answer.Tie as tie
 use native.Mathlib.Omega.{arith}
 use lib.ListN.{length-set}
 
-verdict-requires : tie.Need-verdict-requires
-verdict-requires c κs = search needs
+status-requires : tie.Need-status-requires
+status-requires c κs = search needs
 
 mul-answers : tie.Need-mul-answers
 mul-answers c = search needs
@@ -17,8 +17,8 @@ mul-answers-2 c = search needs
 slice-write-answers : tie.Need-slice-write-answers
 slice-write-answers c = search needs
 
-first-number-requires : tie.Need-first-number-requires
-first-number-requires c κs = search needs
+first-requires : tie.Need-first-requires
+first-requires c κs = search needs
 
 mul-answers-3 : tie.Need-mul-answers-3
 mul-answers-3 c = search needs
@@ -32,8 +32,8 @@ mul-answers-4 c = search needs
 slice-write-answers-2 : tie.Need-slice-write-answers-2
 slice-write-answers-2 c = simp length-set (omega arith)
 
-second-number-requires : tie.Need-second-number-requires
-second-number-requires c κs = search needs
+second-requires : tie.Need-second-requires
+second-requires c κs = search needs
 
 mul-answers-5 : tie.Need-mul-answers-5
 mul-answers-5 c = search needs
@@ -51,22 +51,22 @@ same-length : tie.Need-same-length
 same-length c = search needs
 
 returns : tie.Need-returns
-returns c = simp (c .before .before .verdict .ensures, c .before .first-number .ensures, c .second-number .ensures)
+returns c = simp (c .before .before .status .ensures, c .before .first .ensures, c .second .ensures)
 
 pub write-answer-spec : {M : Type 1} → statement M
 write-answer-spec =
     tie.close
     (tie.spec
-    verdict-requires
+    status-requires
     mul-answers
     mul-answers-2
     slice-write-answers
-    first-number-requires
+    first-requires
     mul-answers-3
     add-answers
     mul-answers-4
     slice-write-answers-2
-    second-number-requires
+    second-requires
     mul-answers-5
     add-answers-2
     mul-answers-6

@@ -4,7 +4,7 @@ use Rattle.calls.proofs.new.Statement.{statement}
 use Rattle.calls.proofs.new.Tie as tie
 use native.Mathlib.Omega.{arith}
 use denote.Ref.{now}
-use Rattle.calls.specs.Calls.{newIn}
+use Rattle.allocator.specs.Allocation.{newIn}
 use Rattle.calls.proofs.Admission.{admits, asked-cells, asked-refused}
 
 admit-requires : tie.Need-admit-requires

@@ -3,7 +3,7 @@ use borrow.Author.Needs.{needs}
 use Rattle.cellpool.proofs.cellpool_collect_stack.Statement.{statement}
 use Rattle.cellpool.proofs.cellpool_collect_stack.Tie as tie
 use mathlib.Core.Path.{ap, _∙_}
-use Rattle.pool.specs.Outcome.{Outcome}
+use Rattle.pool.specs.Outcome.{Outcome, status}
 use Rattle.cellpool.proofs.Answered.{stack-made}
 
 collect-stack-requires : tie.Need-collect-stack-requires
@@ -12,14 +12,14 @@ collect-stack-requires c κs = search needs
 of-stack-requires : tie.Need-of-stack-requires
 of-stack-requires c κs = search needs
 
-first-of-requires : tie.Need-first-of-requires
-first-of-requires c κs = search needs
+first-requires : tie.Need-first-requires
+first-requires c κs = search needs
 
-second-of-requires : tie.Need-second-of-requires
-second-of-requires c κs = search needs
+second-requires : tie.Need-second-requires
+second-requires c κs = search needs
 
-status-of-requires : tie.Need-status-of-requires
-status-of-requires c κs = search needs
+status-requires : tie.Need-status-requires
+status-requires c κs = search needs
 
 same-length : tie.Need-same-length
 same-length c = search needs
@@ -30,7 +30,7 @@ same-length-2 c = search needs
 returns : tie.Need-returns
 returns c =
     stack-made _ _ _ _ (ap (λ (o : Outcome). (o, c .before .before .before .before .before .before .before .before .before .before .collect-stack .last .0, c .before .before .before .before .before .before .before .before .before .before .collect-stack .last .1 .0)) (c .before .before .before .before .before .of-stack .ensures) ∙ c .before .before .before .before .before .before .before .before .before .before .collect-stack .ensures)
-    _ _ _ _ _ (c .status-of .ensures) (c .before .before .before .first-of .ensures) (c .before .second-of .ensures)
+    _ _ _ _ _ (c .status .ensures) (c .before .before .before .first .ensures) (c .before .second .ensures)
 
 pub cellpool-collect-stack-spec : {M : Type 1} → statement M
 cellpool-collect-stack-spec =
@@ -38,9 +38,9 @@ cellpool-collect-stack-spec =
     (tie.spec
     collect-stack-requires
     of-stack-requires
-    first-of-requires
-    second-of-requires
-    status-of-requires
+    first-requires
+    second-requires
+    status-requires
     same-length
     same-length-2
     returns)

@@ -14,14 +14,14 @@ after-requires c κs = search needs
 of-collection-requires : tie.Need-of-collection-requires
 of-collection-requires c κs = search needs
 
-first-of-requires : tie.Need-first-of-requires
-first-of-requires c κs = search needs
+first-requires : tie.Need-first-requires
+first-requires c κs = search needs
 
-second-of-requires : tie.Need-second-of-requires
-second-of-requires c κs = search needs
+second-requires : tie.Need-second-requires
+second-requires c κs = search needs
 
-status-of-requires : tie.Need-status-of-requires
-status-of-requires c κs = search needs
+status-requires : tie.Need-status-requires
+status-requires c κs = search needs
 
 same-length : tie.Need-same-length
 same-length c = search needs
@@ -30,7 +30,7 @@ returns : tie.Need-returns
 returns c =
     let a = c .before .before .before .before .before .before .before .before .before .before .before .before .before .before .args in
     tally-made (now (a .words)) _ (record { collections = now (a .collections); visits = now (a .total-visits) }) (c .before .before .before .before .before .before .after .result) _ _
-    (c .before .before .before .before .before .before .before .before .before .before .before .collect .ensures) (c .before .before .before .before .before .before .after .ensures) (c .before .before .before .before .before .of-collection .ensures) _ _ _ _ _ (c .status-of .ensures) (c .before .before .before .first-of .ensures) (c .before .second-of .ensures)
+    (c .before .before .before .before .before .before .before .before .before .before .before .collect .ensures) (c .before .before .before .before .before .before .after .ensures) (c .before .before .before .before .before .of-collection .ensures) _ _ _ _ _ (c .status .ensures) (c .before .before .before .first .ensures) (c .before .second .ensures)
 
 pub cellpool-collect-tally-spec : {M : Type 1} → statement M
 cellpool-collect-tally-spec =
@@ -39,8 +39,8 @@ cellpool-collect-tally-spec =
     collect-requires
     after-requires
     of-collection-requires
-    first-of-requires
-    second-of-requires
-    status-of-requires
+    first-requires
+    second-requires
+    status-requires
     same-length
     returns)

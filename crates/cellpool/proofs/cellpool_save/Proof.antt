@@ -1,5 +1,6 @@
 -- `cellpool::cellpool_save` meets its contract, case by case.
 use borrow.Author.Needs.{needs}
+use Rattle.pool.specs.Outcome.{status, given}
 use Rattle.cellpool.proofs.cellpool_save.Statement.{statement}
 use Rattle.cellpool.proofs.cellpool_save.Tie as tie
 use Rattle.cellpool.proofs.Answered.{saving-made}
@@ -7,7 +8,6 @@ use mathlib.Core.Path.{sym, ap, _∙_}
 use denote.Ref.{now}
 use Rattle.save.specs.declared.Saved.{Saved}
 use Rattle.save.specs.Save.{savedOutcome}
-use Rattle.cellpool.specs.Interface.{status, lent}
 
 save-requires : tie.Need-save-requires
 save-requires c κs = search needs
@@ -34,7 +34,7 @@ returns : tie.Need-returns
 returns c =
     let was = c .before .n .given .1 in
     saving-made _ _ _ _ _ (c .before .before .before .before .before .before .before .save .ensures) _ _ _ (sym (ap (λ (s : Saved). status (savedOutcome s)) was))
-    (sym (ap (λ (s : Saved). lent (savedOutcome s) 0 (now (c .before .before .before .before .before .before .before .before .before .before .before .before .before .before .args .bytes))) was))
+    (sym (ap (λ (s : Saved). given (savedOutcome s) 0 (now (c .before .before .before .before .before .before .before .before .before .before .before .before .before .before .args .bytes))) was))
 
 same-length-4 : tie.Need-same-length-4
 same-length-4 c = search needs
@@ -49,7 +49,7 @@ returns-2 : tie.Need-returns-2
 returns-2 c =
     let was = c .before .before .refusal .given .1 in
     saving-made _ _ _ _ _ (c .before .before .before .before .before .before .before .before .save .ensures) _ _ _ (c .number .ensures ∙ sym (ap (λ (s : Saved). status (savedOutcome s)) was))
-    (sym (ap (λ (s : Saved). lent (savedOutcome s) 0 (now (c .before .before .before .before .before .before .before .before .before .before .before .before .before .before .before .args .bytes))) was))
+    (sym (ap (λ (s : Saved). given (savedOutcome s) 0 (now (c .before .before .before .before .before .before .before .before .before .before .before .before .before .before .before .args .bytes))) was))
 
 pub cellpool-save-spec : {M : Type 1} → statement M
 cellpool-save-spec =

@@ -7,18 +7,18 @@ use Rattle.cellpool.proofs.Answered.{giving-made}
 value-requires : tie.Need-value-requires
 value-requires c κs = search needs
 
-first-of-requires : tie.Need-first-of-requires
-first-of-requires c κs = search needs
+first-requires : tie.Need-first-requires
+first-requires c κs = search needs
 
-status-of-requires : tie.Need-status-of-requires
-status-of-requires c κs = search needs
+status-requires : tie.Need-status-requires
+status-requires c κs = search needs
 
 same-length : tie.Need-same-length
 same-length c = search needs
 
 returns : tie.Need-returns
-returns c = giving-made _ _ _ (c .before .before .before .value .ensures) _ (c .status-of .ensures) _ _ (c .before .first-of .ensures)
+returns c = giving-made _ _ _ (c .before .before .before .value .ensures) _ (c .status .ensures) _ _ (c .before .first .ensures)
 
 pub cellpool-value-spec : {M : Type 1} → statement M
 cellpool-value-spec =
-    tie.close (tie.spec value-requires first-of-requires status-of-requires same-length returns)
+    tie.close (tie.spec value-requires first-requires status-requires same-length returns)

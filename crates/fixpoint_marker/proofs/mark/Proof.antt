@@ -5,13 +5,13 @@ use Prim.Native.Nat.{_-_}
 use mathlib.Core.Path.{_≡_}
 use lib.ListN.{length, getD}
 use Rattle.graph.specs.Marking.{marked}
-use Rattle.fixpoint_marker.specs.Marks.{Sound, Rooted}
+use Rattle.fixpoint_marker.specs.Marks.{OnlyReached, Rooted}
 use Rattle.fixpoint_marker.proofs.Passes.{clear-sound, exact, grown-fits, grown-rooted}
 use Rattle.fixpoint_marker.proofs.mark.Statement.{statement}
 use Rattle.fixpoint_marker.proofs.mark.Tie as tie
 
 abbrev Inv-loop : tie.InvT-loop
-Inv-loop words n marks₀ marks = (length marks ≡ length marks₀) × Sound words marks × Rooted n words marks
+Inv-loop words n marks₀ marks = (length marks ≡ length marks₀) × OnlyReached words marks × Rooted n words marks
 
 abbrev μ-loop : tie.MeasureT-loop
 μ-loop words n marks₀ marks = n - marked n (λ y. getD marks y 0)

@@ -6,11 +6,17 @@ use mathlib.Core.Path.{_∙_}
 use borrow.Author.Tests.{le-leb, lt-leb}
 use Rattle.image.proofs.Scanning.{check-whole, check-refused}
 
+number-requires : tie.Need-number-requires
+number-requires c κs = search needs
+
 returns : tie.Need-returns
-returns c = simp (lt-leb _ _ (c .if1 .taken))
+returns c = c .number .ensures ∙ simp (lt-leb _ _ (c .before .if1 .taken))
+
+number-requires-2 : tie.Need-number-requires-2
+number-requires-2 c κs = search needs
 
 returns-2 : tie.Need-returns-2
-returns-2 c = simp (le-leb _ _ (c .before .if1 .left), lt-leb _ _ (c .if2 .taken))
+returns-2 c = c .number2 .ensures ∙ simp (le-leb _ _ (c .before .before .if1 .left), lt-leb _ _ (c .before .if2 .taken))
 
 scan-image-requires : tie.Need-scan-image-requires
 scan-image-requires c κs = search needs
@@ -21,8 +27,8 @@ enum-told c = search needs
 enum-known-why : tie.Need-enum-known-why
 enum-known-why c = search needs
 
-number-requires : tie.Need-number-requires
-number-requires c κs = search needs
+number-requires-3 : tie.Need-number-requires-3
+number-requires-3 c κs = search needs
 
 returns-3 : tie.Need-returns-3
 returns-3 c =
@@ -31,7 +37,7 @@ returns-3 c =
 
 returns-4 : tie.Need-returns-4
 returns-4 c =
-    c .number .ensures
+    c .number3 .ensures
     ∙ check-refused _ _ (c .before .before .before .before .before .before .if1 .left) (c .before .before .before .before .before .if2 .left) _
     (c .before .before .before .before .scan-image .ensures) _ (c .before .before .why .given .1)
 
@@ -39,11 +45,13 @@ pub check-image-spec : {M : Type 1} → statement M
 check-image-spec =
     tie.close
     (tie.spec
+    number-requires
     returns
+    number-requires-2
     returns-2
     scan-image-requires
     enum-told
     enum-known-why
-    number-requires
+    number-requires-3
     returns-3
     returns-4)

@@ -1,4 +1,4 @@
-use Rattle.calls.specs.Answers.{answerOutcome}
+use Rattle.answers.specs.Answers.{answerOutcome}
 use mathlib.Core.Path.{sym, _∙_, ap}
 use Rattle.interpreter.specs.Execute.{outcomeText}
 -- `interpreter::reply_to` meets its contract: a new is silent, any other call is not.

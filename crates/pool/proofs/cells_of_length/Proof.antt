@@ -12,6 +12,9 @@ returns : tie.Need-returns
 unfolding cellsOfLength
 returns c = simp (lt-leb _ _ (c .if1 .taken))
 
+cast-if2 : tie.Need-cast-if2
+cast-if2 c = search needs
+
 mul-if2 : tie.Need-mul-if2
 mul-if2 c = search needs
 
@@ -45,6 +48,7 @@ cells-of-length-spec =
     (tie.spec
     add-if1
     returns
+    cast-if2
     mul-if2
     add-if2
     returns-2

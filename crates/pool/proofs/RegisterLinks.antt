@@ -4,13 +4,12 @@ use native.Mathlib.Omega.{arith}
 use mathlib.Core.Path.{_≡_, refl, sym, _∙_}
 use mathlib.Core.List.{List}
 use mathlib.Core.Bool.{Bool, true, false, cond}
 use Rattle.pool.specs.Layout.{registerCount, register}
 use Rattle.pool.specs.Validity.{validLink}
-use Rattle.pool.specs.Calls.{heldOf}
+use Rattle.pool.specs.Calls.{heldOf, holdsLink}
 use Rattle.pool.specs.declared.Held.{Held}
 use Rattle.pool.specs.declared.Held.the-variants as held
 use Rattle.pool.proofs.WellFormed.{Link, link-read}
-use Rattle.calls.specs.Calls.{holdsLink}
 
 -- the register a holds the valid link x
 pub record Holds (n : ℕ) (w : List ℕ) (a x : ℕ) : Type 0 where

@@ -1,9 +1,9 @@
--- `calls::take_collected` meets its contract: where the head is nil after the collection, nothing has changed.
+-- `allocator::take_collected` meets its contract: where the head is nil after the collection, nothing has changed.
 use borrow.Author.Needs.{needs}
-use Rattle.calls.proofs.take_collected.Statement.{statement}
-use Rattle.calls.proofs.take_collected.Tie as tie
+use Rattle.allocator.proofs.take_collected.Statement.{statement}
+use Rattle.allocator.proofs.take_collected.Tie as tie
 use native.Mathlib.Omega.{arith}
-use Rattle.calls.proofs.Allocate.{swept, swept-head, take-refused, take-full, take-done}
+use Rattle.allocator.proofs.Allocation.{swept, swept-head, take-refused, take-full, take-done}
 
 collect-in-requires : tie.Need-collect-in-requires
 collect-in-requires c κs = search needs

@@ -1,8 +1,8 @@
--- `calls::take_head` meets its contract: the reads, then the writes, one after the other.
+-- `allocator::take_head` meets its contract: the reads, then the writes, one after the other.
 use borrow.Author.Needs.{needs}
-use Rattle.calls.proofs.take_head.Statement.{statement}
-use Rattle.calls.proofs.take_head.Tie as tie
-use Rattle.calls.proofs.Allocate.{taken}
+use Rattle.allocator.proofs.take_head.Statement.{statement}
+use Rattle.allocator.proofs.take_head.Tie as tie
+use Rattle.allocator.proofs.Allocation.{taken}
 
 read-head-requires : tie.Need-read-head-requires
 read-head-requires c κs = search needs

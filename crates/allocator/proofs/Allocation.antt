@@ -10,6 +10,7 @@ use borrow.Author.Tests.{eq-eqb, ne-eqb, leb-true}
 use Rattle.pool.specs.Layout.{registerCount, poolLength, head, setHead, setRegister, setCell, state, left}
 use Rattle.pool.specs.Validity.{isFree, wellFormed}
 use Rattle.pool.specs.Retain.{lowestFree}
+use Rattle.pool.specs.Calls.{holdsLink}
 use Rattle.pool.specs.Outcome.{Outcome, answered, refused}
 use Rattle.pool.specs.declared.Refusal.{Refusal}
 use Rattle.pool.proofs.Questions.{both}
@@ -19,8 +20,8 @@ use Rattle.collector.specs.Collect.{isReached, keptCells, collected, collection
 use Rattle.collector.specs.declared.Collection.{Collection}
 use Rattle.collector.specs.declared.Collection.the-variants as collection
 use Rattle.collector.proofs.Collected.{collected-full, head-nil-full}
-use Rattle.calls.specs.Calls.{take, takeCollected, goodHead, holdsLink, newIn}
-use Rattle.calls.proofs.Held.{Holds}
+use Rattle.allocator.specs.Allocation.{take, takeCollected, goodHead, newIn}
+use Rattle.pool.proofs.RegisterLinks.{Holds}
 
 -- the head cell is taken by one write after the other
 pub taken : (w : List ℕ) (r x y v : ℕ) {i next : ℕ} {w₁ w₂ w₃ w₄ w₅ w₆ : List ℕ} → i ≡ head w → next ≡ left registerCount w i

@@ -1,7 +1,7 @@
--- `calls::good_head` meets its contract: at each return the tests that led there decide the definition's.
+-- `allocator::good_head` meets its contract: at each return the tests that led there decide the definition's.
 use borrow.Author.Needs.{needs}
-use Rattle.calls.proofs.good_head.Statement.{statement}
-use Rattle.calls.proofs.good_head.Tie as tie
+use Rattle.allocator.proofs.good_head.Statement.{statement}
+use Rattle.allocator.proofs.good_head.Tie as tie
 use borrow.Author.Tests.{le-leb, lt-leb, eq-eqb, ne-eqb}
 
 read-head-requires : tie.Need-read-head-requires

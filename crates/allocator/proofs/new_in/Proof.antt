@@ -1,11 +1,11 @@
--- `calls::new_in` meets its contract: both registers are read first, and r is written last.
+-- `allocator::new_in` meets its contract: both registers are read first, and r is written last.
 use borrow.Author.Needs.{needs}
-use Rattle.calls.proofs.new_in.Statement.{statement}
-use Rattle.calls.proofs.new_in.Tie as tie
+use Rattle.allocator.proofs.new_in.Statement.{statement}
+use Rattle.allocator.proofs.new_in.Tie as tie
 use native.Mathlib.Omega.{arith}
 use mathlib.Core.Path.{sym, _∙_}
-use Rattle.calls.proofs.Held.{holds, holds-none}
-use Rattle.calls.proofs.Allocate.{good-bound, new-malformed, new-collected, new-taken, new-refused}
+use Rattle.pool.proofs.RegisterLinks.{holds, holds-none}
+use Rattle.allocator.proofs.Allocation.{good-bound, new-malformed, new-collected, new-taken, new-refused}
 
 read-link-requires : tie.Need-read-link-requires
 read-link-requires c κs = search needs

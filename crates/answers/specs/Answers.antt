@@ -1,0 +1,13 @@
+-- What an answer says, in the numbers of document 01.
+use mathlib.Core.List.{[], _∷_}
+use Rattle.pool.specs.Outcome.{Outcome, answered, refused, refusalNumber}
+use Rattle.answers.specs.declared.Answer.{Answer}
+use Rattle.answers.specs.declared.Answer.the-variants as answer
+
+-- Done gives no number; an allocation its visits; value and same one number; collect kept and visits; a refusal its number.
+abbrev pub answerOutcome : Answer → Outcome
+answerOutcome answer.Done = answered []
+answerOutcome (answer.Allocated visits) = answered (visits ∷ [])
+answerOutcome (answer.Number x) = answered (x ∷ [])
+answerOutcome (answer.Collected kept visits) = answered (kept ∷ visits ∷ [])
+answerOutcome (answer.Refused k) = refused (refusalNumber k)
