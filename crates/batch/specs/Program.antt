@@ -34,6 +34,7 @@ abbrev pub thenDecoded : Decoded → Program → Program
 thenDecoded (decoded.Known c) rest = then c rest
 thenDecoded decoded.Unknown rest = malformed
 
+-- The calls that these words hold.
 unfoldable pub programOf : List ℕ → Program
 programOf [] = ended
 programOf (code ∷ x ∷ y ∷ z ∷ u ∷ rest) = thenDecoded (callNumbered code x y z u) (programOf rest)

@@ -27,6 +27,7 @@ runFrom k (then c rest) w out =
       | false ↦ (ran.NoRoom k, w, out)
     ]
 
+-- What `batch::run` answers and leaves: the calls that `list` holds run on the pool w, and their answers are written to `out`.
 abbrev pub runOf : List ℕ → List ℕ → List ℕ → Ran × List ℕ × List ℕ
 runOf list w out = runFrom 0 (programOf list) w out
 
@@ -39,6 +40,7 @@ unfoldable pub afterAll : List Call → List ℕ → List ℕ
 afterAll [] w = w
 afterAll (c ∷ cs) w = afterAll cs (callOf c w .1)
 
+-- The words of answers, three each.
 unfoldable pub answerWords : List Outcome → List ℕ
 answerWords [] = []
 answerWords (o ∷ os) = status o ∷ given o 0 0 ∷ given o 1 0 ∷ answerWords os

@@ -12,8 +12,8 @@ use Rattle.allocator.specs.Allocation.{newIn}
 use Rattle.calls.specs.declared.Call.{Call}
 use Rattle.calls.specs.declared.Call.the-variants as call
 
--- The first two questions: the length and word 0 (1), then "is every register number below 16?" (2); then the call on a pool of n cells.
--- A call that names fewer than three registers repeats one.
+-- The first two questions: the length and word 0 (1), then "Is every register number below 16? No: 2."; then the call on a pool of n
+-- cells. A call that names fewer than three registers repeats one.
 abbrev pub asked : List ℕ → ℕ → ℕ → ℕ → (ℕ → Outcome × List ℕ) → Outcome × List ℕ
 asked w r a b body =
     let n = cellsOf registerCount w in

@@ -33,7 +33,7 @@ abbrev pub collectionOutcome : Collection → Outcome
 collectionOutcome (collection.Kept kept visits) = answered (kept ∷ visits ∷ [])
 collectionOutcome (collection.Refused k) = refused (refusalNumber k)
 
--- A collection of a pool of n cells: "is the pool whole? No: 3"; then kept, and three visits for each kept cell.
+-- A collection of a pool of n cells: "is the pool whole? .. No: 3"; then kept, and three visits for each kept cell.
 abbrev pub collectIn : ℕ → List ℕ → Outcome × List ℕ
 collectIn n w =
     cond (wellFormed registerCount n w)

@@ -44,7 +44,7 @@ pub record Collected (n : ℕ) (w w' kept : List ℕ) : Type 0 where
   -- Where all n cells are reached, and the free list was empty, nothing changes at all.
   pub full : length kept ≡ n → head w ≡ 0 → w' ≡ w
 
--- "A collection keeps exactly what the registers reach, links and values as before, frees the rest; visits are three a kept cell."
+-- Demand 2: "A collection keeps exactly what the registers reach, links and values as before, frees the rest; visits are three a kept cell; .."
 abbrev pub Collection-keeps-the-reached : Type 0
 Collection-keeps-the-reached =
     (n : ℕ) (w : List ℕ) → 0 < n → cellsOf registerCount w ≡ n → wellFormed registerCount n w ≡ true

@@ -1,4 +1,5 @@
--- A graph of numbered cells with two links each, and which of its cells a list of links reaches.
+-- A graph of numbered cells with two links each, and which of its cells a list of links reaches: "reached from the registers over left and right"
+-- (01, "The ledger").
 use Prim.Native.Nat.{ℕ, _<_, _≤_}
 use mathlib.Core.List.{List, List·Memᴰ}
 

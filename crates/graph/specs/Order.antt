@@ -1,4 +1,5 @@
--- The depth-first order: the cells reached, in order of first visit, left before right, roots in order.
+-- The depth-first order: the cells reached, "by first depth-first visit, left before right, registers in order" (01, "Images"). The registers are
+-- the roots.
 use Prim.Native.Nat.{ℕ, zero, suc}
 use mathlib.Core.List.{List, [], _∷_, _++_}
 use mathlib.Core.Bool.{Bool, true, false, _||_}

@@ -36,7 +36,7 @@ abbrev pub loadImage : ℕ → ℕ → Image → ℕ → List ℕ → Loaded × 
 loadImage R n (Image.image K start vs end) bytes w = (record { verdict = 0; end = end }, loadedWords R n K vs)
 loadImage R n (Image.fault why) bytes w = (record { verdict = refusalNumber why; end = bytes }, w)
 
--- Load: N is that of the length, "in every call but fresh and load" word 0 is asked too; then the image, number by number.
+-- Load: N is that of the length alone (word 0 is asked "in every call but fresh and load"); then the image, number by number.
 abbrev pub loadOf : List ℕ → List ℕ → Loaded × List ℕ
 loadOf w bytes =
     let n = cellsOfLength registerCount (length w) in

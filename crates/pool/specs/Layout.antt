@@ -28,7 +28,8 @@ cellsOfLength R len =
 unfoldable pub count : List ℕ → ℕ
 count w = getD w 0 0
 
--- The first question: "Is the length 18 + 4 × N, N within limits, and .. word 0 that N?" The number of cells of the pool, 0 where the words are none.
+-- The first question: "Is the length 18 + 4 × N, N within limits, and .. word 0 that N?" The number of cells of the pool, 0 where the words are
+-- no pool.
 unfoldable pub cellsOf : ℕ → List ℕ → ℕ
 cellsOf R w = let n = cellsOfLength R (length w) in cond (eqb (count w) n) n 0
 

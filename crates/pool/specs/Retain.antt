@@ -28,6 +28,7 @@ freeField keep n i zero = 4
 freeField keep n i (suc zero) = freeAbove keep n i
 freeField keep n i (suc (suc f)) = 0
 
+-- Field f of cell i: that of a kept cell or of a free one.
 abbrev pub retainedField : ℕ → ℕ → (ℕ → Bool) → List ℕ → ℕ → ℕ → ℕ
 retainedField R n keep w i f = cond (keep i) (keptField R w i f) (freeField keep n i f)
 

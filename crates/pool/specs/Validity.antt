@@ -22,12 +22,14 @@ abbrev pub validCell : ℕ → ℕ → List ℕ → ℕ → Bool
 validCell R n w i =
     isFree (state R w i) || (isUsed (state R w i) && validLink R n w (left R w i) && validLink R n w (right R w i))
 
--- "A pool is whole if every state is 0 or 4 and all registers and all links of used cells are sound."
+-- All registers are valid.
 abbrev pub registersValid : ℕ → ℕ → List ℕ → Bool
 registersValid R n w = every R (λ k. validLink R n w (register w k))
 
+-- Every cell is.
 abbrev pub cellsValid : ℕ → ℕ → List ℕ → Bool
 cellsValid R n w = every n (λ k. validCell R n w (suc k))
 
+-- "A pool is whole if every state is 0 or 4 and all registers and all links of used cells are sound."
 abbrev pub wellFormed : ℕ → ℕ → List ℕ → Bool
 wellFormed R n w = registersValid R n w && cellsValid R n w

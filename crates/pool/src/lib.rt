@@ -1,5 +1,5 @@
 // The words of a pool of cells: where everything stands, reads and writes of cells and registers, fresh words, valid links, the test of a
-// whole pool, the sweep that rebuilds the free list, and the occupancy.
+// well-formed pool, the sweep that rebuilds the free list, and the occupancy.
 //
 // Functions that take the number of cells, n, ask that the words hold at least n cells; the exported calls find n by themselves.
 ghost use mathlib.Core.Path.{_≡_};
@@ -16,15 +16,15 @@ pub struct Pool {}
 
 // Why a call is refused.
 pub enum Refusal {
-    // The words are no pool: their length, or their number of cells.
+    // The words are no pool: their length, or their number of cells; or N or the kept cells are out of range.
     Size,
     // No such register.
     Register,
-    // A link leads to no used cell.
+    // A register that is read, a link, the head or the pool is malformed.
     Malformed,
     // The register holds no cell.
     Nil,
-    // Every cell is in use.
+    // No cell is free, also after a collection.
     Full,
     // The bytes end within a number.
     Truncated,
@@ -40,11 +40,13 @@ pub enum Refusal {
     TooLarge,
 }
 
+// What `fresh` answers: the number of cells, or the refusal.
 pub enum Fresh {
     Made(u32),
     Refused(Refusal),
 }
 
+// What `occupancy` answers: the percent, or the refusal.
 pub enum Occupied {
     Percent(u32),
     Refused(Refusal),
@@ -147,7 +149,7 @@ pub fn cells_of_length(len: usize) -> u32
     ((len - Pool::FIRST_CELL) / Pool::CELL_WORDS) as u32
 }
 
-// The number of cells of the pool, or 0 where the words are none: the first question.
+// The number of cells of the pool, or 0 where the words are no pool: the first question.
 pub fn cells(words: &[u32]) -> u32
     ensures { λ r. ⌜ r ≡ cellsOf registerCount (now (words .entry)) ⌝ }
 {

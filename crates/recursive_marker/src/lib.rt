@@ -1,4 +1,4 @@
-// The recursive procedure of source document 000 as a marker, for pools of at most 64 cells: it checks the other markers.
+// The recursive procedure of source document 000 as a marker, for pools of at most 64 cells (01: bench marker).
 use collector::Collection;
 use pool::Pool;
 use pool::Refusal;

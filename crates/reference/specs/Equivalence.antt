@@ -27,8 +27,8 @@ unfoldable pub modelAnswers : ℕ → List Call → Model → List Outcome
 modelAnswers L [] m = []
 modelAnswers L (c ∷ cs) m = (modelOf L c m) .0 ∷ modelAnswers L cs ((modelOf L c m) .1)
 
--- Does this call tell a pool of N cells from a limit of L? A "new" with valid registers does, where it finds "at least min(N, L) and fewer than
--- max(N, L) live cells".
+-- Does this call tell a pool of N cells from a limit of L? Demand 3: a "new" "with valid registers" does, where it "finds at least
+-- min(N, L) and fewer than max(N, L) live cells".
 abbrev pub tells : ℕ → ℕ → Call → Model → Bool
 tells N L (call.Copy r a) m = false
 tells N L (call.Clear r) m = false

@@ -35,12 +35,14 @@ entry m x = getD (m .cells) (x - 1) anyEntry
 abbrev pub replace : Model → ℕ → Entry → Model
 replace m x e = record { cells = set (m .cells) (x - 1) e; registers = m .registers }
 
+-- What register k holds, and the model in which it holds x.
 abbrev pub held : Model → ℕ → ℕ
 held m k = getD (m .registers) k 0
 
 abbrev pub hold : Model → ℕ → ℕ → Model
 hold m k x = record { cells = m .cells; registers = set (m .registers) k x }
 
+-- The graph of its cells.
 abbrev pub modelGraph : Model → Graph
 modelGraph m = record { left = λ x. (entry m x) .left; right = λ x. (entry m x) .right }
 
@@ -59,8 +61,7 @@ named m r a b x = cond (valid r a b) x (refused 2, m)
 abbrev pub onCell : Model → ℕ → Outcome × Model → Outcome × Model
 onCell m a x = cond (eqb (held m a) 0) (refused 4, m) x
 
--- "new with valid registers finds the live count as it stands before it: it is refused with 5 if that is L or more ..; otherwise it appends its
--- cell, and r gets that cell's place."
+-- An accepted "new": "it appends its cell, and r gets that cell's place".
 abbrev pub append : Model → ℕ → ℕ → ℕ → ℕ → Model
 append m r a b v =
     record {
@@ -68,7 +69,8 @@ append m r a b v =
       registers = set (m .registers) r (suc (length (m .cells)));
     }
 
--- One call, with the limit L.
+-- One call, with the limit L. A "new" "with valid registers finds the live count as it stands before it: it is refused with 5 if that is L or more,
+-- L a whole number from 0 up". "collect answers live and 3 × live and changes nothing."
 abbrev pub modelOf : ℕ → Call → Model → Outcome × Model
 modelOf L (call.Copy r a) m = named m r a a (answered [], hold m r (held m a))
 modelOf L (call.Clear r) m = named m r r r (answered [], hold m r 0)

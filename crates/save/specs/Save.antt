@@ -16,15 +16,15 @@ abbrev pub savedOutcome : Saved → Outcome
 savedOutcome (saved.Bytes size) = answered (size ∷ [])
 savedOutcome (saved.Refused why) = refused (refusalNumber why)
 
--- The answer, the scratch and the output afterwards, for a well-formed pool: "does the output hold the image? No: 10." "Once save has found
+-- The answer, the scratch and the output afterwards, for a well-formed pool: "does the output hold the image? No: 10."; "once save has found
 -- the pool whole all its scratch is 0, refused or not"; "output past the image stays".
 abbrev pub saveImage : List ℕ → List ℕ → List ℕ → Outcome × List ℕ × List ℕ
 saveImage image s out =
     cond (leb (length image) (length out)) (answered (length image ∷ []), replicate (length s) 0, image ++ drop (length image) out)
     (refused 10, replicate (length s) 0, out)
 
--- Save of the pool w: "length .. and word 0" (1), "scratch 2 × N words or more? No: 10", "is the pool whole?" (3), then the output. The pool
--- is only read: "Save changes no pool word".
+-- Save of the pool w: "Is the length 18 + 4 × N, N within limits, and .. word 0 that N? .. No: 1."; "scratch 2 × N words or more? No: 10."; "is the
+-- pool whole? .. No: 3."; then the output. The pool is only read: "Save changes no pool word".
 abbrev pub saveOf : List ℕ → List ℕ → List ℕ → Outcome × List ℕ × List ℕ
 saveOf w s out =
     let n = cellsOf registerCount w in

@@ -13,6 +13,7 @@ ghost use Rattle.image.specs.Image.{savedField, imageOf};
 ghost use Rattle.save.specs.Save.{savedOutcome, saveImage, saveOf};
 ghost use Rattle.save.specs.Steps.{numberAt, isNew, Savable, Clear, Numbered, NumbersWithin, Listed, Ordered};
 
+// What `save` answers.
 pub enum Saved {
     // So many bytes were written.
     Bytes(usize),

@@ -49,6 +49,7 @@ runs turns g seen (p ∷ ps) =
 abbrev pub stackRun : ℕ → Graph → List ℕ → List ℕ × ℕ
 stackRun n g roots = runs (2 * n) g [] roots
 
+-- The cells that it marks, and the most entries that its stack ever holds.
 abbrev pub stackMarked : ℕ → Graph → List ℕ → List ℕ
 stackMarked n g roots = stackRun n g roots .0
 

@@ -22,7 +22,7 @@ abbrev pub stackOutcome : StackCollection → Outcome
 stackOutcome (collection.Kept kept enough) = answered (kept ∷ cond enough 1 0 ∷ [])
 stackOutcome (collection.Refused k) = refused (refusalNumber k)
 
--- A pool of n cells: "is the pool whole? No: 3". "The pool ends as after collect; the stack words end 0."
+-- A pool of n cells: "is the pool whole? .. No: 3". "The pool ends as after collect; the stack words end 0."
 abbrev pub stackIn : ℕ → List ℕ → List ℕ → Outcome × List ℕ × List ℕ
 stackIn n w stack =
     cond (wellFormed registerCount n w)

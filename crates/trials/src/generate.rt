@@ -2,7 +2,7 @@
 use crate::words;
 ghost use Prim.Native.Nat.{_≤_};
 
-// The shapes of a pool: the seed's lowest three bits.
+// The shapes of a pool: the seed's lowest three bits. Shape 1 has no name: any links.
 const SPARSE: u32 = 0;
 
 const CHAIN: u32 = 2;
@@ -114,7 +114,7 @@ fn cell_word(n: u32, seed: u32, i: u32, field: u32, x: u32) -> u32 {
     }
 }
 
-// The word at a place: the number of cells, any number for the head, the registers, the cells.
+// The word at a place: the number of cells, any number for the head, the registers, the cells, which begin at word 18 and have four words each.
 fn word(n: u32, seed: u32, k: u32) -> u32 {
     let x = draw(seed, std::num::wrapping_add_u32(4096, k));
     if k == 0 {
@@ -140,7 +140,8 @@ pub fn fill(words: &mut [u32], n: u32, seed: u32)
     }
 }
 
-// Where a pool is damaged: in a register, in a link of a used cell, or in a state.
+// Where a pool is damaged: in a register, in a link of a used cell, or in a state. Register k is word 2 + k; cell i's words begin at word 14 + 4 × i with
+// its state, and its links follow.
 fn damaged_place(n: u32, seed: u32, i: u32, x: u32) -> usize {
     if x % 3 == 0 {
         return 2 + (x / 3 % 16) as usize;

@@ -11,7 +11,7 @@ pub fn put(words: &mut [u32], k: usize, v: u32) {
     }
 }
 
-// Stores a word of a cell.
+// Stores a word of a cell. Cell i's words begin at word 14 + 4 × i.
 fn put_cell(words: &mut [u32], i: u32, field: u32, v: u32) {
     put(words, 14 + 4 * (i as usize) + field as usize, v);
 }
@@ -56,7 +56,8 @@ pub fn all_are(words: &[u32], v: u32) -> bool
     true
 }
 
-// Makes the words what a collection has to leave of them, by the marks alone. Gives the number of marked cells.
+// Makes the words what a collection has to leave of them, by the marks alone. Gives the number of marked cells. (State 0 is used, 4 is free; word 1 is
+// the head.)
 pub fn keep_marked(words: &mut [u32], n: u32, marks: &[u32]) -> u32
     requires { ⌜ n < length (now marks) ⌝ }
 {
