@@ -1,6 +1,6 @@
+-- `interpreter::execute` meets its contract: each kind of line, on the pool's part of the words.
 use lib.ListN.{length}
 use denote.Ref.{now}
--- `interpreter::execute` meets its contract: each kind of line, on the pool's part of the words.
 use mathlib.Core.Path.{_∙_}
 use Rattle.interpreter.proofs.Turns.{used-inside, bad-line, settled}
 use borrow.Author.Needs.{needs}

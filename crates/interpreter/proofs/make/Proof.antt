@@ -1,6 +1,6 @@
+-- `interpreter::make` meets its contract: refused, all words stay; made, the pool's part is that of a new pool.
 use lib.ListN.{length}
 use denote.Ref.{now}
--- `interpreter::make` meets its contract: refused, all words stay; made, the pool's part is that of a new pool.
 use mathlib.Core.Path.{sym, _∙_}
 use lib.Seq.{length-take-le}
 use Rattle.interpreter.proofs.Turns.{size-inside, fresh-refused, fresh-made}

@@ -1,7 +1,7 @@
+-- `interpreter::reply_to` meets its contract: a new is silent, any other call is not.
 use Rattle.answers.specs.Answers.{answerOutcome}
 use mathlib.Core.Path.{sym, _∙_, ap}
 use Rattle.interpreter.specs.Execute.{outcomeText}
--- `interpreter::reply_to` meets its contract: a new is silent, any other call is not.
 use Rattle.interpreter.proofs.Turns.{not-new}
 use borrow.Author.Needs.{needs}
 use Rattle.interpreter.proofs.reply_to.Statement.{statement}

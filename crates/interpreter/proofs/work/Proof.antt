@@ -1,7 +1,7 @@
+-- `interpreter::work` meets its contract: each turn is a step of the script.
 use mathlib.Core.Path.{sym, _∙_}
 use native.Mathlib.Omega.{arith}
 use denote.Ref.{now}
--- `interpreter::work` meets its contract: each turn is a step of the script.
 use Prim.Native.Nat.{_-_}
 use lib.ListN.{length}
 use Rattle.interpreter.proofs.Working.{Going, going-start, turning, going-on, going-ends}

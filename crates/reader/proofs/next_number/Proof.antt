@@ -2,7 +2,6 @@
 -- the struct holds, `place_behind` on what it found, and the borrow is closed at the struct with the new place. All that the proof knows of the two
 -- callees is that each meets its contract.
 -- The struct is Copy: what it owns is had twice, one copy stays for the close, and of the other what bytes owns goes to `read_number`.
--- Assumes nothing.
 use mathlib.Core.Path.{_≡_, refl, ap}
 use Prim.Native.Nat.{ℕ, _<_, _^_}
 use mathlib.Core.List.{List, [], _∷_}

@@ -1,6 +1,5 @@
 -- `reader::number_at` meets its contract: a walk of its MIR, by hand. The `Reader` that `reader_at` returns is put into a local, which is lent to `next_number`
 -- for a lifetime within 'a that the walk makes and ends. All that the proof knows of the two callees is that each meets its contract.
--- Assumes nothing.
 use mathlib.Core.Path.{_≡_, refl, ap, _∙_}
 use Prim.Native.Nat.{ℕ, _<_, _^_}
 use mathlib.Core.List.{List, [], _∷_}

@@ -1,6 +1,6 @@
 -- `tally::collect_tally` meets its contract: a walk of its MIR, by hand. The words' borrow goes to `collect` for good; the tally's borrow is opened, its
 -- value is copied out and passed to `after`, and what that gives back is stored before the borrow is closed.
--- All that the proof knows of `collect` and of `after` is that each meets its contract. Assumes nothing.
+-- All that the proof knows of `collect` and of `after` is that each meets its contract.
 use mathlib.Core.Path.{_≡_, refl, ap, _∙_}
 use Prim.Native.Nat.{ℕ}
 use mathlib.Core.List.{[], _∷_, List}
