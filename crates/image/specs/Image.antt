@@ -51,7 +51,7 @@ encodeAll (v ∷ vs) = encode v ++ encodeAll vs
 abbrev pub imageOf : ℕ → ℕ → List ℕ → List ℕ
 imageOf R n w = encodeAll (imageNumbers R w (reachedCells R n w))
 
--- A number that was read, if it may have any value or is at most `most`; otherwise why not. "Are all its bytes there, the first five at
+-- A number that was read, if it may have any value or is at most `most`; otherwise why not: "are all its bytes there, the first five at
 -- most? No: 6. Is it below 2^32 in five groups? No: 7."
 abbrev pub bounded : Bool → ℕ → Refusal → Number → Field
 bounded free most over (number.Value v next) = cond (free || leb v most) (field.Value v next) (field.Refused over)

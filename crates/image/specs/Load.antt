@@ -31,7 +31,7 @@ imageWord R n vs k =
 abbrev pub loadedWords : ℕ → ℕ → ℕ → List ℕ → List ℕ
 loadedWords R n K vs = retain R n (λ i. leb i K) (tabulate (poolLength R n) (imageWord R n vs))
 
--- Load into a pool of n cells: 0 and the image's end, or the refusal's number and the end of the bytes; "a refusal .. changes nothing".
+-- Load into a pool of n cells: 0 and the image's end, or the refusal's number and the end of the bytes; "A refusal .. changes nothing".
 abbrev pub loadImage : ℕ → ℕ → Image → ℕ → List ℕ → Loaded × List ℕ
 loadImage R n (Image.image K start vs end) bytes w = (record { verdict = 0; end = end }, loadedWords R n K vs)
 loadImage R n (Image.fault why) bytes w = (record { verdict = refusalNumber why; end = bytes }, w)

@@ -16,8 +16,8 @@ mapValue f (Value value next) = Value (f value) next
 mapValue f Missing = Missing
 mapValue f OutOfRange = OutOfRange
 
--- Reads a number off the front of a list whose first byte has the place `at`; up to `more` groups may follow its first one.
--- "The byte's top bit (80 hexadecimal) says that another group follows. A reader takes up to five groups, the fifth at most 0F."
+-- Reads a number off the front of a list whose first byte has the place `at`; up to `more` groups may follow its first one:
+-- "the byte's top bit (80 hexadecimal) says that another group follows. A reader takes up to five groups, the fifth at most 0F."
 unfoldable pub readGroups : ℕ → List ℕ → ℕ → Number
 readGroups more [] at = Missing
 readGroups zero (b ∷ bytes) at = cond (ltb b 16) (Value b (at + 1)) OutOfRange
@@ -27,7 +27,7 @@ readGroups (suc more) (b ∷ bytes) at =
       | false ↦ mapValue (λ high. (b - 128) + 128 * high) (readGroups more bytes (at + 1))
     ]
 
--- The number at a place of the bytes. "Are all its bytes there, the first five at most? No: 6", which is `Missing`.
+-- The number at a place of the bytes: "are all its bytes there, the first five at most? No: 6", which is `Missing`.
 -- "Is it below 2^32 in five groups? No: 7", which is `OutOfRange`.
 unfoldable pub readAt : List ℕ → ℕ → Number
 readAt bytes at = readGroups 4 (drop at bytes) at

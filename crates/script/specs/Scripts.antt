@@ -30,7 +30,7 @@ abbrev pub startLine : ℕ → List (List ℕ) → List (List ℕ)
 startLine b [] = (b ∷ []) ∷ []
 startLine b (line ∷ lines) = (b ∷ line) ∷ lines
 
--- The lines of a script, without their line feeds. "The last line needs no line end", and a last line feed starts no new line.
+-- The lines of a script, without their line feeds: "the last line needs no line end", and a last line feed starts no new line.
 unfoldable pub linesOf : List ℕ → List (List ℕ)
 linesOf [] = []
 linesOf (b ∷ bytes) = elim (isLineFeed b) [ true ↦ [] ∷ linesOf bytes | false ↦ startLine b (linesOf bytes) ]
