@@ -1,1 +1,3 @@
 pub mod Table
+pub mod Instances
+pub mod Applied

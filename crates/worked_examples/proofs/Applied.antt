@@ -1,0 +1,98 @@
+-- Each theorem applied to its instance: the hypotheses that specs/Instances.antt states are those of the theorems, and all of them.
+use native.Mathlib.Omega.{arith}
+use mathlib.Core.Path.{refl}
+use mathlib.Core.List.{[], _∷_}
+use Rattle.leb128.proofs.Theorems.{round-trip, fewest-groups, reads-within, prefix-free, one-to-one, one-to-five-bytes}
+use Rattle.graph.specs.Dfs.{marks}
+use Rattle.graph.specs.Marking.{outside}
+use Rattle.graph.proofs.Theorems.{order-reached, order-distinct, order-length, order-depth, order-agree, marked-reached, marked-count}
+use Rattle.graph.proofs.Pairing.{length-paired, order-paired, pairing-kept}
+use Rattle.graph.proofs.Reached.{reach-agree}
+use Rattle.pool.specs.Layout.{registerCount}
+use Rattle.pool.specs.Outcome.{answered}
+use Rattle.pool.specs.Retain.{freshWords}
+use Rattle.pool.proofs.RetainedPool.{retained-free-list}
+use Rattle.pool.proofs.FreshPool.{fresh-is-free, fresh-is-well-formed}
+use Rattle.collector.specs.Collect.{isReached}
+use Rattle.collector.proofs.CollectTheorem.{collection-keeps-the-reached}
+use Rattle.collector.proofs.Roots.{run-from-roots, run-over-pool}
+use Rattle.collector.proofs.Run.{run-from-link}
+use Rattle.stack_marker.proofs.Chain.{chain-needs}
+use Rattle.stack_marker.proofs.Going.{stack-ends, stack-marks-the-reached, stack-bound}
+use Rattle.stack_marker.proofs.Cases.{stack-cases}
+use Rattle.calls.specs.declared.Call.the-variants as call
+use Rattle.batch.proofs.Whole.{runs-one-after-the-other}
+use Rattle.reference.proofs.Theorems.{equivalence, equivalence-at-limit, reached-pools, never-malformed}
+use Rattle.reference.proofs.RunEquivalence.{run-equivalence}
+use Rattle.image.proofs.Check.{check-is-load}
+use Rattle.image.proofs.Accepted.{load-is-well-formed}
+use Rattle.save.proofs.RoundTrip.{load-then-save, save-then-load}
+use Rattle.script.specs.declared.Line.the-variants as line
+use Rattle.script.specs.Reader.{newReader}
+use Rattle.script.proofs.Scanning.{parts-read}
+use Rattle.script.proofs.Decimals.{decimals-read-back, fewest-digits}
+use Rattle.interpreter.specs.Work.{start}
+use Rattle.interpreter.proofs.Whole.{starts-whole, parts-join, last-line-ends}
+use Rattle.worked_examples.specs.Instances.{three, threeCollected, two, graph, roots, Swapped, image, numbers, words, calls, list, out, padded, lines, progress, largest}
+use Rattle.worked_examples.proofs.Instances.{pool-instance, reversal-instance, graph-instance, number-instance, image-instance, batch-instance, script-instance}
+
+pub applied : Unit {0}
+applied =
+    let p = pool-instance in
+    let r = reversal-instance in
+    let g = graph-instance in
+    let k = number-instance in
+    let i = image-instance in
+    let b = batch-instance in
+    let s = script-instance in
+    let t = collection-keeps-the-reached 3 three (p .some) (p .cells) (p .well-formed) in
+    let t = run-over-pool registerCount 3 three (p .room) (p .well-formed) in
+    let t = retained-free-list registerCount 3 (isReached registerCount 3 three) three (p .some) (p .room) in
+    let t = fresh-is-well-formed 3 (p .some) (p .most) in
+    let t = fresh-is-free 3 (p .some) in
+    let t = equivalence 3 2 calls (p .some) (p .most) in
+    let t = equivalence-at-limit 3 calls (p .some) (p .most) in
+    let t = reached-pools 3 calls (p .some) (p .most) in
+    let t = chain-needs 3 (p .some) in
+    let t = run-from-link registerCount 3 (graph three) (outside 3) 1 (1 ∷ 2 ∷ []) three (r .agreement) (r .dfs) (r .unmarked) in
+    let t = run-from-roots registerCount 3 (graph three) (outside 3) (roots three) (1 ∷ 2 ∷ []) three (r .agreement) (r .all) (g .within .root) in
+    let t = order-reached 3 (graph three) (roots three) (g .within) in
+    let t = order-distinct 3 (graph three) (roots three) (g .within) in
+    let t = order-length 3 (graph three) (roots three) (g .within) in
+    let t = order-depth 3 (graph three) (roots three) (g .within) 4 (g .deeper) in
+    let t = marked-reached 3 (graph three) (roots three) (g .within) (marks (outside 3) (1 ∷ 2 ∷ [])) (g .closure) 3 (p .some) (omega arith) in
+    let t = marked-count 3 (graph three) (roots three) (g .within) (marks (outside 3) (1 ∷ 2 ∷ [])) (g .closure) in
+    let t = reach-agree (graph three) (graph threeCollected) (roots three) (g .agree) in
+    let t = order-agree 3 (graph three) (graph threeCollected) (roots three) (g .within) (g .agree) in
+    let t = length-paired 3 (graph three) (roots three) 2 (graph two) (roots two) (g .within) (g .within-two) (g .lengths) (g .paired) in
+    let t = order-paired 3 (graph three) (roots three) 2 (graph two) (roots two) (g .within) (g .within-two) (g .lengths) (g .paired) in
+    let t = pairing-kept (graph three) (roots three) (graph two) (roots two) Swapped (g .relation) (g .related-roots) (g .related-links) in
+    let t = stack-ends 3 (graph three) (roots three) (g .within) 7 (g .turns) in
+    let t = stack-marks-the-reached 3 (graph three) (roots three) (g .within) in
+    let t = stack-bound 3 (graph three) (roots three) (g .within) in
+    let t = stack-cases 2 (graph three) (1 ∷ []) .1 1 [] .both (g .both .0) (g .both .1) in
+    let t = stack-cases 2 (graph three) (2 ∷ []) .1 2 [] .left (g .left .0) (g .left .1) in
+    let t = stack-cases 2 (graph three) (1 ∷ []) .1 2 [] .none (g .none .0) (g .none .1) in
+    let t = stack-cases 2 (graph three) (1 ∷ []) .1 3 [] .right (g .right .0) (g .right .1) in
+    let t = round-trip 4294967295 [] [] (k .largest) in
+    let t = one-to-five-bytes 4294967295 (k .largest) in
+    let t = prefix-free 4294967295 4294967295 [] (k .largest) (k .largest) (k .same) in
+    let t = one-to-one 4294967295 4294967295 (k .largest) (k .largest) refl in
+    let t = fewest-groups (0x80 ∷ 0x00 ∷ []) 0 0 2 (k .bytes) (k .read) in
+    let t = reads-within (0x80 ∷ 0x00 ∷ []) 0 0 2 (k .bytes) (k .read) in
+    let t = decimals-read-back 4294967295 (k .largest) in
+    let t = check-is-load 2 image words (i .size) in
+    let t = load-is-well-formed words image (i .accepted) in
+    let t = save-then-load three words [] (i .words32) (i .some) (i .well-formed) (i .target) (i .fit) in
+    let t = load-then-save 2 image 2 1 numbers 24 (i .read) (i .ordered) in
+    let t = runs-one-after-the-other list calls (freshWords registerCount 3) out (b .program) (b .room) in
+    let t = run-equivalence 3 2 list out calls (p .some) (p .most) (b .program) (b .room) in
+    let t = never-malformed 3 calls (p .some) (p .most) (answered (1 ∷ 3 ∷ [])) (b .answer) in
+    let t = fewest-digits padded (s .some) (s .digits) in
+    let t = parts-read newReader lines [] 0 .line (line.Run call.Collect) 2 (s .ended) in
+    let t = parts-read newReader lines [] 2 .more (progress .reader) (s .more) in
+    let t = starts-whole largest lines [] (s .words) in
+    let t = parts-join largest lines lines [] progress (s .read) in
+    let t = last-line-ends largest progress .begun (s .begun) in
+    let t = last-line-ends largest start .over (s .over) in
+    tt

@@ -1,0 +1,215 @@
+-- The instances of specs/Instances.antt, computed from the definitions or by the laws of well-formed pools.
+use Prim.Native.Nat.{ℕ, zero, suc, _<_, _≤_}
+use native.Mathlib.Omega.{arith}
+use mathlib.Core.Path.{_≡_, refl}
+use mathlib.Core.List.{List, [], _∷_, List·Memᴰ, List·Memᴰ·head, List·Memᴰ·tail}
+use mathlib.Core.Bool.{true}
+use lib.ListN.{length, getD, replicate, getD-replicate, length-replicate}
+use lib.Dec.{ltb}
+use borrow.Author.Tests.{ltb-true}
+use Rattle.leb128.specs.Leb128.{groups, encode, readGroups, readAt}
+use Rattle.graph.specs.Graph.{Reach, Within}
+use Rattle.graph.specs.Order.{has, visit, visits, order}
+use Rattle.graph.specs.Dfs.{mark, marks, Dfs}
+use Rattle.graph.specs.Marking.{outside, marked}
+use Rattle.graph.specs.Compare.{Agree, OneToOne}
+use Rattle.graph.proofs.Marks.{outside-cell, outside-past, outside-nil, cells-outside}
+use Rattle.graph.proofs.Depth.{order-dfs}
+use Rattle.graph.proofs.Theorems.{order-closure, order-reached}
+use Rattle.graph.proofs.Pairing.{pairing-kept}
+use Rattle.pool.specs.Words.{tabulate, every}
+use Rattle.pool.specs.Layout.{registerCount, cellLimit, poolLength, cellsOfLength, count, cellsOf, head, setHead, register, setRegister, cell, setCell}
+use Rattle.pool.specs.Retain.{lowestFree, retain}
+use Rattle.pool.proofs.Questions.{both}
+use Rattle.pool.proofs.WellFormed.{well-formed-read}
+use Rattle.pool.proofs.PoolGraph.{pool-within}
+use Rattle.collector.specs.ReversalTheorem.{Agreement, Untouched}
+use Rattle.stack_marker.specs.Stack.{run, runs}
+use Rattle.batch.specs.Program.{programOf, programOfCalls}
+use Rattle.batch.specs.Run.{runFrom, afterAll}
+use Rattle.reference.specs.Equivalence.{poolAnswers}
+use Rattle.image.specs.Image.{placeFrom, encodeAll, readFields, readImage}
+use Rattle.script.specs.Lines.{all, command}
+use Rattle.script.specs.Reader.{spaceOf, letterOf, digitOf, feedOf, endOf, begunOf}
+use Rattle.script.specs.Replies.{digits, decimal}
+use Rattle.script.specs.Scripts.{nextLine}
+use Rattle.worked_examples.specs.Instances.{three, threeCollected, two, graph, roots, Swapped}
+use Rattle.worked_examples.specs.Instances.{Pool-instance, Reversal-instance, Graph-instance, Number-instance, Image-instance, Batch-instance, Script-instance}
+
+-- Every element of a list that is tested whole is below a bound.
+below : (b : ℕ) → 0 < b → (xs : List ℕ) → all (λ x. ltb x b) xs ≡ true → (i : ℕ) → getD xs i 0 < b
+unfolding all
+below b positive [] h i = positive
+below b positive (x ∷ xs) h zero = ltb-true x b (both (ltb x b) (all (λ y. ltb y b) xs) h .0)
+below b positive (x ∷ xs) h (suc i) = below b positive xs (both (ltb x b) (all (λ y. ltb y b) xs) h .1) i
+
+within : Within 3 (graph three) (roots three)
+unfolding tabulate every register cell
+within = pool-within (well-formed-read registerCount 3 three refl)
+
+within-two : Within 2 (graph two) (roots two)
+unfolding tabulate every register cell
+within-two = pool-within (well-formed-read registerCount 2 two refl)
+
+-- Only cells 1 and 2 are reached.
+only : (x : ℕ) → Reach (graph three) (roots three) x → List·Memᴰ x (1 ∷ 2 ∷ [])
+unfolding has visit visits order tabulate register cell
+only x = order-reached 3 (graph three) (roots three) within x .1
+
+apart : List·Memᴰ {A = ℕ} 3 (1 ∷ 2 ∷ []) → ⊥
+apart (List·Memᴰ·head e) = omega arith
+apart (List·Memᴰ·tail (List·Memᴰ·head e)) = omega arith
+
+pub pool-instance : Pool-instance
+unfolding has visit visits order tabulate every cellsOfLength count cellsOf head register cell setCell lowestFree retain
+pool-instance =
+    record { some = omega arith; most = omega arith; room = omega arith; cells = refl; well-formed = refl; answer = refl; full = refl }
+
+-- The three cells are as the graph has them.
+untouched : (x : ℕ) → 0 < x → x ≤ 3 → Untouched registerCount 3 (graph three) three x
+unfolding cell
+untouched zero h k = absurd (omega arith)
+untouched (suc zero) h k = record { state = refl; left = refl; right = refl; left-bound = omega arith; right-bound = omega arith }
+untouched (suc (suc zero)) h k = record { state = refl; left = refl; right = refl; left-bound = omega arith; right-bound = omega arith }
+untouched (suc (suc (suc zero))) h k = record { state = refl; left = refl; right = refl; left-bound = omega arith; right-bound = omega arith }
+untouched (suc (suc (suc (suc x)))) h k = absurd (omega arith)
+
+agreement : Agreement registerCount 3 (graph three) (outside 3) three
+agreement =
+    record {
+      room = omega arith;
+      nil = outside-nil 3;
+      past = outside-past 3;
+      unmarked = λ x e. untouched x (cells-outside 3 .above x e) (cells-outside 3 .below x e);
+      marked = λ x h k marked. absurd (omega (arith, outside-cell 3 x h k));
+    }
+
+dfs : Dfs (graph three) (outside 3) 1 (1 ∷ 2 ∷ [])
+unfolding outside mark marks cell
+dfs =
+    let m = mark (outside 3) 1 in
+    let second : Dfs (graph three) m 2 (2 ∷ []) =
+    Dfs.step {t = []} {u = []} refl (Dfs.stop {m = mark m 2} {p = 1} (omega arith)) (Dfs.stop {m = mark m 2} {p = 0} (omega arith)) in
+    Dfs.step {t = 2 ∷ []} {u = []} refl second (Dfs.stop {m = mark m 2} {p = 2} (omega arith))
+
+pub reversal-instance : Reversal-instance
+unfolding has visit visits order tabulate register cell outside marked
+reversal-instance =
+    record {
+      agreement = agreement;
+      unmarked = refl;
+      dfs = dfs;
+      all = order-dfs 3 (graph three) (roots three) within;
+      recursive =
+          record {
+            graph = graph three;
+            marks = outside 3;
+            cells = 1 ∷ 2 ∷ [];
+            agree = agreement;
+            dfs = dfs;
+            bounded = omega arith;
+            deep = omega arith;
+            fits = omega arith;
+          };
+    }
+
+-- Exchanged twice, a number is itself again.
+back : (x y : ℕ) → Swapped x y → x ≡ getD (0 ∷ 2 ∷ 1 ∷ []) y 0
+back zero y h = rw (h .1)
+back (suc zero) y h = rw (h .1)
+back (suc (suc zero)) y h = rw (h .1)
+back (suc (suc (suc x))) y h = absurd (omega arith)
+
+relation : OneToOne Swapped
+relation =
+    record {
+      nil = λ x y h. (λ e. rw e at (h .1), λ e. rw e at (back x y h));
+      forward = λ x y z a b. (cc);
+      backward = λ x y z a b. cc (back x z a, back y z b);
+    }
+
+related-roots : (i : ℕ) → i < length (roots three) → Swapped (getD (roots three) i 0) (getD (roots two) i 0)
+unfolding tabulate register
+related-roots zero h = (omega arith, refl)
+related-roots (suc i) h =
+    let e : _≡_ {A = ℕ} (getD (replicate 15 0) i 0) 0 = getD-replicate 15 i 0 0 (omega arith) in
+    rw e (omega arith, refl)
+
+related-links : (x y : ℕ) → Swapped x y → 0 < x → 0 < y
+    → Swapped (graph three .left x) (graph two .left y) × Swapped (graph three .right x) (graph two .right y)
+unfolding cell
+related-links zero y h hx hy = absurd (omega arith)
+related-links (suc zero) y h hx hy = rw (h .1) ((omega arith, refl), (omega arith, refl))
+related-links (suc (suc zero)) y h hx hy = rw (h .1) ((omega arith, refl), (omega arith, refl))
+related-links (suc (suc (suc x))) y h hx hy = absurd (omega arith)
+
+agree : (x : ℕ) → List·Memᴰ x (1 ∷ 2 ∷ []) → Agree (graph three) (graph threeCollected) x
+unfolding cell
+agree x (List·Memᴰ·head e) = rw e (record { left = refl; right = refl })
+agree x (List·Memᴰ·tail (List·Memᴰ·head e)) = rw e (record { left = refl; right = refl })
+
+pub graph-instance : Graph-instance
+unfolding has visit visits order tabulate register cell run runs
+graph-instance =
+    record {
+      within = within;
+      deeper = omega arith;
+      reached = Reach.left (Reach.root {x = 1} (List·Memᴰ·head refl) (omega arith)) (omega arith);
+      unreached = λ r. apart (only 3 r);
+      closure = order-closure 3 (graph three) (roots three) within;
+      agree = λ x reach. agree x (only x reach);
+      differ = λ a. omega (arith, a .left);
+      relation = relation;
+      related-roots = related-roots;
+      related-links = related-links;
+      within-two = within-two;
+      lengths = refl;
+      paired = pairing-kept (graph three) (roots three) (graph two) (roots two) Swapped relation related-roots related-links;
+      turns = omega arith;
+      run = refl;
+      both = (refl, refl);
+      left = (refl, refl);
+      none = (refl, refl);
+      right = (refl, refl);
+    }
+
+pub number-instance : Number-instance
+unfolding all groups encode readGroups readAt
+number-instance =
+    record { largest = omega arith; same = refl; bytes = below 256 (omega arith) (0x80 ∷ 0x00 ∷ []) refl; read = refl; fewer = omega arith }
+
+pub image-instance : Image-instance
+unfolding all has visit visits order groups encode readGroups readAt tabulate every cellsOfLength count cellsOf register cell lowestFree retain placeFrom encodeAll readFields readImage
+image-instance =
+    record {
+      size = refl;
+      accepted = refl;
+      loaded = refl;
+      words32 = below 4294967296 (omega arith) three refl;
+      some = omega arith;
+      well-formed = refl;
+      target = omega arith;
+      fit = omega arith;
+      saved = (refl, refl);
+      read = refl;
+      ordered = refl;
+    }
+
+pub batch-instance : Batch-instance
+unfolding has visit visits order tabulate every cellsOfLength count cellsOf head setHead register setRegister cell setCell lowestFree retain programOf programOfCalls runFrom afterAll poolAnswers
+batch-instance = record { program = refl; room = omega arith; run = refl; answer = List·Memᴰ·tail (List·Memᴰ·head refl) }
+
+pub script-instance : Script-instance
+unfolding all command spaceOf letterOf digitOf feedOf endOf begunOf digits decimal nextLine
+script-instance =
+    record {
+      some = omega arith;
+      digits = refl;
+      fewer = omega arith;
+      ended = refl;
+      more = refl;
+      words = length-replicate {A = ℕ} (poolLength registerCount cellLimit) 0;
+      read = omega arith;
+      begun = refl;
+      over = refl;
+    }

@@ -1,0 +1,195 @@
+-- No theorem is vacuous: the hypotheses of each are met by an instance, most of them by one pool, on which what the theorem says is not trivial.
+use Prim.Native.Nat.{ℕ, suc, _+_, _*_, _^_, _<_, _≤_}
+use Prim.Native.Char.{code}
+use mathlib.Core.Path.{_≡_}
+use mathlib.Core.List.{List, [], _∷_, _++_, List·Memᴰ}
+use mathlib.Core.Bool.{true, false}
+use lib.ListN.{length, getD, drop, replicate}
+use Rattle.leb128.specs.Leb128.{encode, readAt, Bytes}
+use Rattle.leb128.specs.declared.Number.the-variants as number
+use Rattle.graph.specs.Graph.{Graph, Reach, Within}
+use Rattle.graph.specs.Dfs.{marks, Dfs, DfsAll}
+use Rattle.graph.specs.Marking.{outside, Closure}
+use Rattle.graph.specs.Compare.{Agree, Paired, OneToOne}
+use Rattle.pool.specs.Words.{tabulate}
+use Rattle.pool.specs.Layout.{registerCount, cellLimit, poolLength, cellsOfLength, cellsOf, graphOf, rootsOf}
+use Rattle.pool.specs.Validity.{wellFormed}
+use Rattle.pool.specs.Retain.{freshWords}
+use Rattle.pool.specs.Outcome.{answered}
+use Rattle.collector.specs.Collect.{reachedCells, keptCells, collectOf}
+use Rattle.collector.specs.ReversalTheorem.{Agreement}
+use Rattle.recursive_marker.specs.Recursive.{Visitable}
+use Rattle.stack_marker.specs.Stack.{isFresh, stackRun}
+use Rattle.calls.specs.declared.Call.{Call}
+use Rattle.calls.specs.declared.Call.the-variants as call
+use Rattle.batch.specs.declared.Ran.the-variants as ran
+use Rattle.batch.specs.Program.{programOf, programOfCalls}
+use Rattle.batch.specs.Run.{runOf, afterAll}
+use Rattle.reference.specs.Equivalence.{poolAnswers}
+use Rattle.image.specs.Image.{imageOf, Image, readImage}
+use Rattle.image.specs.Load.{loadedWords, loadOf}
+use Rattle.save.specs.RoundTrip.{Words}
+use Rattle.script.specs.declared.Line.the-variants as line
+use Rattle.script.specs.declared.Found.the-variants as found
+use Rattle.script.specs.Lines.{isDigit, all, decimalValue}
+use Rattle.script.specs.Reader.{newReader, withoutNumbers, begunOf}
+use Rattle.script.specs.Replies.{decimal}
+use Rattle.script.specs.Scripts.{nextLine}
+use Rattle.interpreter.specs.declared.Progress.{Progress}
+use Rattle.interpreter.specs.Work.{start}
+
+-- A pool of three used cells. Register 0 holds cell 1, both of whose links lead to cell 2 (which is shared), and that leads back to cell 1 (a cycle).
+-- Cell 3 leads to cell 1 and to itself, and is not reached.
+abbrev pub three : List ℕ
+three = (3 ∷ 0 ∷ 1 ∷ []) ++ replicate 15 0 ++ (0 ∷ 2 ∷ 2 ∷ 300 ∷ []) ++ (0 ∷ 1 ∷ 0 ∷ 8 ∷ []) ++ (0 ∷ 1 ∷ 3 ∷ 9 ∷ [])
+
+-- The same after a collection: cell 3 is free, and the head.
+abbrev pub threeCollected : List ℕ
+threeCollected = (3 ∷ 3 ∷ 1 ∷ []) ++ replicate 15 0 ++ (0 ∷ 2 ∷ 2 ∷ 300 ∷ []) ++ (0 ∷ 1 ∷ 0 ∷ 8 ∷ []) ++ (4 ∷ 0 ∷ 0 ∷ 0 ∷ [])
+
+-- A pool of just the two cells that are reached, in the other order: register 0 holds cell 2.
+abbrev pub two : List ℕ
+two = (2 ∷ 0 ∷ 2 ∷ []) ++ replicate 15 0 ++ (0 ∷ 2 ∷ 0 ∷ 8 ∷ []) ++ (0 ∷ 1 ∷ 1 ∷ 300 ∷ [])
+
+-- The graph of a pool and its roots.
+abbrev pub graph : List ℕ → Graph
+graph = graphOf registerCount
+
+abbrev pub roots : List ℕ → List ℕ
+roots = rootsOf registerCount
+
+-- `Collection-keeps-the-reached`, `RunOverPool`, `RetainedFreeList`; and `FreshIsWellFormed`, `FreshIsFree`, `Equivalence`, `EquivalenceAtLimit`,
+-- `ReachedPools` and `Chain-needs`, which ask for no more than a number of cells.
+pub record Pool-instance : Type 0 where
+  pub some : 0 < 3
+  pub most : 3 ≤ cellLimit
+  pub room : poolLength registerCount 3 ≤ length three
+  pub cells : cellsOf registerCount three ≡ 3
+  pub well-formed : wellFormed registerCount 3 three ≡ true
+  -- A collection frees cell 3. Where all cells are reached it changes nothing.
+  pub answer : collectOf three ≡ (answered (2 ∷ 6 ∷ []), threeCollected)
+  pub full : collectOf two ≡ (answered (2 ∷ 6 ∷ []), two)
+
+-- `RunFromLink`, from link 1, and `RunFromRoots` (that the roots are cells is `within .root` of Graph-instance).
+pub record Reversal-instance : Type 0 where
+  pub agreement : Agreement registerCount 3 (graph three) (outside 3) three
+  pub unmarked : outside 3 1 ≡ 0
+  pub dfs : Dfs (graph three) (outside 3) 1 (1 ∷ 2 ∷ [])
+  pub all : DfsAll (graph three) (outside 3) (roots three) (1 ∷ 2 ∷ [])
+  -- What the recursive marker's visit of link 1 asks for, with depth 3
+  pub recursive : Visitable registerCount 3 3 1 0 three
+
+-- Cells 1 and 2 of `three` are cells 2 and 1 of `two`, and nil is nil.
+abbrev pub Swapped : ℕ → ℕ → Type 0
+Swapped x y = (x ≤ 2) × (y ≡ getD (0 ∷ 2 ∷ 1 ∷ []) x 0)
+
+-- The theorems of graphs and of marking with a stack, on the pool's graph.
+pub record Graph-instance : Type 0 where
+  -- `Order-reached`, `Order-distinct`, `Order-length`, `Order-depth`
+  pub within : Within 3 (graph three) (roots three)
+  pub deeper : 3 ≤ 4
+  pub reached : Reach (graph three) (roots three) 2
+  pub unreached : Reach (graph three) (roots three) 3 → ⊥
+  -- `Marked-reached`, `Marked-count`
+  pub closure : Closure (graph three) (outside 3) (roots three) (marks (outside 3) (1 ∷ 2 ∷ []))
+  -- `Reach-agree`, `Order-agree`: with the pool after the collection, where cell 3 has other links
+  pub agree : (x : ℕ) → Reach (graph three) (roots three) x → Agree (graph three) (graph threeCollected) x
+  pub differ : Agree (graph three) (graph threeCollected) 3 → ⊥
+  -- `Pairing-kept`, and `Length-paired`, `Order-paired`: with the pool of two cells
+  pub relation : OneToOne Swapped
+  pub related-roots : (i : ℕ) → i < length (roots three) → Swapped (getD (roots three) i 0) (getD (roots two) i 0)
+  pub related-links : (x y : ℕ) → Swapped x y → 0 < x → 0 < y
+      → Swapped (graph three .left x) (graph two .left y) × Swapped (graph three .right x) (graph two .right y)
+  pub within-two : Within 2 (graph two) (roots two)
+  pub lengths : length (roots three) ≡ length (roots two)
+  pub paired : OneToOne (Paired (graph three) (roots three) (graph two) (roots two))
+  -- `Stack-ends`, `Stack-marks-the-reached`, `Stack-bound`: cell 2 is met twice, and pushed once
+  pub turns : 2 * 3 ≤ 7
+  pub run : stackRun 3 (graph three) (roots three) ≡ (1 ∷ 2 ∷ 2 ∷ [], 1)
+  -- `Stack-cases`: of cell 1 both links are unmarked, of cell 2 the left one or none, of cell 3 the right one
+  pub both : (isFresh (1 ∷ []) (graph three .left 1) ≡ true) × (isFresh (1 ∷ []) (graph three .right 1) ≡ true)
+  pub left : (isFresh (2 ∷ []) (graph three .left 2) ≡ true) × (isFresh (2 ∷ []) (graph three .right 2) ≡ false)
+  pub none : (isFresh (1 ∷ []) (graph three .left 2) ≡ false) × (isFresh (1 ∷ []) (graph three .right 2) ≡ false)
+  pub right : (isFresh (1 ∷ []) (graph three .left 3) ≡ false) × (isFresh (1 ∷ []) (graph three .right 3) ≡ true)
+
+-- LEB128: `RoundTrip`, `OneToFiveBytes` and `DecimalsReadBack` (of scripts) of the largest number; `PrefixFree` and `OneToOne`, whose numbers can
+-- only be equal; `FewestGroups` and `ReadsWithin` of two bytes that are read as 0, whose encoding has one.
+pub record Number-instance : Type 0 where
+  pub largest : 4294967295 < 2 ^ 32
+  pub same : encode 4294967295 ++ [] ≡ encode 4294967295
+  pub bytes : Bytes (0x80 ∷ 0x00 ∷ [])
+  pub read : readAt (0x80 ∷ 0x00 ∷ []) 0 ≡ number.Value 0 2
+  pub fewer : 0 + length (encode 0) < 2
+
+-- An image of two cells, the numbers behind its K, and words to load it into.
+abbrev pub image : List ℕ
+image = 2 ∷ 1 ∷ (replicate 15 0 ++ (2 ∷ 2 ∷ 0xAC ∷ 0x02 ∷ 1 ∷ 0 ∷ 8 ∷ []))
+
+abbrev pub numbers : List ℕ
+numbers = 1 ∷ (replicate 15 0 ++ (2 ∷ 2 ∷ 300 ∷ 1 ∷ 0 ∷ 8 ∷ []))
+
+abbrev pub words : List ℕ
+words = replicate 26 5
+
+-- The theorems of load and save.
+pub record Image-instance : Type 0 where
+  -- `CheckIsLoad`, `LoadIsWellFormed`: the image is accepted
+  pub size : length words ≡ poolLength registerCount 2
+  pub accepted : loadOf words image .0 .verdict ≡ 0
+  pub loaded : loadOf words image .1 ≡ (2 ∷ 0 ∷ 1 ∷ []) ++ replicate 15 0 ++ (0 ∷ 2 ∷ 2 ∷ 300 ∷ []) ++ (0 ∷ 1 ∷ 0 ∷ 8 ∷ [])
+  -- `SaveThenLoad`: both pools are saved as that image
+  pub words32 : Words three
+  pub some : 0 < cellsOf registerCount three
+  pub well-formed : wellFormed registerCount (cellsOf registerCount three) three ≡ true
+  pub target : 0 < cellsOfLength registerCount (length words)
+  pub fit : keptCells registerCount (cellsOf registerCount three) three ≤ cellsOfLength registerCount (length words)
+  pub saved : (imageOf registerCount 3 three ≡ image) × (imageOf registerCount 2 two ≡ image)
+  -- `LoadThenSave`: its cells are numbered in the order of the visits
+  pub read : readImage registerCount 2 image ≡ Image.image 2 1 numbers 24
+  pub ordered : reachedCells registerCount 2 (loadedWords registerCount 2 2 numbers) ≡ tabulate 2 suc
+
+-- Two calls, five words each, and room for one word more than their answers.
+abbrev pub calls : List Call
+calls = call.New 0 0 0 7 ∷ call.Collect ∷ []
+
+abbrev pub list : List ℕ
+list = 2 ∷ 0 ∷ 0 ∷ 0 ∷ 7 ∷ 10 ∷ 5 ∷ 5 ∷ 5 ∷ 5 ∷ []
+
+abbrev pub out : List ℕ
+out = replicate 7 5
+
+-- `Runs-one-after-the-other`, `RunEquivalence` and `NeverMalformed`.
+pub record Batch-instance : Type 0 where
+  pub program : programOf list ≡ programOfCalls calls
+  pub room : 3 * length calls ≤ length out
+  pub run : runOf list (freshWords registerCount 3) out
+      ≡ (ran.All 2, afterAll calls (freshWords registerCount 3), 0 ∷ 0 ∷ 0 ∷ 0 ∷ 1 ∷ 3 ∷ 5 ∷ [])
+  pub answer : List·Memᴰ (answered (1 ∷ 3 ∷ [])) (poolAnswers calls (freshWords registerCount 3))
+
+-- Three digits; two lines, the second without its line feed; the progress where both are read; and words for the largest pool.
+abbrev pub padded : List ℕ
+padded = code "0" ∷ code "0" ∷ code "7" ∷ []
+
+abbrev pub lines : List ℕ
+lines = code "g" ∷ code "\n" ∷ code "g" ∷ []
+
+abbrev pub progress : Progress
+progress = record { used = 0; reader = withoutNumbers false true (code "g"); at = 3; put = 0 }
+
+abbrev pub largest : List ℕ
+largest = replicate (poolLength registerCount cellLimit) 0
+
+-- The theorems of scripts and of the interpreter.
+pub record Script-instance : Type 0 where
+  -- `FewestDigits`: 007 is longer than 7
+  pub some : 0 < length padded
+  pub digits : all isDigit padded ≡ true
+  pub fewer : length (decimal (decimalValue padded)) < length padded
+  -- `PartsRead`: a line ends, or goes on behind the part
+  pub ended : nextLine newReader (drop 0 lines) 0 ≡ found.Line (line.Run call.Collect) 2
+  pub more : nextLine newReader (drop 2 lines) 2 ≡ found.More (progress .reader)
+  -- `StartsWhole`: words for the largest pool; `PartsJoin`: a part is read to its end; `Ends`: a line has begun, or not
+  pub words : length largest ≡ poolLength registerCount cellLimit
+  pub read : length lines ≤ progress .at
+  pub begun : begunOf (progress .reader) ≡ true
+  pub over : begunOf (start .reader) ≡ false
