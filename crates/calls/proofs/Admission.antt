@@ -1,7 +1,7 @@
 -- What the answer to the first two questions says of the words and of the registers.
 use Prim.Native.Nat.{ℕ, _<_}
 use native.Mathlib.Omega.{arith}
-use mathlib.Core.Path.{_≡_, refl, sym, _∙_}
+use mathlib.Core.Path.{_≡_, refl, sym, ap, _∙_}
 use mathlib.Core.List.{List}
 use mathlib.Core.Bool.{Bool, true, false, cond, _&&_}
 use lib.ListN.{length}
@@ -15,7 +15,7 @@ use Rattle.pool.specs.declared.Refusal.the-variants as refusal
 use Rattle.pool.specs.declared.Admitted.{Admitted}
 use Rattle.pool.specs.declared.Admitted.the-variants as admitted
 use Rattle.pool.proofs.Questions.{both, Sized, cells-sized}
-use Rattle.calls.specs.Calls.{asked}
+use Rattle.calls.specs.Calls.{admittedTo, asked}
 
 -- the words are a pool of n cells, and r, a and b are registers
 pub record Admits (w : List ℕ) (r a b n : ℕ) : Type 0 where
@@ -53,14 +53,7 @@ module _ (w : List ℕ) (r a b : ℕ) {q : Admitted} (read : q ≡ admitOf w r a
 
   module _ (body : ℕ → Outcome × List ℕ) where
     pub asked-cells : {n : ℕ} {p : Outcome × List ℕ} → q ≡ admitted.Cells n → p ≡ body n → p ≡ asked w r a b body
-    asked-cells told done = let h = answers told in simp (h .0, h .1) (simp (h .2) done)
+    asked-cells told done = done ∙ ap (admittedTo body w) (sym told ∙ read)
 
     pub asked-refused : {k : Refusal} → q ≡ admitted.Refused k → (refused (refusalNumber k), w) ≡ asked w r a b body
-    asked-refused {k} told = go (ltb 0 (cellsOf registerCount w)) (registersThere r a b) (sym read ∙ told)
-      where
-        go : (s t : Bool)
-            → cond s (cond t (admitted.Cells (cellsOf registerCount w)) (admitted.Refused refusal.Register)) (admitted.Refused refusal.Size) ≡ admitted.Refused k
-            → (refused (refusalNumber k), w) ≡ cond s (cond t (body (cellsOf registerCount w)) (refused 2, w)) (refused 1, w)
-        go true true same = let z : _≡_ {A = ℕ} 0 1 = cc in absurd (omega arith)
-        go true false same = let e : k ≡ refusal.Register = cc in simp e
-        go false t same = let e : k ≡ refusal.Size = cc in simp e
+    asked-refused told = ap (admittedTo body w) (sym told ∙ read)

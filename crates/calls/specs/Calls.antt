@@ -2,24 +2,27 @@
 use Prim.Native.Nat.{ℕ}
 use mathlib.Core.List.{List, [], _∷_}
 use mathlib.Core.Bool.{cond, _&&_}
-use lib.Dec.{eqb, ltb}
-use Rattle.pool.specs.Layout.{registerCount, cellsOf, register, setRegister, cell, setCell, value}
+use lib.Dec.{eqb}
+use Rattle.pool.specs.Layout.{registerCount, register, setRegister, cell, setCell, value}
 use Rattle.pool.specs.Validity.{validLink}
-use Rattle.pool.specs.Calls.{holdsLink}
-use Rattle.pool.specs.Outcome.{Outcome, answered, refused}
+use Rattle.pool.specs.Calls.{admitOf, holdsLink}
+use Rattle.pool.specs.Outcome.{Outcome, answered, refused, refusalNumber}
+use Rattle.pool.specs.declared.Admitted.{Admitted}
+use Rattle.pool.specs.declared.Admitted.the-variants as admitted
 use Rattle.collector.specs.Collect.{collectOf}
 use Rattle.allocator.specs.Allocation.{newIn}
 use Rattle.calls.specs.declared.Call.{Call}
 use Rattle.calls.specs.declared.Call.the-variants as call
 
--- The first two questions: the length and word 0 (1), then "Is every register number below 16? No: 2."; then the call on a pool of n
--- cells. A call that names fewer than three registers repeats one.
+-- A call on a pool of n cells, or the refusal, by the answer to the first two questions.
+abbrev pub admittedTo : (ℕ → Outcome × List ℕ) → List ℕ → Admitted → Outcome × List ℕ
+admittedTo body w (admitted.Cells n) = body n
+admittedTo body w (admitted.Refused k) = (refused (refusalNumber k), w)
+
+-- The first two questions (`admitOf`): the length and word 0 (1), then the register numbers (2); then the call. A call that names fewer than three
+-- registers repeats one.
 abbrev pub asked : List ℕ → ℕ → ℕ → ℕ → (ℕ → Outcome × List ℕ) → Outcome × List ℕ
-asked w r a b body =
-    let n = cellsOf registerCount w in
-    cond (ltb 0 n)
-    (cond (ltb r registerCount && ltb a registerCount && ltb b registerCount) (body n) (refused 2, w))
-    (refused 1, w)
+asked w r a b body = admittedTo body w (admitOf w r a b)
 
 -- "copy r a"
 abbrev pub copyIn : ℕ → List ℕ → ℕ → ℕ → Outcome × List ℕ

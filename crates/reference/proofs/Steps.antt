@@ -37,7 +37,11 @@ valid-read r a b e =
 module _ {N : ℕ} {w : List ℕ} (inv : Invariant N w) where
   -- The first question is answered with yes, and so is whether a register that is read holds a valid link.
   pub asked-cells : (r a b : ℕ) (body : ℕ → Outcome × List ℕ) → asked w r a b body ≡ cond (valid r a b) (body N) (refused 2, w)
-  asked-cells r a b body = rw (inv-cells inv, lt-ltb 0 N (inv .sized .least))
+  asked-cells r a b body = go (valid r a b) refl
+    where
+      go : (t : Bool) → valid r a b ≡ t → asked w r a b body ≡ cond t (body N) (refused 2, w)
+      go true e = simp (inv-cells inv, lt-ltb 0 N (inv .sized .least), e)
+      go false e = simp (inv-cells inv, lt-ltb 0 N (inv .sized .least), e)
 
   pub holds-link : (a : ℕ) → a < registerCount → holdsLink N w a ≡ true
   holds-link a low = link-made registerCount N w (register w a) (inv .well .registers a low)

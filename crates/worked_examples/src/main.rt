@@ -118,6 +118,34 @@ fn equal_links() {
     );
 }
 
+// "Treating 003's listings as exact: Algorithm 5 reads cdr from car, and tests "both marked" twice." Register 0 leads to a cell with two leaves, of which
+// the right one must not be lost; register 1 to a cell whose right link alone leads on.
+fn both_links_are_read() {
+    let mut words = [0u32; 38];
+    let mut stack = [0u32; 1];
+    Pool::fresh(&mut words);
+    calls::new(&mut words, 1, 15, 15, 1);
+    calls::new(&mut words, 2, 15, 15, 2);
+    calls::new(&mut words, 0, 1, 2, 3);
+    calls::new(&mut words, 2, 15, 15, 4);
+    calls::new(&mut words, 1, 15, 2, 5);
+    calls::clear(&mut words, 2);
+    show(
+        b"a cell with two leaves, and one with a right leaf, 1 stack word: ",
+        of_stack(stack_marker::collect_stack(&mut words, &mut stack)),
+    );
+    calls::right(&mut words, 2, 0);
+    show(
+        b"the value of the right one of the two leaves: ",
+        of_answer(calls::value(&words, 2)),
+    );
+    calls::right(&mut words, 2, 1);
+    show(
+        b"that of the other right leaf: ",
+        of_answer(calls::value(&words, 2)),
+    );
+}
+
 // "Leaving links rotated when a stack overflow falls back": both links of the first cell still lead to the second, whose value is 4.
 fn links_after_falling_back() {
     let mut words = [0u32; 38];
@@ -163,6 +191,7 @@ fn main() {
     fresh_of_16018();
     fresh_of_16022();
     equal_links();
+    both_links_are_read();
     links_after_falling_back();
     old_content_is_a_root();
 }
