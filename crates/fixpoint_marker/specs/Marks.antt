@@ -1,4 +1,5 @@
--- What a marker does that makes passes over all cells to a fixed point. Its marks are a list of words: the word at place i marks cell i where it is above 0.
+-- What a marker does that makes passes over all cells to a fixed point. Its marks are a list of words: the word at place i marks cell i where it is
+-- above 0.
 use Prim.Native.Nat.{ℕ, _+_, _<_, _≤_}
 use mathlib.Core.Path.{_≡_}
 use mathlib.Core.Logic.{_⊎_, _↔_}
