@@ -124,7 +124,7 @@ fn done(answer: Answer) -> Reply
 }
 
 // The numbers of an answer, whatever they mean.
-fn numbers(answer: Answer) -> Reply
+pub fn numbers(answer: Answer) -> Reply
     ensures { λ r. ⌜ replyText r ≡ outcomeText (answerOutcome answer) ⌝ }
 {
     match answer {
@@ -148,7 +148,8 @@ pub struct Progress {
     pub put: usize,
 }
 
-// Runs the lines of a part of a script, from a place on, up to the part's end or until too little room is left for a reply.
+// Runs the lines of a part of a script, from a place on, up to the part's end or until too little room is left for a reply. What is promised is what the
+// script prints from there on; nothing is said of the words behind the pool's, of the bytes behind the replies, or of the reader within a line.
 pub fn work(words: &mut [u32], bytes: &[u8], out: &mut [u8], progress: Progress) -> Progress
     ensures { λ r. ⌜ Worked (now (bytes .entry)) (now (words .entry)) (now (out .entry)) progress (now (words .exit)) (now (out .exit)) r ⌝ }
 {

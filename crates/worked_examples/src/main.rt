@@ -1,6 +1,5 @@
 // Tries the examples of the customer's scope that are not in the table of theorems, and what its last section warns of, and prints each with its
 // result. (The table is specs/Table.antt.)
-use answers::Answer;
 use collector::Collection;
 use libc::STDOUT_FILENO;
 use pool::Fresh;
@@ -29,16 +28,6 @@ fn of_fresh(fresh: Fresh) -> Reply {
     match fresh {
         Fresh::Made(n) => Reply::Number(n),
         Fresh::Refused(refusal) => Reply::Refused(refusal),
-    }
-}
-
-fn of_answer(answer: Answer) -> Reply {
-    match answer {
-        Answer::Done => Reply::Done,
-        Answer::Allocated { visits } => Reply::Number(visits),
-        Answer::Number(x) => Reply::Number(x),
-        Answer::Collected { kept, visits } => Reply::Collected { kept, visits },
-        Answer::Refused(refusal) => Reply::Refused(refusal),
     }
 }
 
@@ -137,12 +126,12 @@ fn both_links_are_read() {
     calls::right(&mut words, 2, 0);
     show(
         b"the value of the right one of the two leaves: ",
-        of_answer(calls::value(&words, 2)),
+        interpreter::numbers(calls::value(&words, 2)),
     );
     calls::right(&mut words, 2, 1);
     show(
         b"that of the other right leaf: ",
-        of_answer(calls::value(&words, 2)),
+        interpreter::numbers(calls::value(&words, 2)),
     );
 }
 
@@ -159,9 +148,12 @@ fn links_after_falling_back() {
     calls::right(&mut words, 2, 0);
     show(
         b"left and right are the same: ",
-        of_answer(calls::same(&words, 1, 2)),
+        interpreter::numbers(calls::same(&words, 1, 2)),
     );
-    show(b"the value there: ", of_answer(calls::value(&words, 1)));
+    show(
+        b"the value there: ",
+        interpreter::numbers(calls::value(&words, 1)),
+    );
 }
 
 // "Clearing r before "new" collects: r may be a or b, and its old cell is live to the ledger."
@@ -172,16 +164,16 @@ fn old_content_is_a_root() {
     calls::new(&mut words, 0, 0, 0, 2);
     show(
         b"new where r's old content holds every cell: ",
-        of_answer(calls::new(&mut words, 0, 1, 1, 3)),
+        interpreter::numbers(calls::new(&mut words, 0, 1, 1, 3)),
     );
     show(
         b"the value of r's cell: ",
-        of_answer(calls::value(&words, 0)),
+        interpreter::numbers(calls::value(&words, 0)),
     );
     calls::clear(&mut words, 0);
     show(
         b"new with nothing reached: ",
-        of_answer(calls::new(&mut words, 0, 1, 1, 3)),
+        interpreter::numbers(calls::new(&mut words, 0, 1, 1, 3)),
     );
 }
 
