@@ -11,7 +11,7 @@ use Rattle.pool.specs.Layout.{registerCount, poolLength, head, setHead, setRegi
 use Rattle.pool.specs.Validity.{isFree, wellFormed}
 use Rattle.pool.specs.Retain.{lowestFree}
 use Rattle.pool.specs.Calls.{holdsLink}
-use Rattle.pool.specs.Outcome.{Outcome, answered, refused}
+use Rattle.pool.specs.Outcome.{Outcome, answered, allocated, refused}
 use Rattle.pool.specs.declared.Refusal.{Refusal}
 use Rattle.pool.proofs.Questions.{both}
 use Rattle.pool.proofs.WellFormed.{well-formed-read}
@@ -86,7 +86,7 @@ module _ (n : ℕ) (w : List ℕ) {w' : List ℕ} {visits : ℕ} (s : Swept n w 
       simp (s .well, h, s .words) (simp (collected-full registerCount n w well room (head-nil-full registerCount n w well room some h) nil))
 
   pub take-done : (r x y v : ℕ) {i : ℕ} {w'' : List ℕ} → i ≡ head w' → (i ≡ 0 → ⊥) → w'' ≡ take w' r x y v
-      → (answered (visits ∷ []), w'') ≡ takeCollected n w r x y v
+      → (allocated visits, w'') ≡ takeCollected n w r x y v
   take-done r x y v read free e =
       simp (s .well, ne-eqb (head (collected registerCount n w)) 0 λ z. free (read ∙ ap head (s .words) ∙ z), e, s .words, s .visits)
 
@@ -105,7 +105,7 @@ module _ (n : ℕ) (w : List ℕ) {a x : ℕ} (h : Holds n w a x) (r v : ℕ) wh
     pub new-collected : i ≡ 0 → {p : Outcome × List ℕ} → p ≡ takeCollected n w r x y v → p ≡ newIn n w r a b v
     new-collected nil e = simp (h .link, h .valid, k .link, k .valid, ← read, eq-eqb i 0 nil) e
 
-    pub new-taken : (i ≡ 0 → ⊥) → goodHead n w ≡ true → {w' : List ℕ} → w' ≡ take w r x y v → (answered (0 ∷ []), w') ≡ newIn n w r a b v
+    pub new-taken : (i ≡ 0 → ⊥) → goodHead n w ≡ true → {w' : List ℕ} → w' ≡ take w r x y v → (allocated 0, w') ≡ newIn n w r a b v
     new-taken some good e = simp (h .link, h .valid, k .link, k .valid) (simp (good, e, ne-eqb (head w) 0 λ z. some (read ∙ z)))
 
     pub new-refused : (i ≡ 0 → ⊥) → goodHead n w ≡ false → (refused 3, w) ≡ newIn n w r a b v

@@ -1,13 +1,13 @@
 -- What "new" answers and leaves behind the first two questions (01, "The eleven calls" and "Questions, in order"): on the words of a pool of n cells, for
 -- registers that there are.
 use Prim.Native.Nat.{ℕ, _*_}
-use mathlib.Core.List.{List, [], _∷_}
+use mathlib.Core.List.{List}
 use mathlib.Core.Bool.{Bool, cond, _&&_}
 use lib.Dec.{eqb, leb}
 use Rattle.pool.specs.Layout.{registerCount, head, setHead, register, setRegister, setCell, state, left}
 use Rattle.pool.specs.Validity.{isFree, wellFormed}
 use Rattle.pool.specs.Calls.{holdsLink}
-use Rattle.pool.specs.Outcome.{Outcome, answered, refused}
+use Rattle.pool.specs.Outcome.{Outcome, allocated, refused}
 use Rattle.collector.specs.Collect.{keptCells, collected}
 
 -- "a used cell with left from a, right from b, value v; r gets it. It takes the head cell, and the head becomes that cell's left."
@@ -29,7 +29,7 @@ takeCollected n w r x y v =
     cond (wellFormed registerCount n w)
     (cond (eqb (head (collected registerCount n w)) 0)
     (refused 5, w)
-    (answered (3 * keptCells registerCount n w ∷ []), take (collected registerCount n w) r x y v))
+    (allocated (3 * keptCells registerCount n w), take (collected registerCount n w) r x y v))
     (refused 3, w)
 
 -- "new r a b v", which "also reports visits: 0, or 3 × kept where it collected".
@@ -38,5 +38,5 @@ newIn n w r a b v =
     let x = register w a in
     let y = register w b in
     cond (holdsLink n w a && holdsLink n w b)
-    (cond (eqb (head w) 0) (takeCollected n w r x y v) (cond (goodHead n w) (answered (0 ∷ []), take w r x y v) (refused 3, w)))
+    (cond (eqb (head w) 0) (takeCollected n w r x y v) (cond (goodHead n w) (allocated 0, take w r x y v) (refused 3, w)))
     (refused 3, w)

@@ -1,7 +1,7 @@
 -- What each of the eleven calls answers and leaves, on every list of words (01, "The eleven calls" and "Questions, in order").
 use Prim.Native.Nat.{ℕ}
 use mathlib.Core.List.{List, [], _∷_}
-use mathlib.Core.Bool.{cond, _&&_}
+use mathlib.Core.Bool.{Bool, true, false, cond, _&&_}
 use lib.Dec.{eqb}
 use Rattle.pool.specs.Layout.{registerCount, register, setRegister, cell, setCell, value}
 use Rattle.pool.specs.Validity.{validLink}
@@ -79,3 +79,17 @@ callOf (call.SetValue a v) w = asked w a a a λ n. setValueIn n w a v
 callOf (call.Value a) w = asked w a a a λ n. valueIn n w a
 callOf (call.Same a b) w = asked w a b b λ n. sameIn n w a b
 callOf call.Collect w = collectOf w
+
+-- Does the call allocate a cell? "new" does, no other.
+abbrev pub allocates : Call → Bool
+allocates (call.Copy r a) = false
+allocates (call.Clear r) = false
+allocates (call.New r a b v) = true
+allocates (call.Left r a) = false
+allocates (call.Right r a) = false
+allocates (call.SetLeft a b) = false
+allocates (call.SetRight a b) = false
+allocates (call.SetValue a v) = false
+allocates (call.Value a) = false
+allocates (call.Same a b) = false
+allocates call.Collect = false

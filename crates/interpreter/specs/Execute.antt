@@ -7,8 +7,7 @@ use lib.ListN.{length, take, drop}
 use lib.Dec.{leb, ltb}
 use Rattle.pool.specs.Layout.{cellLimit, registerCount, poolLength}
 use Rattle.pool.specs.Retain.{freshWords}
-use Rattle.pool.specs.Outcome.{Outcome, answered, refused}
-use Rattle.calls.specs.Compared.{compared}
+use Rattle.pool.specs.Outcome.{Outcome, answered, allocated, refused}
 use Rattle.calls.specs.Calls.{callOf}
 use Rattle.script.specs.declared.Line.{Line}
 use Rattle.script.specs.declared.Line.the-variants as line
@@ -17,9 +16,10 @@ use Rattle.script.specs.Lines.{parseLine}
 use Rattle.script.specs.Scripts.{linesOf}
 use Rattle.script.specs.Replies.{spaced, replyText}
 
--- "It prints "ok" and the answer's numbers .., or "no" and the refusal."
+-- "It prints "ok" and the answer's numbers (visits only for g), or "no" and the refusal": those of an allocation are not printed.
 abbrev pub outcomeText : Outcome → List ℕ
 outcomeText (answered numbers) = code "o" ∷ code "k" ∷ spaced numbers
+outcomeText (allocated visits) = code "o" ∷ code "k" ∷ spaced []
 outcomeText (refused k) = code "n" ∷ code "o" ∷ spaced (k ∷ [])
 
 -- Is there a pool of n cells, and room for its words?
@@ -31,13 +31,13 @@ abbrev pub sizeOf : ℕ → ℕ → ℕ
 sizeOf room n = cond (fits room n) (poolLength registerCount n) 0
 
 -- What a line prints, and the pool's words afterwards, where `room` words are lent for it; no words are no pool. "A line of another form prints
--- "bad"." "f N is fresh"; "a refused f keeps the pool". A call prints the numbers of its answer, "visits only for g": those of an accepted new
--- are left out. "Before an accepted f, all calls give "no 1"": no pool has no words (question 1).
+-- "bad"." "f N is fresh"; "a refused f keeps the pool". A call prints what its answer says. "Before an accepted f, all calls give "no 1"": no pool has
+-- no words (question 1).
 abbrev pub turnOf : ℕ → Line → List ℕ → List ℕ × List ℕ
 turnOf room line.Bad pool = (replyText reply.Bad, pool)
 turnOf room (line.Fresh n) pool =
     cond (fits room n) (outcomeText (answered []), freshWords registerCount n) (outcomeText (refused 1), pool)
-turnOf room (line.Run call) pool = (outcomeText (compared call (callOf call pool .0)), callOf call pool .1)
+turnOf room (line.Run call) pool = (outcomeText (callOf call pool .0), callOf call pool .1)
 
 -- How many words are the pool's: `used`, or none where there are fewer.
 abbrev pub usedOf : ℕ → ℕ → ℕ

@@ -1,7 +1,6 @@
 // Scripts on a pool: what a line does to the pool, and what is printed for it.
 use answers::Answer;
 use calls::Call;
-use calls::Step;
 use pool::Pool;
 use pool::Refusal;
 use script::Found;
@@ -15,7 +14,6 @@ ghost use mathlib.Core.Bool.{_&&_};
 ghost use lib.Dec.{leb, ltb};
 ghost use lib.ListN.{length};
 ghost use Rattle.answers.specs.Answers.{answerOutcome};
-ghost use Rattle.calls.specs.Compared.{silent, compared};
 ghost use Rattle.script.specs.Replies.{replyText, replyRoom};
 ghost use Rattle.interpreter.specs.Execute.{outcomeText, usedOf, sizeOf, executeOf};
 ghost use Rattle.interpreter.specs.Work.{HasRoom, LineRun, Advanced, Worked};
@@ -87,49 +85,20 @@ fn run(words: &mut [u32], used: usize, call: Call) -> Turn
     ensures { λ r. ⌜ (replyText (r .reply), r .used, now (words .exit)) ≡ executeOf (Line.Run call) used (now (words .entry)) ⌝ }
 {
     let step = calls::perform(&mut words[..used], call);
+    let answer = step.answer;
     Turn {
         used,
-        reply: reply_to(step),
+        reply: reply_to(answer),
     }
 }
 
-// The reply to a call: the numbers of its answer, but for a `new`, whose visits are left out.
-fn reply_to(step: Step) -> Reply
-    ensures { λ r. ⌜ replyText r ≡ outcomeText (compared (step .call) (answerOutcome (step .answer))) ⌝ }
-{
-    let call = step.call;
-    let answer = step.answer;
-    match call {
-        Call::New {
-            r: _,
-            a: _,
-            b: _,
-            v: _,
-        } => done(answer),
-        _ => numbers(answer),
-    }
-}
-
-// Accepted or refused, without the numbers of the answer.
-fn done(answer: Answer) -> Reply
-    ensures { λ r. ⌜ replyText r ≡ outcomeText (silent (answerOutcome answer)) ⌝ }
-{
-    match answer {
-        Answer::Done => Reply::Done,
-        Answer::Allocated { visits: _ } => Reply::Done,
-        Answer::Number(_) => Reply::Done,
-        Answer::Collected { kept: _, visits: _ } => Reply::Done,
-        Answer::Refused(refusal) => Reply::Refused(refusal),
-    }
-}
-
-// The numbers of an answer, whatever they mean.
-pub fn numbers(answer: Answer) -> Reply
+// The reply to a call: the numbers of its answer, but for the visits of an allocation.
+pub fn reply_to(answer: Answer) -> Reply
     ensures { λ r. ⌜ replyText r ≡ outcomeText (answerOutcome answer) ⌝ }
 {
     match answer {
         Answer::Done => Reply::Done,
-        Answer::Allocated { visits } => Reply::Number(visits),
+        Answer::Allocated { visits: _ } => Reply::Done,
         Answer::Number(x) => Reply::Number(x),
         Answer::Collected { kept, visits } => Reply::Collected { kept, visits },
         Answer::Refused(refusal) => Reply::Refused(refusal),

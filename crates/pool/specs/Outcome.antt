@@ -1,5 +1,6 @@
 -- What a call of the pool says, in the numbers of document 01.
 use Prim.Native.Nat.{ℕ}
+use mathlib.Core.Path.{_≡_}
 use mathlib.Core.List.{List, [], _∷_}
 use lib.ListN.{getD}
 use Rattle.pool.specs.declared.Refusal.{Refusal}
@@ -9,19 +10,23 @@ use Rattle.pool.specs.declared.Fresh.the-variants as fresh
 use Rattle.pool.specs.declared.Occupied.{Occupied}
 use Rattle.pool.specs.declared.Occupied.the-variants as occupied
 
--- The numbers that an accepted call gives, or the number of the refusal.
+-- What a call says: the numbers that it gives; or that a cell was allocated, with the visits of the collection that it took ("new" also reports
+-- visits, which stand outside the comparison with the ledger); or the number of the refusal.
 pub data Outcome : Type 0 where
   answered : List ℕ → Outcome
+  allocated : ℕ → Outcome
   refused : ℕ → Outcome
 
 -- 0 for an accepted call, or the number of the refusal.
 abbrev pub status : Outcome → ℕ
 status (answered xs) = 0
+status (allocated visits) = 0
 status (refused k) = k
 
 -- Number i of those given, or another where there is none.
 abbrev pub given : Outcome → ℕ → ℕ → ℕ
 given (answered xs) i other = getD xs i other
+given (allocated visits) i other = getD (visits ∷ []) i other
 given (refused k) i other = other
 
 -- The number of each refusal (01, "Questions, in order").
@@ -47,3 +52,17 @@ freshOutcome (fresh.Refused k) = refused (refusalNumber k)
 abbrev pub occupiedOutcome : Occupied → Outcome
 occupiedOutcome (occupied.Percent p) = answered (p ∷ [])
 occupiedOutcome (occupied.Refused k) = refused (refusalNumber k)
+
+-- What is said determines the answer, its case too: of two answers that say the same, each is the other. So a contract that fixes what is said leaves
+-- nothing of the answer free (01, rule a).
+abbrev pub Determined : (A : Type 0) → (A → Outcome) → Type 0
+Determined A says = (p q : A) → says p ≡ says q → p ≡ q
+
+abbrev pub RefusalDetermined : Type 0
+RefusalDetermined = (j k : Refusal) → refusalNumber j ≡ refusalNumber k → j ≡ k
+
+abbrev pub FreshDetermined : Type 0
+FreshDetermined = Determined Fresh freshOutcome
+
+abbrev pub OccupiedDetermined : Type 0
+OccupiedDetermined = Determined Occupied occupiedOutcome

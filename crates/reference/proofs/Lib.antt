@@ -12,6 +12,7 @@ pub mod Collecting
 pub mod New
 pub mod Start
 pub mod Runs
+pub mod Given
 pub mod Theorems
 pub mod Examples
 pub mod RunEquivalence

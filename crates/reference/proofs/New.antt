@@ -11,15 +11,15 @@ use Rattle.graph.proofs.Lists.{each-cons}
 use Rattle.graph.proofs.Marks.{zero-or-above}
 use Rattle.graph.proofs.Theorems.{order-reached, order-distinct}
 use Rattle.pool.specs.Layout.{registerCount, head, register, state, left, graphOf, rootsOf}
-use Rattle.pool.specs.Outcome.{answered, refused}
+use Rattle.pool.specs.Outcome.{answered, allocated, refused}
 use Rattle.pool.proofs.PoolGraph.{reached-used, pool-within}
 use Rattle.pool.proofs.Retained.{retain-register}
 use Rattle.pool.proofs.WellFormed.{well-formed-made}
 use Rattle.collector.specs.Collect.{isReached, reachedCells, keptCells, collected}
 use Rattle.collector.proofs.Collected.{head-nil-full}
-use Rattle.calls.specs.Compared.{silent}
 use Rattle.allocator.specs.Allocation.{newIn, goodHead, take}
 use Rattle.reference.specs.Model.{Model, live, append}
+use Rattle.reference.specs.Equivalence.{compared}
 use Rattle.reference.proofs.Pigeonhole.{distinct-length}
 use Rattle.reference.proofs.FreeList.{chain-within}
 use Rattle.reference.proofs.Invariant.{Invariant, inv-first, inv-room}
@@ -45,8 +45,8 @@ module _ {N : ℕ} {w : List ℕ} (inv : Invariant N w) where
 module _ {N : ℕ} {w : List ℕ} {m : Model} (inv : Invariant N w) (rep : Represents w m) (r a b v : ℕ) (hr : r < registerCount)
     (ha : a < registerCount) (hb : b < registerCount) where
   -- The head cell is taken.
-  take-step : 0 < head w → (visits : List ℕ)
-      → Step N (silent (answered visits), take w r (register w a) (register w b) v) (answered [], append m r a b v)
+  take-step : 0 < head w → (visits : ℕ)
+      → Step N (compared (allocated visits), take w r (register w a) (register w b) v) (answered [], append m r a b v)
   take-step some visits =
       record {
         answer = refl;
@@ -57,7 +57,7 @@ module _ {N : ℕ} {w : List ℕ} {m : Model} (inv : Invariant N w) (rep : Repre
 -- What `new` with valid registers does: it is accepted, or refused with 5.
 pub data NewCase (N : ℕ) (w : List ℕ) (m : Model) (r a b v : ℕ) : Type 0 where
   accepted : live m < N
-      → Step N (silent ((newIn N w r a b v) .0), (newIn N w r a b v) .1) (answered [], append m r a b v) → NewCase N w m r a b v
+      → Step N (compared ((newIn N w r a b v) .0), (newIn N w r a b v) .1) (answered [], append m r a b v) → NewCase N w m r a b v
   full : N ≤ live m → newIn N w r a b v ≡ (refused 5, w) → NewCase N w m r a b v
 
 module _ {N : ℕ} {w : List ℕ} {m : Model} (inv : Invariant N w) (rep : Represents w m) (r a b v : ℕ) (hr : r < registerCount)
@@ -75,7 +75,7 @@ module _ {N : ℕ} {w : List ℕ} {m : Model} (inv : Invariant N w) (rep : Repre
             le-leb (left registerCount w (head w)) N (chain-within (first .chain)),
           ) in
           accepted (omega (arith, free-fewer inv (head w) low (first .high) (first .free), kept-live rep inv))
-          (rw (holds-link inv a ha, holds-link inv b hb, ne-eqb (head w) 0 (λ e. omega arith), good) (take-step inv rep r a b v hr ha hb low (0 ∷ [])))
+          (rw (holds-link inv a ha, holds-link inv b hb, ne-eqb (head w) 0 (λ e. omega arith), good) (take-step inv rep r a b v hr ha hb low 0))
 
       nil : head w ≡ 0 → NewCase N w m r a b v
       nil none = ⊎-elim out again (zero-or-above (head (collected registerCount N w)))
@@ -105,4 +105,4 @@ module _ {N : ℕ} {w : List ℕ} {m : Model} (inv : Invariant N w) (rep : Repre
                 well-formed-made registerCount N w (inv .well),
                 ne-eqb (head (collected registerCount N w)) 0 (λ e. omega arith),
               )
-              (rw (held a ha, held b hb) at (take-step inv' rep' r a b v hr ha hb low (3 * keptCells registerCount N w ∷ []))))
+              (rw (held a ha, held b hb) at (take-step inv' rep' r a b v hr ha hb low (3 * keptCells registerCount N w))))

@@ -1,28 +1,25 @@
 -- The equivalence of code that runs follows from that of the calls, and from what a run writes.
-use Prim.Native.Nat.{ℕ}
-use mathlib.Core.Path.{_≡_, refl, ap}
-use mathlib.Core.List.{List, [], _∷_}
+use Prim.Native.Nat.{ℕ, _*_}
+use mathlib.Core.Path.{refl, ap}
+use lib.ListN.{length, drop}
+use lib.Seq.{drop-at}
 use Rattle.pool.specs.Layout.{registerCount}
 use Rattle.pool.specs.Retain.{freshWords}
-use Rattle.pool.specs.Outcome.{Outcome}
-use Rattle.calls.specs.declared.Call.{Call}
-use Rattle.calls.specs.Compared.{compared}
-use Rattle.calls.specs.Calls.{callOf}
-use Rattle.batch.specs.Run.{answersOf}
+use Rattle.batch.specs.Run.{answersOf, answerWords}
 use Rattle.batch.proofs.Whole.{runs-one-after-the-other}
-use Rattle.reference.specs.Equivalence.{poolAnswers}
-use Rattle.reference.specs.RunEquivalence.{comparedAll, RunEquivalence}
+use Rattle.reference.specs.Model.{empty}
+use Rattle.reference.specs.RunEquivalence.{RunEquivalence}
+use Rattle.reference.proofs.Given.{words-length, compared-words, answers-by-words}
 use Rattle.reference.proofs.Theorems.{equivalence}
-
--- the answers of a run, compared, are the pool's
-compared-answers : (cs : List Call) (w : List ℕ) → comparedAll cs (answersOf cs w) ≡ poolAnswers cs w
-unfolding comparedAll answersOf poolAnswers
-compared-answers [] w = refl
-compared-answers (c ∷ cs) w = ap (λ (os : List Outcome). compared c (callOf c w .0) ∷ os) (compared-answers cs (callOf c w .1))
 
 pub run-equivalence : RunEquivalence
 run-equivalence N L list out cs least most program room =
-    record {
-      ran = runs-one-after-the-other list cs (freshWords registerCount N) out program room;
-      alike = rw (compared-answers cs (freshWords registerCount N)) (equivalence N L cs least most);
-    }
+    let w = freshWords registerCount N in
+    let same = equivalence N L cs least most in
+    rw (runs-one-after-the-other list cs w out program room)
+    (record {
+      all = refl;
+      pool = refl;
+      behind = drop-at (answerWords (answersOf cs w)) (drop (3 * length cs) out) (3 * length cs) (words-length cs w);
+      alike = rw (compared-words cs w) (λ e. same .0 (answers-by-words L cs w empty e), λ e. ap answerWords (same .1 e));
+    })

@@ -2,7 +2,7 @@
 use Prim.Native.Nat.{ℕ, _<_, min, max}
 use native.Mathlib.Omega.{arith}
 use native.Mathlib.Decide.{decLt}
-use mathlib.Core.Path.{_≡_, refl, sym, ap₂, _∙_}
+use mathlib.Core.Path.{_≡_, refl, sym, ap, ap₂, _∙_}
 use mathlib.Core.Logic.{_↔_}
 use mathlib.Core.List.{List, [], _∷_}
 use mathlib.Core.Bool.{Bool, true, false, false≢true, cond, _&&_, not}
@@ -12,26 +12,26 @@ use Rattle.pool.specs.Outcome.{Outcome, answered, refused}
 use Rattle.pool.proofs.Questions.{both}
 use Rattle.calls.specs.declared.Call.{Call}
 use Rattle.calls.specs.declared.Call.the-variants as call
-use Rattle.calls.specs.Compared.{compared}
 use Rattle.allocator.specs.Allocation.{newIn}
 use Rattle.calls.specs.Calls.{callOf}
 use Rattle.reference.specs.Model.{Model, live, valid, modelOf}
 use Rattle.batch.specs.Run.{afterAll}
-use Rattle.reference.specs.Equivalence.{poolAnswers, modelAnswers, tells, noneTells}
+use Rattle.reference.specs.Equivalence.{compared, poolAnswers, modelAnswers, tells, noneTells}
 use Rattle.reference.proofs.Invariant.{Invariant}
 use Rattle.reference.proofs.Fields.{Field}
 use Rattle.reference.proofs.Represents.{Represents}
 use Rattle.reference.proofs.Steps.{Step, unchanged, valid-read, asked-cells, copy-step, clear-step, follow-step, link-step, set-value-step, value-step, same-step}
 use Rattle.reference.proofs.Collecting.{collect-step}
 use Rattle.reference.proofs.New.{NewCase, new-case}
+use Rattle.reference.proofs.Given.{numbersOf, model-gives, compared-plain}
 
 -- A call that does not tell the pool from the limit is answered alike, and one that does is not.
 pub data Told (N L : ℕ) (c : Call) (w : List ℕ) (m : Model) : Type 0 where
-  alike : tells N L c m ≡ false → Step N (compared c ((callOf c w) .0), (callOf c w) .1) (modelOf L c m) → Told N L c w m
-  apart : tells N L c m ≡ true → (compared c ((callOf c w) .0) ≡ (modelOf L c m) .0 → ⊥) → Told N L c w m
+  alike : tells N L c m ≡ false → Step N (compared ((callOf c w) .0), (callOf c w) .1) (modelOf L c m) → Told N L c w m
+  apart : tells N L c m ≡ true → (compared ((callOf c w) .0) ≡ (modelOf L c m) .0 → ⊥) → Told N L c w m
 
-done-or-refused : (k : ℕ) → answered [] ≡ refused k → ⊥
-done-or-refused k e = let z : _≡_ {A = ℕ} 0 1 = cc in omega arith
+pub done-or-refused : (xs : List ℕ) (k : ℕ) → answered xs ≡ refused k → ⊥
+done-or-refused xs k e = let z : _≡_ {A = ℕ} 0 1 = cc in omega arith
 
 module _ {N : ℕ} (L : ℕ) {w : List ℕ} {m : Model} (inv : Invariant N w) (rep : Represents w m) where
   new-told : (r a b v : ℕ) → Told N L (call.New r a b v) w m
@@ -50,10 +50,10 @@ module _ {N : ℕ} (L : ℕ) {w : List ℕ} {m : Model} (inv : Invariant N w) (r
           (rw (asked, e, lt-leb L (live m) below) next)
       ask e (NewCase.accepted few next) (no above) =
           apart (tests true true true e (le-leb (min N L) (live m) (omega arith)) (lt-ltb (live m) (max N L) (omega arith)))
-          (rw (asked, e, le-leb L (live m) (omega arith)) (λ k. done-or-refused 5 (sym (next .answer) ∙ k)))
+          (rw (asked, e, le-leb L (live m) (omega arith)) (λ k. done-or-refused [] 5 (sym (next .answer) ∙ k)))
       ask e (NewCase.full many out) (yes below) =
           apart (tests true true true e (le-leb (min N L) (live m) (omega arith)) (lt-ltb (live m) (max N L) (omega arith)))
-          (rw (asked, e, lt-leb L (live m) below, out) (λ k. done-or-refused 5 (sym k)))
+          (rw (asked, e, lt-leb L (live m) below, out) (λ k. done-or-refused [] 5 (sym k)))
       ask e (NewCase.full many out) (no above) =
           alike (tests true true false e (le-leb (min N L) (live m) (omega arith)) (le-ltb (live m) (max N L) (omega arith)))
           (rw (asked, e, le-leb L (live m) (omega arith), out) (unchanged inv rep _))
@@ -66,18 +66,27 @@ module _ {N : ℕ} (L : ℕ) {w : List ℕ} {m : Model} (inv : Invariant N w) (r
           alike (tests false _ _ e refl refl)
           (rw (asked, e) (unchanged inv rep _))
 
+  -- a step whose answer is the model's, and so no allocation
+  plain : (c : Call) → Step N (callOf c w) (modelOf L c m) → Step N (compared ((callOf c w) .0), (callOf c w) .1) (modelOf L c m)
+  plain c next =
+      record {
+        answer = ap compared (next .answer) ∙ compared-plain (numbersOf c) ((modelOf L c m) .0) (model-gives m L c);
+        inv = next .inv;
+        rep = next .rep;
+      }
+
   pub told : (c : Call) → Told N L c w m
-  told (call.Copy r a) = alike refl (copy-step inv rep r a)
-  told (call.Clear r) = alike refl (clear-step inv rep r)
+  told (call.Copy r a) = alike refl (plain (call.Copy r a) (copy-step inv rep r a))
+  told (call.Clear r) = alike refl (plain (call.Clear r) (clear-step inv rep r))
   told (call.New r a b v) = new-told r a b v
-  told (call.Left r a) = alike refl (follow-step inv rep Field.left (omega arith) r a)
-  told (call.Right r a) = alike refl (follow-step inv rep Field.right (omega arith) r a)
-  told (call.SetLeft a b) = alike refl (link-step inv rep Field.left (omega arith) a b)
-  told (call.SetRight a b) = alike refl (link-step inv rep Field.right (omega arith) a b)
-  told (call.SetValue a v) = alike refl (set-value-step inv rep a v)
-  told (call.Value a) = alike refl (value-step inv rep a)
-  told (call.Same a b) = alike refl (same-step inv rep a b)
-  told call.Collect = alike refl (collect-step inv rep)
+  told (call.Left r a) = alike refl (plain (call.Left r a) (follow-step inv rep Field.left (omega arith) r a))
+  told (call.Right r a) = alike refl (plain (call.Right r a) (follow-step inv rep Field.right (omega arith) r a))
+  told (call.SetLeft a b) = alike refl (plain (call.SetLeft a b) (link-step inv rep Field.left (omega arith) a b))
+  told (call.SetRight a b) = alike refl (plain (call.SetRight a b) (link-step inv rep Field.right (omega arith) a b))
+  told (call.SetValue a v) = alike refl (plain (call.SetValue a v) (set-value-step inv rep a v))
+  told (call.Value a) = alike refl (plain (call.Value a) (value-step inv rep a))
+  told (call.Same a b) = alike refl (plain (call.Same a b) (same-step inv rep a b))
+  told call.Collect = alike refl (plain call.Collect (collect-step inv rep))
 
 -- One answer more on both sides, where the call does not tell, and where it does.
 module _ {o p : Outcome} {os ps : List Outcome} {t : Bool} (s : Bool) where
@@ -125,10 +134,10 @@ pub along : (N : ℕ) (calls : List Call) {w : List ℕ} {m : Model} → Invaria
 unfolding poolAnswers modelAnswers afterAll
 along N [] inv rep = (refl, inv)
 along N (c ∷ cs) {w} {m} inv rep =
-    let next : Step N (compared c ((callOf c w) .0), (callOf c w) .1) (modelOf N c m) = step (told N inv rep c) in
+    let next : Step N (compared ((callOf c w) .0), (callOf c w) .1) (modelOf N c m) = step (told N inv rep c) in
     let rest = along N cs (next .inv) (next .rep) in
     (ap₂ (λ (o : Outcome) (os : List Outcome). o ∷ os) (next .answer) (rest .0), rest .1)
   where
-    step : Told N N c w m → Step N (compared c ((callOf c w) .0), (callOf c w) .1) (modelOf N c m)
+    step : Told N N c w m → Step N (compared ((callOf c w) .0), (callOf c w) .1) (modelOf N c m)
     step (alike e next) = next
     step (apart e differ) = absurd (never-told N c m e)

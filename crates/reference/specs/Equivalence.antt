@@ -9,26 +9,32 @@ use Rattle.graph.specs.Theorems.{Distinct}
 use Rattle.pool.specs.Layout.{registerCount, cellLimit, cellsOf, state}
 use Rattle.pool.specs.Validity.{wellFormed}
 use Rattle.pool.specs.Retain.{freshWords, freeList}
-use Rattle.pool.specs.Outcome.{Outcome, refused}
+use Rattle.pool.specs.Outcome.{Outcome, answered, allocated, refused}
 use Rattle.calls.specs.declared.Call.{Call}
 use Rattle.calls.specs.declared.Call.the-variants as call
-use Rattle.calls.specs.Compared.{compared}
 use Rattle.batch.specs.Run.{afterAll}
 use Rattle.calls.specs.Calls.{callOf}
 use Rattle.reference.specs.Model.{Model, empty, live, valid, modelOf}
 
--- "each call gets what the one before it left, refused or not": the answers of the pool, an accepted "new" without its visits.
+-- What of a call's answer is compared with the reference model: "An answer is done (an accepted "new" too, its visits left out), the number or numbers
+-- given, or the refusal."
+abbrev pub compared : Outcome → Outcome
+compared (answered numbers) = answered numbers
+compared (allocated visits) = answered []
+compared (refused k) = refused k
+
+-- "each call gets what the one before it left, refused or not": the answers of the pool, as they are compared.
 unfoldable pub poolAnswers : List Call → List ℕ → List Outcome
 poolAnswers [] w = []
-poolAnswers (c ∷ cs) w = compared c ((callOf c w) .0) ∷ poolAnswers cs ((callOf c w) .1)
+poolAnswers (c ∷ cs) w = compared ((callOf c w) .0) ∷ poolAnswers cs ((callOf c w) .1)
 
 -- The answers of the reference model with limit L.
 unfoldable pub modelAnswers : ℕ → List Call → Model → List Outcome
 modelAnswers L [] m = []
 modelAnswers L (c ∷ cs) m = (modelOf L c m) .0 ∷ modelAnswers L cs ((modelOf L c m) .1)
 
--- Does this call tell a pool of N cells from a limit of L? Demand 3: a "new" "with valid registers" does, where it "finds at least
--- min(N, L) and fewer than max(N, L) live cells".
+-- Does this call tell a pool of N cells from a limit of L? Demand 3: a "new" with valid registers does, where it finds at least the smaller and
+-- fewer than the larger of N and L live cells.
 abbrev pub tells : ℕ → ℕ → Call → Model → Bool
 tells N L (call.Copy r a) m = false
 tells N L (call.Clear r) m = false
@@ -47,8 +53,8 @@ unfoldable pub noneTells : ℕ → ℕ → List Call → Model → Bool
 noneTells N L [] m = true
 noneTells N L (c ∷ cs) m = not (tells N L c m) && noneTells N L cs ((modelOf L c m) .1)
 
--- Demand 3: "the pool's answers equal those of the never-collecting ledger with limit L exactly when no `new` with valid registers finds at least
--- min(N, L) and fewer than max(N, L) live cells".
+-- Demand 3: the answers of a pool of N cells equal those of the ledger with limit L exactly when no "new" with valid registers finds at least the
+-- smaller and fewer than the larger of N and L live cells. One statement about the whole list, for every N, L and list.
 abbrev pub Equivalence : Type 0
 Equivalence =
     (N L : ℕ) (calls : List Call) → 1 ≤ N → N ≤ cellLimit

@@ -1,35 +1,36 @@
--- Demand 3 of code that runs: what `batch::run` writes for a list of calls on a fresh pool, against the reference model.
+-- Demand 3 of code that runs: the words that `batch::run` writes for a list of calls on a fresh pool, against the reference model.
 use Prim.Native.Nat.{ℕ, _*_, _≤_}
 use mathlib.Core.Path.{_≡_}
 use mathlib.Core.Logic.{_↔_}
-use mathlib.Core.List.{List, [], _∷_, _++_}
-use mathlib.Core.Bool.{true}
-use lib.ListN.{length, drop}
+use mathlib.Core.List.{List, [], _∷_}
+use mathlib.Core.Bool.{true, cond}
+use lib.ListN.{length, getD, drop}
 use Rattle.pool.specs.Layout.{registerCount, cellLimit}
 use Rattle.pool.specs.Retain.{freshWords}
-use Rattle.pool.specs.Outcome.{Outcome}
 use Rattle.calls.specs.declared.Call.{Call}
-use Rattle.calls.specs.Compared.{compared}
+use Rattle.calls.specs.Calls.{allocates}
+use Rattle.batch.specs.declared.Ran.{Ran}
 use Rattle.batch.specs.declared.Ran.the-variants as ran
 use Rattle.batch.specs.Program.{programOf, programOfCalls}
-use Rattle.batch.specs.Run.{runOf, answersOf, afterAll, answerWords}
+use Rattle.batch.specs.Run.{runOf, afterAll, answerWords}
 use Rattle.reference.specs.Model.{empty}
 use Rattle.reference.specs.Equivalence.{modelAnswers, noneTells}
 
--- What of each answer is compared: an accepted "new" without its visits.
-unfoldable pub comparedAll : List Call → List Outcome → List Outcome
-comparedAll [] os = []
-comparedAll (c ∷ cs) [] = []
-comparedAll (c ∷ cs) (o ∷ os) = compared c o ∷ comparedAll cs os
+-- What of the words of answers, three for each call, is compared: all of them but the visits that a "new" reports, which count as 0.
+unfoldable pub comparedWords : List Call → List ℕ → List ℕ
+comparedWords [] out = []
+comparedWords (c ∷ cs) out = getD out 0 0 ∷ cond (allocates c) 0 (getD out 1 0) ∷ getD out 2 0 ∷ comparedWords cs (drop 3 out)
 
--- `batch::run` on a fresh pool of N cells, given words that hold the calls cs and room for their answers, runs all of them and writes their answers;
--- and these answers are the model's with limit L exactly when no call tells the two apart. (`runOf` is what the contract of `batch::run` says.)
-pub record RunsAlike (N L : ℕ) (list out : List ℕ) (cs : List Call) (os : List Outcome) : Type 0 where
-  pub ran : runOf list (freshWords registerCount N) out
-      ≡ (ran.All (length cs), afterAll cs (freshWords registerCount N), answerWords os ++ drop (3 * length cs) out)
-  pub alike : (comparedAll cs os ≡ modelAnswers L cs empty) ↔ (noneTells N L cs empty ≡ true)
+-- What a run of the calls cs on a fresh pool of N cells gives (`end`): all of them ran, one after the other; words behind those of their answers stay;
+-- and the words of their answers, as they are compared, are those of the model's answers with limit L exactly when no call tells the two apart.
+pub record RunsAlike (N L : ℕ) (cs : List Call) (out : List ℕ) (end : Ran × List ℕ × List ℕ) : Type 0 where
+  pub all : end .0 ≡ ran.All (length cs)
+  pub pool : end .1 ≡ afterAll cs (freshWords registerCount N)
+  pub behind : drop (3 * length cs) (end .2) ≡ drop (3 * length cs) out
+  pub alike : (comparedWords cs (end .2) ≡ answerWords (modelAnswers L cs empty)) ↔ (noneTells N L cs empty ≡ true)
 
+-- `batch::run`, given words that hold the calls cs and room for their answers. (`runOf` is what its contract says.)
 abbrev pub RunEquivalence : Type 0
 RunEquivalence =
     (N L : ℕ) (list out : List ℕ) (cs : List Call) → 1 ≤ N → N ≤ cellLimit → programOf list ≡ programOfCalls cs → 3 * length cs ≤ length out
-    → RunsAlike N L list out cs (answersOf cs (freshWords registerCount N))
+    → RunsAlike N L cs out (runOf list (freshWords registerCount N) out)

@@ -2,7 +2,7 @@
 -- caller: collections and visits, 32 bits each, stopping at 4,294,967,295. Its answer is collect's. A refusal leaves the tally.").
 use Prim.Native.Nat.{ℕ, _+_, min}
 use mathlib.Core.List.{List, [], _∷_}
-use Rattle.pool.specs.Outcome.{Outcome, answered, refused}
+use Rattle.pool.specs.Outcome.{Outcome, answered, allocated, refused}
 use Rattle.collector.specs.Collect.{collectOf}
 use Rattle.tally.specs.declared.Tally.{Tally}
 
@@ -23,6 +23,7 @@ abbrev pub tallyAfter : Tally → Outcome → Tally
 tallyAfter t (answered []) = t
 tallyAfter t (answered (kept ∷ [])) = t
 tallyAfter t (answered (kept ∷ visits ∷ more)) = advancedOf t visits
+tallyAfter t (allocated visits) = t
 tallyAfter t (refused k) = t
 
 -- The call: answer and words are collect's, and the tally is the one after that answer.

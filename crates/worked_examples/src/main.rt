@@ -126,12 +126,12 @@ fn both_links_are_read() {
     calls::right(&mut words, 2, 0);
     show(
         b"the value of the right one of the two leaves: ",
-        interpreter::numbers(calls::value(&words, 2)),
+        interpreter::reply_to(calls::value(&words, 2)),
     );
     calls::right(&mut words, 2, 1);
     show(
         b"that of the other right leaf: ",
-        interpreter::numbers(calls::value(&words, 2)),
+        interpreter::reply_to(calls::value(&words, 2)),
     );
 }
 
@@ -148,11 +148,11 @@ fn links_after_falling_back() {
     calls::right(&mut words, 2, 0);
     show(
         b"left and right are the same: ",
-        interpreter::numbers(calls::same(&words, 1, 2)),
+        interpreter::reply_to(calls::same(&words, 1, 2)),
     );
     show(
         b"the value there: ",
-        interpreter::numbers(calls::value(&words, 1)),
+        interpreter::reply_to(calls::value(&words, 1)),
     );
 }
 
@@ -164,16 +164,16 @@ fn old_content_is_a_root() {
     calls::new(&mut words, 0, 0, 0, 2);
     show(
         b"new where r's old content holds every cell: ",
-        interpreter::numbers(calls::new(&mut words, 0, 1, 1, 3)),
+        interpreter::reply_to(calls::new(&mut words, 0, 1, 1, 3)),
     );
     show(
         b"the value of r's cell: ",
-        interpreter::numbers(calls::value(&words, 0)),
+        interpreter::reply_to(calls::value(&words, 0)),
     );
     calls::clear(&mut words, 0);
     show(
         b"new with nothing reached: ",
-        interpreter::numbers(calls::new(&mut words, 0, 1, 1, 3)),
+        interpreter::reply_to(calls::new(&mut words, 0, 1, 1, 3)),
     );
 }
 

@@ -22,7 +22,7 @@ same-length : tie.Need-same-length
 same-length c = search needs
 
 returns : tie.Need-returns
-returns c = call-run _ _ (c .before .before .before .before .before .before .pre) _ _ _ _ _ (c .reply-to .ensures) (c .before .before .before .perform .ensures .0) (c .before .before .before .perform .ensures .1) (c .before .before .before .perform .kept .0)
+returns c = call-run _ _ (c .before .before .before .before .before .before .pre) _ _ _ _ (c .reply-to .ensures) (c .before .before .before .perform .ensures .1) (c .before .before .before .perform .kept .0)
 
 pub run-spec : {M : Type 1} → statement M
 run-spec =

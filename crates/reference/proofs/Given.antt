@@ -1,0 +1,239 @@
+-- How many numbers the answer to a call gives, on the pool and on the reference model; so the three words of an answer say what it is.
+use Prim.Native.Nat.{ℕ, zero, suc, _*_, _<_, _≤_}
+use native.Mathlib.Omega.{arith}
+use mathlib.Core.Path.{_≡_, refl, sym, ap, ap₂, _∙_}
+use mathlib.Core.List.{List, [], _∷_, _++_}
+use mathlib.Core.Bool.{Bool, true, false, false≢true, cond, _&&_}
+use lib.ListN.{length, getD}
+use lib.Seq.{ext-getD}
+use lib.Dec.{eqb, leb, ltb}
+use Rattle.pool.specs.Layout.{registerCount, cellsOf, register, setRegister, cell, setCell, value, head}
+use Rattle.pool.specs.Validity.{validLink, wellFormed}
+use Rattle.pool.specs.Calls.{holdsLink}
+use Rattle.pool.specs.Outcome.{Outcome, answered, allocated, refused, status, given}
+use Rattle.pool.specs.declared.Admitted.the-variants as admitted
+use Rattle.pool.specs.declared.Refusal.the-variants as refusal
+use Rattle.collector.specs.Collect.{collected}
+use Rattle.allocator.specs.Allocation.{goodHead, takeCollected, newIn}
+use Rattle.calls.specs.declared.Call.{Call}
+use Rattle.calls.specs.declared.Call.the-variants as call
+use Rattle.calls.specs.Calls.{admittedTo, asked, withCell, followIn, linkIn, callOf, allocates}
+use Rattle.batch.specs.Run.{answersOf, answerWords}
+use Rattle.reference.specs.Model.{Model, held, valid, live, named, onCell, modelOf}
+use Rattle.reference.specs.Equivalence.{compared, poolAnswers, modelAnswers}
+use Rattle.reference.specs.RunEquivalence.{comparedWords}
+
+-- the numbers that an accepted call gives, an allocation's visits left out
+abbrev pub numbersOf : Call → ℕ
+numbersOf (call.Copy r a) = 0
+numbersOf (call.Clear r) = 0
+numbersOf (call.New r a b v) = 0
+numbersOf (call.Left r a) = 0
+numbersOf (call.Right r a) = 0
+numbersOf (call.SetLeft a b) = 0
+numbersOf (call.SetRight a b) = 0
+numbersOf (call.SetValue a v) = 0
+numbersOf (call.Value a) = 1
+numbersOf (call.Same a b) = 1
+numbersOf call.Collect = 2
+
+at-most-two : (c : Call) → numbersOf c ≤ 2
+at-most-two (call.Copy r a) = omega arith
+at-most-two (call.Clear r) = omega arith
+at-most-two (call.New r a b v) = omega arith
+at-most-two (call.Left r a) = omega arith
+at-most-two (call.Right r a) = omega arith
+at-most-two (call.SetLeft a b) = omega arith
+at-most-two (call.SetRight a b) = omega arith
+at-most-two (call.SetValue a v) = omega arith
+at-most-two (call.Value a) = omega arith
+at-most-two (call.Same a b) = omega arith
+at-most-two call.Collect = omega arith
+
+-- an outcome that gives n numbers, or an allocation where there may be one, or a refusal with a number of which Q holds
+abbrev pub Gives : (ℕ → Type 0) → Bool → ℕ → Outcome → Type 0
+Gives Q new n (answered xs) = (length xs ≡ n) × (new ≡ false)
+Gives Q new n (allocated visits) = (new ≡ true) × (n ≡ 0)
+Gives Q new n (refused k) = Q k
+
+abbrev Positive : ℕ → Type 0
+Positive k = 0 < k
+
+-- the model's refusals: 1 and 3 are not among them
+abbrev pub Mild : ℕ → Type 0
+Mild k = (0 < k) × (k ≡ 1 → ⊥) × (k ≡ 3 → ⊥)
+
+gives-cond : {A : Type 0} (P : Outcome → Type 0) (t : Bool) (p q : Outcome × A) → P (p .0) → P (q .0) → P ((cond t p q) .0)
+gives-cond P true p q a b = a
+gives-cond P false p q a b = b
+
+module _ (P : Outcome → Type 0) (w : List ℕ) where
+  gives-asked : (r a b : ℕ) (body : ℕ → Outcome × List ℕ) → P (refused 1) → P (refused 2) → ((n : ℕ) → P (body n .0)) → P (asked w r a b body .0)
+  gives-asked r a b body one two accepted =
+      go (ltb 0 (cellsOf registerCount w)) (ltb r registerCount && ltb a registerCount && ltb b registerCount)
+    where
+      go : (s t : Bool)
+          → P (admittedTo body w (cond s (cond t (admitted.Cells (cellsOf registerCount w)) (admitted.Refused refusal.Register)) (admitted.Refused refusal.Size)) .0)
+      go true true = accepted (cellsOf registerCount w)
+      go true false = two
+      go false t = one
+
+  gives-cell : (n a : ℕ) (body : ℕ → Outcome × List ℕ) → P (refused 3) → P (refused 4) → ((x : ℕ) → P (body x .0)) → P (withCell n w a body .0)
+  gives-cell n a body three four accepted =
+      gives-cond P (holdsLink n w a) _ _ (gives-cond P (eqb (register w a) 0) (refused 4, w) (body (register w a)) four (accepted _)) three
+
+follow-gives : (field r a : ℕ) (w : List ℕ) → Gives Positive false 0 (asked w r a a (λ n. followIn n w field r a) .0)
+follow-gives field r a w =
+    let P = Gives Positive false 0 in
+    gives-asked P w r a a _ (omega arith) (omega arith) λ n.
+    gives-cell P w n a
+    (λ x. cond (validLink registerCount n w (cell registerCount w x field)) (answered [], setRegister w r (cell registerCount w x field)) (refused 3, w))
+    (omega arith) (omega arith) λ x.
+    gives-cond P (validLink registerCount n w (cell registerCount w x field)) (answered [], _) (refused 3, w) (refl, refl) (omega arith)
+
+link-gives : (field a b : ℕ) (w : List ℕ) → Gives Positive false 0 (asked w a b b (λ n. linkIn n w field a b) .0)
+link-gives field a b w =
+    let P = Gives Positive false 0 in
+    gives-asked P w a b b _ (omega arith) (omega arith) λ n.
+    gives-cond P (holdsLink n w b) (withCell n w a λ x. (answered [], setCell registerCount w x field (register w b))) (refused 3, w)
+    (gives-cell P w n a (λ x. (answered [], setCell registerCount w x field (register w b))) (omega arith) (omega arith) λ x. (refl, refl)) (omega arith)
+
+pub pool-gives : (c : Call) (w : List ℕ) → Gives Positive (allocates c) (numbersOf c) (callOf c w .0)
+pool-gives (call.Copy r a) w =
+    let P = Gives Positive false 0 in
+    gives-asked P w r a a _ (omega arith) (omega arith) λ n. gives-cond P (holdsLink n w a) _ _ (refl, refl) (omega arith)
+pool-gives (call.Clear r) w = gives-asked (Gives Positive false 0) w r r r _ (omega arith) (omega arith) λ n. (refl, refl)
+pool-gives (call.New r a b v) w =
+    let P = Gives Positive true 0 in
+    gives-asked P w r a b _ (omega arith) (omega arith) λ n.
+    gives-cond P (holdsLink n w a && holdsLink n w b) _ _
+    (gives-cond P (eqb (head w) 0) _ _
+    (gives-cond P (wellFormed registerCount n w) _ _ (gives-cond P (eqb (head (collected registerCount n w)) 0) (refused 5, w) _ (omega arith) (refl, refl)) (omega arith))
+    (gives-cond P (goodHead n w) _ _ (refl, refl) (omega arith)))
+    (omega arith)
+pool-gives (call.Left r a) w = follow-gives 1 r a w
+pool-gives (call.Right r a) w = follow-gives 2 r a w
+pool-gives (call.SetLeft a b) w = link-gives 1 a b w
+pool-gives (call.SetRight a b) w = link-gives 2 a b w
+pool-gives (call.SetValue a v) w =
+    let P = Gives Positive false 0 in
+    gives-asked P w a a a _ (omega arith) (omega arith) λ n. gives-cell P w n a (λ x. (answered [], setCell registerCount w x 3 v)) (omega arith) (omega arith) λ x. (refl, refl)
+pool-gives (call.Value a) w =
+    let P = Gives Positive false 1 in
+    gives-asked P w a a a _ (omega arith) (omega arith) λ n. gives-cell P w n a (λ x. (answered (value registerCount w x ∷ []), w)) (omega arith) (omega arith) λ x. (refl, refl)
+pool-gives (call.Same a b) w =
+    let P = Gives Positive false 1 in
+    gives-asked P w a b b _ (omega arith) (omega arith) λ n. gives-cond P (holdsLink n w a && holdsLink n w b) _ _ (refl, refl) (omega arith)
+pool-gives call.Collect w =
+    let P = Gives Positive false 2 in
+    gives-cond P (ltb 0 (cellsOf registerCount w)) _ _
+    (gives-cond P (wellFormed registerCount (cellsOf registerCount w) w) _ _ (refl, refl) (omega arith))
+    (omega arith)
+
+module _ (m : Model) where
+  gives-named : (n r a b : ℕ) (p : Outcome × Model) → Gives Mild false n (p .0) → Gives Mild false n ((named m r a b p) .0)
+  gives-named n r a b p accepted = gives-cond (Gives Mild false n) (valid r a b) p (refused 2, m) accepted (omega arith)
+
+  gives-held : (n a : ℕ) (p : Outcome × Model) → Gives Mild false n (p .0) → Gives Mild false n ((onCell m a p) .0)
+  gives-held n a p accepted = gives-cond (Gives Mild false n) (eqb (held m a) 0) (refused 4, m) p (omega arith) accepted
+
+  pub model-gives : (L : ℕ) (c : Call) → Gives Mild false (numbersOf c) ((modelOf L c m) .0)
+  model-gives L (call.Copy r a) = gives-named 0 r a a _ (refl, refl)
+  model-gives L (call.Clear r) = gives-named 0 r r r _ (refl, refl)
+  model-gives L (call.New r a b v) = gives-named 0 r a b _ (gives-cond (Gives Mild false 0) (leb L (live m)) (refused 5, m) _ (omega arith) (refl, refl))
+  model-gives L (call.Left r a) = gives-named 0 r a a _ (gives-held 0 a _ (refl, refl))
+  model-gives L (call.Right r a) = gives-named 0 r a a _ (gives-held 0 a _ (refl, refl))
+  model-gives L (call.SetLeft a b) = gives-named 0 a b b _ (gives-held 0 a _ (refl, refl))
+  model-gives L (call.SetRight a b) = gives-named 0 a b b _ (gives-held 0 a _ (refl, refl))
+  model-gives L (call.SetValue a v) = gives-named 0 a a a _ (gives-held 0 a _ (refl, refl))
+  model-gives L (call.Value a) = gives-named 1 a a a _ (gives-held 1 a _ (refl, refl))
+  model-gives L (call.Same a b) = gives-named 1 a b b _ (refl, refl)
+  model-gives L call.Collect = (refl, refl)
+
+-- what is compared of an outcome gives as many numbers, and its words are those that are compared
+module _ (new : Bool) (n : ℕ) where
+  compared-gives : (o : Outcome) → Gives Positive new n o → Gives Positive false n (compared o)
+  compared-gives (answered xs) g = (g .0, refl)
+  compared-gives (allocated visits) g = (sym (g .1), refl)
+  compared-gives (refused k) g = g
+
+  compared-first : (o : Outcome) → Gives Positive new n o → cond new 0 (given o 0 0) ≡ given (compared o) 0 0
+  compared-first (answered xs) g = rw (g .1)
+  compared-first (allocated visits) g = rw (g .0)
+  compared-first (refused k) g = go new
+    where
+      go : (t : Bool) → _≡_ {A = ℕ} (cond t 0 0) 0
+      go true = refl
+      go false = refl
+
+compared-status : (o : Outcome) → status o ≡ status (compared o)
+compared-status (answered xs) = refl
+compared-status (allocated visits) = refl
+compared-status (refused k) = refl
+
+compared-second : (o : Outcome) → given o 1 0 ≡ given (compared o) 1 0
+compared-second (answered xs) = refl
+compared-second (allocated visits) = refl
+compared-second (refused k) = refl
+
+-- an answer of the model is compared as it is
+pub compared-plain : (n : ℕ) (o : Outcome) → Gives Mild false n o → compared o ≡ o
+compared-plain n (answered xs) g = refl
+compared-plain n (allocated visits) g = absurd (false≢true (g .0))
+compared-plain n (refused k) g = refl
+
+positive : (n : ℕ) (o : Outcome) → Gives Mild false n o → Gives Positive false n o
+positive n (answered xs) g = g
+positive n (allocated visits) g = g
+positive n (refused k) g = g .0
+
+-- the three words of an outcome determine it, where it is known how many numbers it gives
+said-by-words : (n : ℕ) → n ≤ 2 → (o p : Outcome) → Gives Positive false n o → Gives Positive false n p
+    → status o ≡ status p → given o 0 0 ≡ given p 0 0 → given o 1 0 ≡ given p 1 0 → o ≡ p
+said-by-words n few (answered xs) (answered ys) g h e first second = ap answered (ext-getD 0 xs ys (g .0 ∙ sym (h .0)) each)
+  where
+    each : (i : ℕ) → i < length xs → getD xs i 0 ≡ getD ys i 0
+    each zero low = first
+    each (suc zero) low = second
+    each (suc (suc i)) low = absurd (omega (arith, g .0))
+said-by-words n few (answered xs) (allocated v) g h e first second = absurd (false≢true (h .0))
+said-by-words n few (answered xs) (refused k) g h e first second = absurd (omega arith)
+said-by-words n few (allocated v) p g h e first second = absurd (false≢true (g .0))
+said-by-words n few (refused j) (answered ys) g h e first second = absurd (omega arith)
+said-by-words n few (refused j) (allocated v) g h e first second = absurd (false≢true (h .0))
+said-by-words n few (refused j) (refused k) g h e first second = ap refused e
+
+-- three words an answer
+pub words-length : (cs : List Call) (w : List ℕ) → length (answerWords (answersOf cs w)) ≡ 3 * length cs
+unfolding answersOf answerWords
+words-length [] w = refl
+words-length (c ∷ cs) w = omega (arith, words-length cs (callOf c w .1))
+
+-- the words of the answers of a run, as they are compared, are those of the pool's answers, whatever stands behind them
+pub compared-words : (cs : List Call) (w back : List ℕ) → comparedWords cs (answerWords (answersOf cs w) ++ back) ≡ answerWords (poolAnswers cs w)
+unfolding comparedWords answersOf answerWords poolAnswers
+compared-words [] w back = refl
+compared-words (c ∷ cs) w back =
+    let o = callOf c w .0 in
+    rw (
+      compared-status o,
+      compared-first (allocates c) (numbersOf c) o (pool-gives c w),
+      compared-second o,
+      compared-words cs (callOf c w .1) back,
+    )
+
+-- answers with the same words are the same
+pub answers-by-words : (L : ℕ) (cs : List Call) (w : List ℕ) (m : Model)
+    → answerWords (poolAnswers cs w) ≡ answerWords (modelAnswers L cs m) → poolAnswers cs w ≡ modelAnswers L cs m
+unfolding answerWords poolAnswers modelAnswers
+answers-by-words L [] w m e = refl
+answers-by-words L (c ∷ cs) w m e =
+    let o = compared (callOf c w .0) in
+    let p = modelOf L c m .0 in
+    let first : status o ≡ status p = cc in
+    let second : given o 0 0 ≡ given p 0 0 = cc in
+    let third : given o 1 0 ≡ given p 1 0 = cc in
+    let rest : answerWords (poolAnswers cs (callOf c w .1)) ≡ answerWords (modelAnswers L cs (modelOf L c m .1)) = cc in
+    ap₂ (λ (q : Outcome) (qs : List Outcome). q ∷ qs)
+    (said-by-words (numbersOf c) (at-most-two c) o p (compared-gives (allocates c) (numbersOf c) (callOf c w .0) (pool-gives c w)) (positive (numbersOf c) p (model-gives m L c)) first second third)
+    (answers-by-words L cs (callOf c w .1) (modelOf L c m .1) rest)
