@@ -9,9 +9,13 @@
  * A link is 0 (nil) or the number of a cell. It is valid if it is 0 or the number of a used cell. A pool is
  * well-formed if every state is 0 or 4 and all registers and all links of used cells are valid.
  *
- * Every function is total: it answers CELLPOOL_OK or a refusal, for any content of the words. A refusal writes
- * nothing, neither the words nor the numbers lent for results, except where a function says so below. A function checks
- * for its refusals in the order in which they are listed with it.
+ * Every function is total: it answers CELLPOOL_OK or a refusal, for any content of the words. A refusal leaves every
+ * lent block as it was, except where a function says so below, and neither reads nor writes the numbers lent for
+ * results (cellpool_load's rest apart): these may be uninitialised. A function checks for its refusals in the order in
+ * which they are listed with it.
+ *
+ * The lent blocks need exclusive access during every call, refused or not: a collection changes the words while it runs,
+ * also that of a cellpool_new which is then refused with 5, after which every word is as it was.
  *
  * Pointers must be aligned and not null, also where a length is 0; lent blocks must not overlap. Lengths are counted
  * in elements. No function keeps a pointer, allocates, or uses global state; two pools may be used at the same time.
@@ -77,7 +81,8 @@ uint32_t cellpool_clear(uint32_t *words, size_t len, uint32_t r);
 
 /* Register r gets a new cell with the link in register a as its left, that in b as its right, and value v. Where no
    free cell is left it collects first, with the old content of r still a root. *visits becomes the visits of that
-   collection, 0 where there was none. Refused: 1, 2, 3, 5. */
+   collection, 0 where there was none. Refused with 5 it has collected, and every word is as before: all cells were
+   reached. Refused: 1, 2, 3, 5. */
 uint32_t cellpool_new(uint32_t *words, size_t len, uint32_t r, uint32_t a, uint32_t b, uint32_t v, uint32_t *visits);
 
 /* Register r gets the left (right) link of the cell in register a. Refused: 1, 2, 3 (the register), 4, 3 (the link). */

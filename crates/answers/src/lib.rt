@@ -29,29 +29,29 @@ impl Answer {
         }
     }
 
-    // The first number that the answer gives, or another where it gives none.
-    pub fn first(self, other: u32) -> u32
-        ensures { λ r. ⌜ r ≡ given (answerOutcome self) 0 other ⌝ }
+    // The first number that the answer gives, or 0 where it gives none.
+    pub fn first(self) -> u32
+        ensures { λ r. ⌜ r ≡ given (answerOutcome self) 0 0 ⌝ }
     {
         match self {
-            Answer::Done => other,
+            Answer::Done => 0,
             Answer::Allocated { visits } => visits,
             Answer::Number(x) => x,
             Answer::Collected { kept, visits: _ } => kept,
-            Answer::Refused(_) => other,
+            Answer::Refused(_) => 0,
         }
     }
 
-    // The second number that the answer gives, or another where it gives none.
-    pub fn second(self, other: u32) -> u32
-        ensures { λ r. ⌜ r ≡ given (answerOutcome self) 1 other ⌝ }
+    // The second number that the answer gives, or 0 where it gives none.
+    pub fn second(self) -> u32
+        ensures { λ r. ⌜ r ≡ given (answerOutcome self) 1 0 ⌝ }
     {
         match self {
-            Answer::Done => other,
-            Answer::Allocated { visits: _ } => other,
-            Answer::Number(_) => other,
+            Answer::Done => 0,
+            Answer::Allocated { visits: _ } => 0,
+            Answer::Number(_) => 0,
             Answer::Collected { kept: _, visits } => visits,
-            Answer::Refused(_) => other,
+            Answer::Refused(_) => 0,
         }
     }
 }

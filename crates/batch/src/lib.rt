@@ -72,8 +72,8 @@ fn write_answer(answers: &mut [u32], k: usize, answer: Answer)
     ensures { λ _. ⌜ now (answers .exit) ≡ written (now (answers .entry)) k (answerOutcome answer) ⌝ }
 {
     answers[3 * k] = answer.status();
-    answers[3 * k + 1] = answer.first(0);
-    answers[3 * k + 2] = answer.second(0);
+    answers[3 * k + 1] = answer.first();
+    answers[3 * k + 2] = answer.second();
 }
 
 // Runs the calls of the list, one after the other, and writes three words for each: 0 or the number of its refusal, then the numbers that it

@@ -1,5 +1,5 @@
 // The pool as the firmware calls it: every operation as a C function. Each answers 0 or the number of its refusal, asks nothing of its arguments, and
-// writes the numbers that it gives to lent places, which a refusal leaves as they were.
+// stores the numbers that it gives in lent places; a refusal neither reads nor writes these.
 use answers::Answer;
 use collector::Collection;
 use pool::Fresh;
@@ -20,7 +20,7 @@ ghost use Rattle.stack_marker.specs.StackCollect.{stackOutcome, stackOf};
 ghost use Rattle.tally.specs.TallyOf.{tallyOf};
 ghost use Rattle.image.specs.Load.{loadOf, checkOf};
 ghost use Rattle.save.specs.Save.{saveOf};
-ghost use Rattle.cellpool.specs.Interface.{givingNone, giving, givingTwo, tallying, withStack, number, saving, loading};
+ghost use Rattle.cellpool.specs.Interface.{givingNone, giving, givingTwo, tallying, withStack, number, numbers, saving, loading};
 
 // The answers of the operations that are no calls, as a call would answer.
 fn of_fresh(fresh: Fresh) -> Answer
@@ -65,29 +65,70 @@ fn of_occupied(occupied: Occupied) -> Answer
     }
 }
 
+// Stores the number that an answer gives, and answers its status. A refusal stores nothing.
+fn store(answer: Answer, place: &mut u32) -> u32
+    ensures { λ q. ⌜ (q, now (place .exit)) ≡ number (answerOutcome answer) (now (place .entry)) ⌝ }
+{
+    match answer {
+        Answer::Done => 0,
+        Answer::Allocated { visits } => {
+            *place = visits;
+            0
+        }
+        Answer::Number(x) => {
+            *place = x;
+            0
+        }
+        Answer::Collected { kept, visits: _ } => {
+            *place = kept;
+            0
+        }
+        Answer::Refused(refusal) => refusal.number(),
+    }
+}
+
+// The same of an answer that gives two numbers.
+fn store_two(answer: Answer, first: &mut u32, second: &mut u32) -> u32
+    ensures { λ q. ⌜ (q, now (first .exit), now (second .exit)) ≡ numbers (answerOutcome answer) (now (first .entry)) (now (second .entry)) ⌝ }
+{
+    match answer {
+        Answer::Done => 0,
+        Answer::Allocated { visits } => {
+            *first = visits;
+            0
+        }
+        Answer::Number(x) => {
+            *first = x;
+            0
+        }
+        Answer::Collected { kept, visits } => {
+            *first = kept;
+            *second = visits;
+            0
+        }
+        Answer::Refused(refusal) => refusal.number(),
+    }
+}
+
 #[no_mangle]
 pub extern "C" fn cellpool_fresh(words: &mut [u32], cells: &mut u32) -> u32
     ensures { λ q. ⌜ (q, now (words .exit), now (cells .exit)) ≡ giving (freshOf (now (words .entry))) (now (cells .entry)) ⌝ }
 {
-    let answer = of_fresh(Pool::fresh(words));
-    *cells = answer.first(*cells);
-    answer.status()
+    store(of_fresh(Pool::fresh(words)), cells)
 }
 
 #[no_mangle]
 pub extern "C" fn cellpool_copy(words: &mut [u32], r: u32, a: u32) -> u32
     ensures { λ q. ⌜ (q, now (words .exit)) ≡ givingNone (callOf (Call.Copy r a) (now (words .entry))) ⌝ }
 {
-    let answer = calls::copy(words, r, a);
-    answer.status()
+    calls::copy(words, r, a).status()
 }
 
 #[no_mangle]
 pub extern "C" fn cellpool_clear(words: &mut [u32], r: u32) -> u32
     ensures { λ q. ⌜ (q, now (words .exit)) ≡ givingNone (callOf (Call.Clear r) (now (words .entry))) ⌝ }
 {
-    let answer = calls::clear(words, r);
-    answer.status()
+    calls::clear(words, r).status()
 }
 
 #[no_mangle]
@@ -101,77 +142,63 @@ pub extern "C" fn cellpool_new(
 ) -> u32
     ensures { λ q. ⌜ (q, now (words .exit), now (visits .exit)) ≡ giving (callOf (Call.New r a b v) (now (words .entry))) (now (visits .entry)) ⌝ }
 {
-    let answer = calls::new(words, r, a, b, v);
-    *visits = answer.first(*visits);
-    answer.status()
+    store(calls::new(words, r, a, b, v), visits)
 }
 
 #[no_mangle]
 pub extern "C" fn cellpool_left(words: &mut [u32], r: u32, a: u32) -> u32
     ensures { λ q. ⌜ (q, now (words .exit)) ≡ givingNone (callOf (Call.Left r a) (now (words .entry))) ⌝ }
 {
-    let answer = calls::left(words, r, a);
-    answer.status()
+    calls::left(words, r, a).status()
 }
 
 #[no_mangle]
 pub extern "C" fn cellpool_right(words: &mut [u32], r: u32, a: u32) -> u32
     ensures { λ q. ⌜ (q, now (words .exit)) ≡ givingNone (callOf (Call.Right r a) (now (words .entry))) ⌝ }
 {
-    let answer = calls::right(words, r, a);
-    answer.status()
+    calls::right(words, r, a).status()
 }
 
 #[no_mangle]
 pub extern "C" fn cellpool_setleft(words: &mut [u32], a: u32, b: u32) -> u32
     ensures { λ q. ⌜ (q, now (words .exit)) ≡ givingNone (callOf (Call.SetLeft a b) (now (words .entry))) ⌝ }
 {
-    let answer = calls::set_left(words, a, b);
-    answer.status()
+    calls::set_left(words, a, b).status()
 }
 
 #[no_mangle]
 pub extern "C" fn cellpool_setright(words: &mut [u32], a: u32, b: u32) -> u32
     ensures { λ q. ⌜ (q, now (words .exit)) ≡ givingNone (callOf (Call.SetRight a b) (now (words .entry))) ⌝ }
 {
-    let answer = calls::set_right(words, a, b);
-    answer.status()
+    calls::set_right(words, a, b).status()
 }
 
 #[no_mangle]
 pub extern "C" fn cellpool_setvalue(words: &mut [u32], a: u32, v: u32) -> u32
     ensures { λ q. ⌜ (q, now (words .exit)) ≡ givingNone (callOf (Call.SetValue a v) (now (words .entry))) ⌝ }
 {
-    let answer = calls::set_value(words, a, v);
-    answer.status()
+    calls::set_value(words, a, v).status()
 }
 
 #[no_mangle]
 pub extern "C" fn cellpool_value(words: &mut [u32], a: u32, value: &mut u32) -> u32
     ensures { λ q. ⌜ (q, now (words .exit), now (value .exit)) ≡ giving (callOf (Call.Value a) (now (words .entry))) (now (value .entry)) ⌝ }
 {
-    let answer = calls::value(words, a);
-    *value = answer.first(*value);
-    answer.status()
+    store(calls::value(words, a), value)
 }
 
 #[no_mangle]
 pub extern "C" fn cellpool_same(words: &mut [u32], a: u32, b: u32, same: &mut u32) -> u32
     ensures { λ q. ⌜ (q, now (words .exit), now (same .exit)) ≡ giving (callOf (Call.Same a b) (now (words .entry))) (now (same .entry)) ⌝ }
 {
-    let answer = calls::same(words, a, b);
-    *same = answer.first(*same);
-    answer.status()
+    store(calls::same(words, a, b), same)
 }
 
 #[no_mangle]
 pub extern "C" fn cellpool_collect(words: &mut [u32], kept: &mut u32, visits: &mut u32) -> u32
     ensures { λ q. ⌜ (q, now (words .exit), now (kept .exit), now (visits .exit)) ≡ givingTwo (callOf Call.Collect (now (words .entry))) (now (kept .entry)) (now (visits .entry)) ⌝ }
 {
-    let answer = calls::collect(words);
-    *kept = answer.first(*kept);
-    *visits = answer.second(*visits);
-    answer.status()
+    store_two(calls::collect(words), kept, visits)
 }
 
 // The tally is two lent numbers here.
@@ -186,17 +213,24 @@ pub extern "C" fn cellpool_collect_tally(
     ensures { λ q. ⌜ (q, now (words .exit), now (collections .exit), now («total_visits» .exit), now (kept .exit), now (visits .exit)) ≡ tallying (tallyOf (now (words .entry)) (record { collections = now (collections .entry); visits = now («total_visits» .entry) })) (now (kept .entry)) (now (visits .entry)) ⌝ }
 {
     let collection = collector::collect(words);
-    let before = Tally {
-        collections: *collections,
-        visits: *total_visits,
-    };
-    let after = before.after(collection);
-    *collections = after.collections;
-    *total_visits = after.visits;
-    let answer = of_collection(collection);
-    *kept = answer.first(*kept);
-    *visits = answer.second(*visits);
-    answer.status()
+    match collection {
+        Collection::Kept {
+            kept: count,
+            visits: made,
+        } => {
+            let before = Tally {
+                collections: *collections,
+                visits: *total_visits,
+            };
+            let after = before.after(collection);
+            *collections = after.collections;
+            *total_visits = after.visits;
+            *kept = count;
+            *visits = made;
+            0
+        }
+        Collection::Refused(refusal) => refusal.number(),
+    }
 }
 
 // Kept, and 1 where the stack was enough, 0 where it was not.
@@ -209,10 +243,11 @@ pub extern "C" fn cellpool_collect_stack(
 ) -> u32
     ensures { λ q. ⌜ (q, now (words .exit), now (stack .exit), now (kept .exit), now (enough .exit)) ≡ withStack (stackOf (now (words .entry)) (now (stack .entry))) (now (kept .entry)) (now (enough .entry)) ⌝ }
 {
-    let answer = of_stack(stack_marker::collect_stack(words, stack));
-    *kept = answer.first(*kept);
-    *enough = answer.second(*enough);
-    answer.status()
+    store_two(
+        of_stack(stack_marker::collect_stack(words, stack)),
+        kept,
+        enough,
+    )
 }
 
 #[no_mangle]
@@ -223,10 +258,11 @@ pub extern "C" fn cellpool_collect_recursive(
 ) -> u32
     ensures { λ q. ⌜ (q, now (words .exit), now (kept .exit), now (visits .exit)) ≡ givingTwo (recursiveOf (now (words .entry))) (now (kept .entry)) (now (visits .entry)) ⌝ }
 {
-    let answer = of_collection(recursive_marker::collect_recursive(words));
-    *kept = answer.first(*kept);
-    *visits = answer.second(*visits);
-    answer.status()
+    store_two(
+        of_collection(recursive_marker::collect_recursive(words)),
+        kept,
+        visits,
+    )
 }
 
 #[no_mangle]
@@ -268,7 +304,5 @@ pub extern "C" fn cellpool_check_image(bytes: &[u8], n: u32) -> u32
 pub extern "C" fn cellpool_occupancy(kept: u32, n: u32, percent: &mut u32) -> u32
     ensures { λ q. ⌜ (q, now (percent .exit)) ≡ number (occupancyOf kept n) (now (percent .entry)) ⌝ }
 {
-    let answer = of_occupied(pool::occupancy(kept, n));
-    *percent = answer.first(*percent);
-    answer.status()
+    store(of_occupied(pool::occupancy(kept, n)), percent)
 }

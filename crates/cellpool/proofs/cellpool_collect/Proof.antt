@@ -7,28 +7,15 @@ use Rattle.cellpool.proofs.Answered.{giving-two-made}
 collect-requires : tie.Need-collect-requires
 collect-requires c κs = search needs
 
-first-requires : tie.Need-first-requires
-first-requires c κs = search needs
-
-second-requires : tie.Need-second-requires
-second-requires c κs = search needs
-
-status-requires : tie.Need-status-requires
-status-requires c κs = search needs
+store-two-requires : tie.Need-store-two-requires
+store-two-requires c κs = search needs
 
 same-length : tie.Need-same-length
 same-length c = search needs
 
 returns : tie.Need-returns
-returns c = giving-two-made _ _ _ (c .before .before .before .before .before .before .before .collect .ensures) _ (c .status .ensures) _ _ _ _ (c .before .before .before .first .ensures) (c .before .second .ensures)
+returns c = giving-two-made _ _ _ (c .before .before .before .before .before .collect .ensures) _ _ _ _ _ (c .store-two .ensures)
 
 pub cellpool-collect-spec : {M : Type 1} → statement M
 cellpool-collect-spec =
-    tie.close
-    (tie.spec
-    collect-requires
-    first-requires
-    second-requires
-    status-requires
-    same-length
-    returns)
+    tie.close (tie.spec collect-requires store-two-requires same-length returns)

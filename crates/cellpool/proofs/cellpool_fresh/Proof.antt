@@ -2,9 +2,7 @@
 use borrow.Author.Needs.{needs}
 use Rattle.cellpool.proofs.cellpool_fresh.Statement.{statement}
 use Rattle.cellpool.proofs.cellpool_fresh.Tie as tie
-use mathlib.Core.Path.{ap, _∙_}
-use Rattle.pool.specs.Outcome.{Outcome, status}
-use Rattle.cellpool.proofs.Answered.{giving-made}
+use Rattle.cellpool.proofs.Answered.{giving-made, as-answer}
 
 fresh-requires : tie.Need-fresh-requires
 fresh-requires c κs = search needs
@@ -12,26 +10,15 @@ fresh-requires c κs = search needs
 of-fresh-requires : tie.Need-of-fresh-requires
 of-fresh-requires c κs = search needs
 
-first-requires : tie.Need-first-requires
-first-requires c κs = search needs
-
-status-requires : tie.Need-status-requires
-status-requires c κs = search needs
+store-requires : tie.Need-store-requires
+store-requires c κs = search needs
 
 same-length : tie.Need-same-length
 same-length c = search needs
 
 returns : tie.Need-returns
-returns c =
-    giving-made _ _ _ (ap (λ (o : Outcome). (o, c .before .before .before .before .before .before .fresh .last .0)) (c .before .before .before .of-fresh .ensures) ∙ c .before .before .before .before .before .before .fresh .ensures) _ (c .status .ensures) _ _ (c .before .first .ensures)
+returns c = giving-made _ _ _ (as-answer (c .before .before .of-fresh .ensures) (c .before .before .before .before .before .fresh .ensures)) _ _ _ (c .store .ensures)
 
 pub cellpool-fresh-spec : {M : Type 1} → statement M
 cellpool-fresh-spec =
-    tie.close
-    (tie.spec
-    fresh-requires
-    of-fresh-requires
-    first-requires
-    status-requires
-    same-length
-    returns)
+    tie.close (tie.spec fresh-requires of-fresh-requires store-requires same-length returns)

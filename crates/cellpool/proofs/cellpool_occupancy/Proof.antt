@@ -10,16 +10,12 @@ occupancy-requires c κs = search needs
 of-occupied-requires : tie.Need-of-occupied-requires
 of-occupied-requires c κs = search needs
 
-first-requires : tie.Need-first-requires
-first-requires c κs = search needs
-
-status-requires : tie.Need-status-requires
-status-requires c κs = search needs
+store-requires : tie.Need-store-requires
+store-requires c κs = search needs
 
 returns : tie.Need-returns
-returns c = simp (c .status .ensures, c .before .first .ensures, c .before .before .before .of-occupied .ensures ∙ c .before .before .before .before .occupancy .ensures)
+returns c = c .store .ensures ∙ simp (c .before .before .of-occupied .ensures, c .before .before .before .occupancy .ensures)
 
 pub cellpool-occupancy-spec : {M : Type 1} → statement M
 cellpool-occupancy-spec =
-    tie.close
-    (tie.spec occupancy-requires of-occupied-requires first-requires status-requires returns)
+    tie.close (tie.spec occupancy-requires of-occupied-requires store-requires returns)
