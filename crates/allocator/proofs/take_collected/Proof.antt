@@ -31,7 +31,7 @@ returns-2 c =
     let at-visits = c .before .before .before .before in
     let at-collect-in = at-visits .before .before .before .before in
     let at-pre = at-collect-in .before .before .before in
-    take-full _ _ (swept _ _ _ (at-collect-in .collect-in .ensures) (at-visits .visits .given .1)) _ _ _ _ (at-pre .pre .1) (at-pre .pre .0) (at-pre .pre .4) (c .before .read-head .ensures) (c .if1 .taken)
+    take-full _ _ (swept _ _ _ (at-collect-in .collect-in .ensures) (at-visits .visits .given .1)) _ _ _ _ (at-pre .pre .1) (at-pre .pre .0) (at-pre .pre .4) (c .before .read-head .ensures) (omega (arith, c .if1 .taken))
 
 take-head-requires : tie.Need-take-head-requires
 take-head-requires c κs =
@@ -48,7 +48,7 @@ returns-3 c =
     let at-if1 = c .before .before .before .before in
     let at-visits = at-if1 .before .before .before .before in
     let at-collect-in = at-visits .before .before .before .before in
-    take-done _ _ (swept _ _ _ (at-collect-in .collect-in .ensures) (at-visits .visits .given .1)) _ _ _ _ (at-if1 .before .read-head .ensures) (at-if1 .if1 .left) (c .before .before .take-head .ensures)
+    take-done _ _ (swept _ _ _ (at-collect-in .collect-in .ensures) (at-visits .visits .given .1)) _ _ _ _ (at-if1 .before .read-head .ensures) (λ z. omega (arith, at-if1 .if1 .left)) (c .before .before .take-head .ensures)
 
 pub take-collected-spec : {M : Type 1} → statement M
 take-collected-spec =

@@ -34,7 +34,7 @@ loop-again : tie.Need-loop-again Inv-loop μ-loop
 loop-again c =
     let l = c .before .before .before .before .before .before .before .before in
     turn-kept registerCount _ _ (l .before .before .pre) _ _ _ _ (c .before .before .before .before .before .before .before .loop-test .taken) (l .loop .inv) _ _
-    (c .before .before .before .before .before .read-cell .ensures) (c .before .before .before .before .if1 .taken) (c .before .before .write-cell .ensures)
+    (c .before .before .before .before .before .read-cell .ensures) (omega (arith, c .before .before .before .before .if1 .taken)) (c .before .before .write-cell .ensures)
 
 free-cell-requires : tie.Need-free-cell-requires Inv-loop μ-loop
 free-cell-requires c κs = omega (arith, c .before .before .before .before .before .loop .inv .swept .len)
@@ -49,7 +49,7 @@ loop-again-2 : tie.Need-loop-again-2 Inv-loop μ-loop
 loop-again-2 c =
     let l = c .before .before .before .before .before .before .before .before in
     turn-free registerCount _ _ (l .before .before .pre) _ _ _ _ (c .before .before .before .before .before .before .before .loop-test .taken) (l .loop .inv) _ _
-    (c .before .before .before .before .before .read-cell .ensures) (c .before .before .before .before .if1 .left) (c .before .before .free-cell .ensures)
+    (c .before .before .before .before .before .read-cell .ensures) (λ is. omega (arith, c .before .before .before .before .if1 .left)) (c .before .before .free-cell .ensures)
 
 write-head-requires : tie.Need-write-head-requires Inv-loop μ-loop
 write-head-requires c κs = omega (arith, c .before .before .loop .inv .swept .len)
