@@ -38,32 +38,14 @@ after-one n seen p e =
     ∙ marked-mark n (after n seen) p (after-cells n seen .above p e) (after-cells n seen .below p e) e
 
 module _ (n : ℕ) (g : Graph) where
-  -- A visit, by whether it adds nothing.
-  abbrev visitIf : ℕ → List ℕ → ℕ → Bool → List ℕ
-  visitIf depth seen p b = elim b [ true ↦ seen | false ↦ visit depth g (visit depth g (seen ++ (p ∷ [])) (g .left p)) (g .right p) ]
-
   -- A link that is marked adds nothing, whatever the depth.
   stops : (depth : ℕ) (seen : List ℕ) (p : ℕ) → p ≤ n → 0 < after n seen p → visit depth g seen p ≡ seen
   unfolding visit
   stops zero seen p w h = refl
-  stops (suc depth) seen p w h = ap (visitIf depth seen p) test
-    where
-      test : (eqb p 0 || has p seen) ≡ true
-      test =
-          ⊎-elim (λ k. rw (has-member p {xs = seen} k) (or-true (eqb p 0)))
-          (λ k. ⊎-elim (λ e. rw (eq-eqb p 0 e)) (λ a. absurd (omega (arith, outside-cell n p a w))) (zero-or-above p))
-          (marks-cases (outside n) seen p h)
-
-  -- A link that is unmarked adds its cell, and then what its left and its right link add.
-  goes : (depth : ℕ) (seen : List ℕ) (p : ℕ) → after n seen p ≡ 0
-      → visit (suc depth) g seen p ≡ visit depth g (visit depth g (seen ++ (p ∷ [])) (g .left p)) (g .right p)
-  unfolding visit
-  goes depth seen p e = ap (visitIf depth seen p) test
-    where
-      test : (eqb p 0 || has p seen) ≡ false
-      test =
-          let a : 0 < p = after-cells n seen .above p e in
-          rw (ne-eqb p 0 (omega arith), has-none p seen (λ k. omega (arith, marks-member (outside n) p k)))
+  stops (suc depth) seen p w h =
+      ⊎-elim (λ k. rw (has-member p {xs = seen} k, visit, or-true (eqb p 0)))
+      (λ k. ⊎-elim (λ e. rw (eq-eqb p 0 e, visit)) (λ a. absurd (omega (arith, outside-cell n p a w))) (zero-or-above p))
+      (marks-cases (outside n) seen p h)
 
   -- The visit of a link, with some depth and the cells seen, adds to them what the relation says.
   record Visited (depth : ℕ) (seen : List ℕ) (p : ℕ) : Type 0 where
@@ -79,7 +61,9 @@ module _ (n : ℕ) (g : Graph) where
   -- The visit of an unmarked link, from those of its two links.
   both : (depth : ℕ) (seen : List ℕ) (p : ℕ) → after n seen p ≡ 0 → (a : Visited depth (seen ++ (p ∷ [])) (g .left p))
       → Visited depth ((seen ++ (p ∷ [])) ++ a .new) (g .right p) → Visited (suc depth) seen p
+  unfolding visit
   both depth seen p e a b =
+      let above : 0 < p = after-cells n seen .above p e in
       record {
         new = p ∷ (a .new ++ b .new);
         dfs =
@@ -87,8 +71,8 @@ module _ (n : ℕ) (g : Graph) where
             (subst (λ (m : ℕ → ℕ). Dfs g m (g .right p) (b .new))
             (after-append n (seen ++ (p ∷ [])) (a .new) ∙ ap (λ (m : ℕ → ℕ). marks m (a .new)) (after-cell n seen p)) (b .dfs));
         adds =
-            goes depth seen p e ∙ ap (λ (s : List ℕ). visit depth g s (g .right p)) (a .adds) ∙ b .adds
-            ∙ simp append-assoc;
+            rw (ne-eqb p 0 (omega arith), has-none p seen (λ k. omega (arith, marks-member (outside n) p k)), visit)
+            (ap (λ (s : List ℕ). visit depth g s (g .right p)) (a .adds) ∙ b .adds ∙ simp append-assoc);
       }
 
   module _ (roots : List ℕ) (w : Within n g roots) where

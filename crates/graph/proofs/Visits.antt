@@ -97,7 +97,7 @@ module _ {g : Graph} where
         record {
           keeps = marks-keeps m t;
           rooted = all-itself d;
-          closed = λ x e h. all-links d x (newly x e h);
+          closed = λ x e h. let (left, right) = all-links d x (newly x e h) in (omega arith, omega arith);
           only = λ x e h. all-reached d z (λ y k. Reach.root k) x (newly x e h);
         }
       where
