@@ -1,7 +1,7 @@
 -- The proof of what a collection does to a well-formed pool.
 use Prim.Native.Nat.{ℕ, _*_, _<_, _≤_}
 use native.Mathlib.Omega.{arith}
-use mathlib.Core.Path.{_≡_, refl, ap, ap₂, _∙_}
+use mathlib.Core.Path.{_≡_, refl, sym, ap, ap₂, _∙_}
 use mathlib.Core.List.{List, [], _∷_}
 use mathlib.Core.Bool.{Bool, true, false}
 use lib.ListN.{length}
@@ -10,20 +10,43 @@ use Rattle.graph.proofs.Theorems.{order-reached, order-distinct}
 use Rattle.graph.proofs.Reached.{reach-above, reach-within}
 use Rattle.pool.specs.Layout.{registerCount, poolLength, cellsOf, count, graphOf, rootsOf}
 use Rattle.pool.specs.Validity.{wellFormed}
-use Rattle.pool.specs.Outcome.{answered}
+use Rattle.pool.specs.Retain.{sweepOf}
+use Rattle.pool.specs.Outcome.{Outcome, answered}
 use Rattle.pool.proofs.Questions.{cells-sized, cells-same}
 use Rattle.pool.proofs.WellFormed.{WellFormed, well-formed-read, well-formed-made}
 use Rattle.pool.proofs.PoolGraph.{pool-within}
 use Rattle.pool.proofs.Retained.{length-retain, retain-register, retain-count}
 use Rattle.pool.proofs.RetainedPool.{retained-used, retained-free, retained-free-list}
-use Rattle.collector.specs.Collect.{reachedCells, isReached, keptCells, collected, collectOf}
-use Rattle.collector.specs.CollectTheorem.{Reached, Collected, Collection-keeps-the-reached}
+use Rattle.collector.specs.Collect.{reachedCells, isReached, keptCells, collected, collectIn, collectOf}
+use Rattle.collector.specs.ReversalTheorem.{markedOf}
+use Rattle.collector.specs.CollectTheorem.{Reached, Collected, Collection-keeps-the-reached, Collection-marks-and-sweeps}
+use Rattle.collector.proofs.Roots.{run-over-pool, roots-same}
+use Rattle.collector.proofs.MarkSweep.{swept-reached}
 use Rattle.collector.proofs.Collected.{reached-kept, kept-reached, collected-field, collected-well-formed, collected-order, collected-again, collected-full}
 
--- a well-formed pool of n cells is accepted
-accepted : (n : ℕ) (w : List ℕ) → 0 < n → cellsOf registerCount w ≡ n → wellFormed registerCount n w ≡ true
-    → collectOf w ≡ (answered (keptCells registerCount n w ∷ 3 * keptCells registerCount n w ∷ []), collected registerCount n w)
-accepted n w some cells well = rw cells (simp (lt-ltb 0 n some, well))
+-- the collection of a pool of n cells is the marker's runs and the sweep
+swept : (n : ℕ) (w : List ℕ) → wellFormed registerCount n w ≡ true → poolLength registerCount n ≤ length w
+    → let (visits, marked) = markedOf registerCount n w in
+    let (kept, after) = sweepOf registerCount n marked in
+    collectIn n w ≡ (answered (kept ∷ visits ∷ []), after)
+swept n w well room =
+    rw well
+    (ap (λ (x : ℕ × List ℕ). (answered (x .0 ∷ 3 * keptCells registerCount n w ∷ []), x .1))
+    (sym (swept-reached registerCount n w (well-formed-read registerCount n w well) room)))
+
+-- so the code that marks and then sweeps collects
+pub collect-made : (n : ℕ) (w w₁ w₂ : List ℕ) (visits kept : ℕ) → wellFormed registerCount n w ≡ true → poolLength registerCount n ≤ length w
+    → _≡_ {A = ℕ × List ℕ} (visits, w₁) (markedOf registerCount n w) → _≡_ {A = ℕ × List ℕ} (kept, w₂) (sweepOf registerCount n w₁)
+    → _≡_ {A = Outcome × List ℕ} (answered (kept ∷ visits ∷ []), w₂) (collectIn n w)
+collect-made n w w₁ w₂ visits kept well room mark sweep =
+    sym
+    (swept n w well room
+    ∙ ap₂ (λ (m s : ℕ × List ℕ). (answered (s .0 ∷ m .0 ∷ []), s .1)) (sym mark)
+    (ap (λ (m : ℕ × List ℕ). sweepOf registerCount n (m .1)) (sym mark) ∙ sym sweep))
+
+-- the words of a pool of n cells pass the first question
+accepted : (n : ℕ) (w : List ℕ) → 0 < n → cellsOf registerCount w ≡ n → collectOf w ≡ collectIn n w
+accepted n w some cells = rw cells (simp (lt-ltb 0 n some))
 
 module _ (n : ℕ) (w : List ℕ) (some : 0 < n) (cells : cellsOf registerCount w ≡ n) (well : wellFormed registerCount n w ≡ true) where
   facts : WellFormed registerCount n w
@@ -76,11 +99,24 @@ module _ (n : ℕ) (w : List ℕ) (some : 0 < n) (cells : cellsOf registerCount 
         count = count-after;
         cells = cells-after;
         well-formed = well-after;
-        again = accepted n after some cells-after well-after
-            ∙ ap₂ (λ (k : ℕ) (v : List ℕ). (answered (k ∷ 3 * k ∷ []), v)) (ap length (collected-order registerCount n w facts room)) (collected-again registerCount n w facts room);
+        again = accepted n after some cells-after
+            ∙ rw well-after (ap₂ (λ (k : ℕ) (v : List ℕ). (answered (k ∷ 3 * k ∷ []), v)) (ap length (collected-order registerCount n w facts room)) (collected-again registerCount n w facts room));
         full = collected-full registerCount n w facts room;
       }
 
+pub collection-marks-and-sweeps : Collection-marks-and-sweeps
+collection-marks-and-sweeps n w some cells well =
+    let (visits, marked) = markedOf registerCount n w in
+    let (kept, after) = sweepOf registerCount n marked in
+    let wide = room n w some cells well in
+    let runs = run-over-pool registerCount n w wide well in (
+      kept,
+      visits,
+      after,
+      accepted n w some cells ∙ swept n w well wide,
+      record { marked = marked; runs = runs; only = λ end other. roots-same registerCount n (graphOf registerCount w) other runs; swept = refl },
+    )
+
 pub collection-keeps-the-reached : Collection-keeps-the-reached
 collection-keeps-the-reached n w some cells well =
-    (reachedCells registerCount n w, collected registerCount n w, accepted n w some cells well, what-is-left n w some cells well)
+    (reachedCells registerCount n w, collected registerCount n w, accepted n w some cells ∙ rw well refl, what-is-left n w some cells well)

@@ -1,23 +1,20 @@
--- Marking and then sweeping a well-formed pool is the collection of the definition.
+-- Sweeping a marked pool keeps the reached cells.
 use Prim.Native.Nat.{ℕ, suc, _<_, _≤_}
 use native.Mathlib.Omega.{arith}
-use mathlib.Core.Path.{_≡_, refl, sym, ap, ap₂, _∙_}
+use mathlib.Core.Path.{_≡_, refl, sym, ap₂, _∙_}
 use mathlib.Core.List.{List, [], _∷_, List·Memᴰ, List·Memᴰ·head, List·Memᴰ·tail}
 use mathlib.Core.Bool.{Bool, true, false, true≢false}
 use lib.ListN.{length, getD}
 use borrow.Author.Tests.{eq-eqb, ne-eqb}
 use Rattle.graph.proofs.Lists.{has-member, member-has}
 use Rattle.graph.proofs.Reached.{reach-above, reach-within}
-use Rattle.pool.specs.Layout.{registerCount, poolLength, setCell, state}
-use Rattle.pool.specs.Validity.{wellFormed}
+use Rattle.pool.specs.Layout.{poolLength, setCell, state}
 use Rattle.pool.specs.Retain.{marked, sweepOf}
-use Rattle.pool.specs.Outcome.{Outcome, answered}
-use Rattle.pool.proofs.WellFormed.{Cell, WellFormed, well-formed-read}
+use Rattle.pool.proofs.WellFormed.{Cell, WellFormed}
 use Rattle.pool.proofs.PoolGraph.{pool-within}
 use Rattle.pool.proofs.Retained.{Elsewhere, setCell-elsewhere, kept-cong, retain-cong}
 use Rattle.collector.specs.Reversal.{markAll}
-use Rattle.collector.specs.ReversalTheorem.{markedOf}
-use Rattle.collector.specs.Collect.{reachedCells, isReached, keptCells, collected, collectIn}
+use Rattle.collector.specs.Collect.{reachedCells, isReached, keptCells, collected}
 use Rattle.collector.proofs.MarkAll.{length-markAll, field-markAll, state-markAll-same, state-markAll-other}
 use Rattle.collector.proofs.Collected.{kept-reached, kept-count}
 
@@ -63,12 +60,3 @@ module _ (R n : ℕ) (w : List ℕ) (well : WellFormed R n w) (room : poolLength
       (length-markAll R w (reachedCells R n w)) marked-reached
       (λ k other away. markAll-elsewhere R n (reachedCells R n w) w k reached-cells away)
       λ j f low high hf e. field-markAll R j (suc f) low (omega arith) hf (reachedCells R n w) positive w)
-
-pub collect-made : (n : ℕ) (w w₁ w₂ : List ℕ) (visits kept : ℕ) → wellFormed registerCount n w ≡ true → poolLength registerCount n ≤ length w
-    → _≡_ {A = ℕ × List ℕ} (visits, w₁) (markedOf registerCount n w) → _≡_ {A = ℕ × List ℕ} (kept, w₂) (sweepOf registerCount n w₁)
-    → _≡_ {A = Outcome × List ℕ} (answered (kept ∷ visits ∷ []), w₂) (collectIn n w)
-collect-made n w w₁ w₂ visits kept well room mark sweep =
-    let words : w₁ ≡ markAll registerCount w (reachedCells registerCount n w) = ap (λ (x : ℕ × List ℕ). x .1) mark in
-    let swept : _≡_ {A = ℕ × List ℕ} (kept, w₂) (keptCells registerCount n w, collected registerCount n w) =
-    sweep ∙ (ap (sweepOf registerCount n) words ∙ swept-reached registerCount n w (well-formed-read registerCount n w well) room) in
-    rw well (ap₂ (λ (v : ℕ) (x : ℕ × List ℕ). (answered (x .0 ∷ v ∷ []), x .1)) (ap (λ (x : ℕ × List ℕ). x .0) mark) swept)

@@ -1,7 +1,8 @@
 -- The runs over the links of the roots.
 use Prim.Native.Nat.{ℕ, suc, _+_, _*_, _≤_}
 use native.Mathlib.Omega.{arith}
-use mathlib.Core.Path.{_≡_, refl, sym}
+use mathlib.Core.Path.{_≡_, refl, sym, _∙_}
+use mathlib.Core.Bool.{true≢false, false≢true}
 use mathlib.Core.List.{List, _∷_, _++_, List·Memᴰ, List·Memᴰ·head, List·Memᴰ·tail}
 use lib.ListN.{length, length-append}
 use Rattle.graph.specs.Graph.{Graph}
@@ -18,6 +19,7 @@ use Rattle.pool.proofs.WellFormed.{well-formed-read}
 use Rattle.pool.proofs.PoolGraph.{pool-within}
 use Rattle.collector.proofs.PoolMarks.{stateMarks, agreement, alike}
 use Rattle.collector.proofs.Run.{run-from-link}
+use Rattle.collector.proofs.RunLoop.{run-same}
 
 module _ (R n : ℕ) (g : Graph) where
   recount : {ps : List ℕ} {s : ℕ × List ℕ} {c c′ : ℕ} {w w′ : List ℕ} → c ≡ c′ → w ≡ w′ → MarkRoots R n ps s (c, w) → MarkRoots R n ps s (c′, w′)
@@ -35,6 +37,14 @@ module _ (R n : ℕ) (g : Graph) where
       recount (simp length-append (omega arith)) (sym (markAll-append R w new v))
       (MarkRoots.run (unmarked-true R n g a p e) (3 * length new, p, run-from-link R n g m p new w a d e (suc n) c)
       (runs rest (markAll R w new) (agreement-dfs R n g a d) (λ x mem. bound x (List·Memᴰ·tail mem)) (c + 3 * length new)))
+
+  -- two derivations from one start have one end
+  pub roots-same : {ps : List ℕ} {s t u : ℕ × List ℕ} → MarkRoots R n ps s t → MarkRoots R n ps s u → t ≡ u
+  roots-same MarkRoots.none MarkRoots.none = refl
+  roots-same (MarkRoots.skip h a) (MarkRoots.skip k b) = roots-same a b
+  roots-same (MarkRoots.skip h a) (MarkRoots.run k r b) = absurd (false≢true (sym h ∙ k))
+  roots-same (MarkRoots.run h r a) (MarkRoots.skip k b) = absurd (true≢false (sym h ∙ k))
+  roots-same (MarkRoots.run h r a) (MarkRoots.run k r′ b) = roots-same a (rw (run-same R n r r′) b)
 
 pub run-from-roots : RunFromRoots
 run-from-roots R n g m ps t w a d bound c = runs R n g d w a bound c

@@ -46,6 +46,15 @@ module _ (R n : ℕ) where
   visits-end Visits.done past = refl
   visits-end (Visits.more v rest) past = absurd (omega (arith, v .bounded))
 
+  -- two runs from one start have one end
+  visits-same : {j k : ℕ} {s t u : Marker × List ℕ} → Visits R n j s t → Visits R n k s u → n < t .0 .cell → n < u .0 .cell → t ≡ u
+  visits-same Visits.done b past past′ = visits-end b past
+  visits-same (Visits.more v a) Visits.done past past′ = absurd (omega (arith, v .bounded))
+  visits-same (Visits.more v a) (Visits.more v′ b) past past′ = visits-same a b past past′
+
+  pub run-same : {p : ℕ} {s t u : ℕ × List ℕ} → Run R n p s t → Run R n p s u → t ≡ u
+  run-same (j, q, a) (k, q′, b) = ap (λ (x : Marker × List ℕ). (x .0 .visits, x .1)) (visits-same a b (omega arith) (omega arith))
+
   -- what the loop keeps: of every run from the start, visits are left that lead to its end
   pub record Going (p c : ℕ) (w₀ w : List ℕ) (m : Marker) : Type 0 where
     pub len : length w ≡ length w₀

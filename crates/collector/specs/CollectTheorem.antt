@@ -9,9 +9,10 @@ use Rattle.graph.specs.Graph.{Reach}
 use Rattle.graph.specs.Theorems.{Distinct}
 use Rattle.pool.specs.Layout.{registerCount, cellsOf, count, head, register, state, left, right, value, graphOf, rootsOf}
 use Rattle.pool.specs.Validity.{wellFormed}
-use Rattle.pool.specs.Retain.{freeList, freeCells}
+use Rattle.pool.specs.Retain.{freeList, freeCells, sweepOf}
 use Rattle.pool.specs.Outcome.{answered}
 use Rattle.collector.specs.Collect.{isReached, collectOf}
+use Rattle.collector.specs.ReversalTheorem.{MarkRoots}
 
 -- Cell x can be reached from the registers over left and right.
 abbrev pub Reached : List ℕ → ℕ → Type 0
@@ -44,8 +45,27 @@ pub record Collected (n : ℕ) (w w' kept : List ℕ) : Type 0 where
   -- Where all n cells are reached, and the free list was empty, nothing changes at all.
   pub full : length kept ≡ n → head w ≡ 0 → w' ≡ w
 
--- Demand 2: "A collection keeps exactly what the registers reach, links and values as before, frees the rest; visits are three a kept cell; .."
+-- Demand 2: a collection keeps exactly the cells that the registers reach, with their links and values, and frees all others; it answers how many it
+-- kept, and three visits for each.
 abbrev pub Collection-keeps-the-reached : Type 0
 Collection-keeps-the-reached =
     (n : ℕ) (w : List ℕ) → 0 < n → cellsOf registerCount w ≡ n → wellFormed registerCount n w ≡ true
     → (kept w' : List ℕ) × (collectOf w ≡ (answered (length kept ∷ 3 * length kept ∷ []), w')) × Collected n w w' kept
+
+-- A collection of the pool w of n cells that answers `kept` and `visits` and leaves w': the marker's runs over the registers, from 0 visits on, and
+-- then the sweep. "We report visits only": the number is that of the visits that were made, one after the other, whatever it comes to.
+pub record MarkedAndSwept (n : ℕ) (w : List ℕ) (kept visits : ℕ) (w' : List ℕ) : Type 0 where
+  -- The words between the two.
+  pub marked : List ℕ
+  -- "It runs from each register in order .. whose cell has state 0".
+  pub runs : MarkRoots registerCount n (rootsOf registerCount w) (0, w) (visits, marked)
+  -- Each visit leaves no choice: whatever runs from there makes so many visits and leaves these words.
+  pub only : (end : ℕ × List ℕ) → MarkRoots registerCount n (rootsOf registerCount w) (0, w) end → end ≡ (visits, marked)
+  -- "The sweep sets state 3 to 0, frees every other cell and rebuilds the ascending chain."
+  pub swept : sweepOf registerCount n marked ≡ (kept, w')
+
+-- Visits are counted: what a collection answers and leaves is what marking by reversal and the sweep come to, the visits among it.
+abbrev pub Collection-marks-and-sweeps : Type 0
+Collection-marks-and-sweeps =
+    (n : ℕ) (w : List ℕ) → 0 < n → cellsOf registerCount w ≡ n → wellFormed registerCount n w ≡ true
+    → (kept visits : ℕ) × (w' : List ℕ) × (collectOf w ≡ (answered (kept ∷ visits ∷ []), w')) × MarkedAndSwept n w kept visits w'

@@ -3,7 +3,7 @@ use borrow.Author.Needs.{needs}
 use Rattle.recursive_marker.proofs.collect_in.Statement.{statement}
 use Rattle.recursive_marker.proofs.collect_in.Tie as tie
 use mathlib.Core.Path.{sym, _∙_}
-use Rattle.collector.proofs.MarkSweep.{collect-made}
+use Rattle.collector.proofs.CollectTheorem.{collect-made}
 
 well-formed-requires : tie.Need-well-formed-requires
 well-formed-requires c κs = search needs
