@@ -52,12 +52,14 @@ abbrev pub checkOf : List ℕ → ℕ → ℕ
 checkOf bytes n = cond (leb 1 n && leb n cellLimit) (imageVerdict (readImage registerCount n bytes)) 1
 
 -- What `load` gives, where load of these words and bytes is `loaded`: the verdict in the lent number, the words, and "the part of the bytes
--- behind the image; refused, the empty part at their end". The part is the caller's memory: it starts at `to`, and the bytes start at `from`.
-pub record Handed (loaded : Loaded × List ℕ) (bytes w : List ℕ) (v : ℕ) (rest : List ℕ) (from to : ℕ) : Type 0 where
+-- behind the image; refused, the empty part at their end". The part is the caller's own memory: it starts at `to`, and the bytes start at `from`, each
+-- a block of memory and a place in it.
+pub record Handed (loaded : Loaded × List ℕ) (bytes w : List ℕ) (v : ℕ) (rest : List ℕ) (from to : ℕ × ℕ) : Type 0 where
   pub verdict : v ≡ loaded .0 .verdict
   pub words : w ≡ loaded .1
   pub part : rest ≡ drop (loaded .0 .end) bytes
-  pub place : to ≡ from + loaded .0 .end
+  pub block : to .0 ≡ from .0
+  pub place : to .1 ≡ from .1 + loaded .0 .end
 
 -- The steps of load. The numbers that were read, none where there was a fault.
 abbrev pub numbersOf : Fields → List ℕ

@@ -111,8 +111,7 @@ fn scan_image(bytes: &[u8], n: u32) -> Scan
 }
 
 // Would these bytes be loaded into a pool of n cells? 0, or the number of the refusal.
-#[no_mangle]
-pub extern "C" fn check_image(bytes: &[u8], n: u32) -> u32
+pub fn check_image(bytes: &[u8], n: u32) -> u32
     ensures { λ r. ⌜ r ≡ checkOf (now (bytes .entry)) n ⌝ }
 {
     if n < 1 {
@@ -208,7 +207,7 @@ pub fn load_at(words: &mut [u32], bytes: &[u8]) -> Loaded
 
 // Loads the image at the start of the bytes. Gives the bytes behind it, and 0; or the empty part at their end, and the refusal's number.
 pub fn load<'a>(words: &mut [u32], bytes: &'a [u8], verdict: &mut u32) -> &'a [u8]
-    ensures { λ r. ⌜ Handed (loadOf (now (words .entry)) (now (bytes .entry))) (now (bytes .entry)) (now (words .exit)) (now (verdict .exit)) (now r) (bytes .entry .ptr .1) (r .ptr .1) ⌝ }
+    ensures { λ r. ⌜ Handed (loadOf (now (words .entry)) (now (bytes .entry))) (now (bytes .entry)) (now (words .exit)) (now (verdict .exit)) (now r) (bytes .entry .ptr) (r .ptr) ⌝ }
 {
     let loaded = load_at(words, bytes);
     let end = loaded.end;

@@ -4,7 +4,7 @@ use Rattle.image.proofs.load.Statement.{statement}
 use Rattle.image.proofs.load.Tie as tie
 use Prim.Native.Nat.{_≤_}
 use native.Mathlib.Omega.{arith}
-use mathlib.Core.Path.{ap}
+use mathlib.Core.Path.{refl, ap}
 use lib.ListN.{length}
 use Rattle.image.proofs.Loading.{load-end, load-part}
 use denote.Ref.{now}
@@ -41,6 +41,7 @@ returns c =
       verdict = ap (λ x. x .0 .verdict) e;
       words = ap (λ x. x .1) e;
       part = load-part (now (c .before .before .before .before .before .before .before .args .bytes)) _ _ (ap (λ x. x .0 .end) e);
+      block = refl;
       place = omega (arith, ap (λ x. x .0 .end) e);
     }
 
