@@ -2,15 +2,19 @@
 use Prim.Native.Nat.{ℕ, zero, suc, _+_, _*_, _<_, _≤_, _^_}
 use native.Mathlib.Omega.{arith}
 use mathlib.Core.Path.{_≡_, refl, sym, ap, _∙_}
-use mathlib.Core.List.{List, _∷_, _++_}
-use lib.ListN.{length, getD, drop}
+use mathlib.Core.List.{List, [], _∷_, _++_}
+use mathlib.Core.Bool.{Bool, true, false, cond}
+use lib.ListN.{length, getD, drop, replicate}
+use lib.Dec.{leb, ltb}
 use lib.Seq.{drop-append-seam}
-use borrow.Author.Tests.{lt-ltb}
+use borrow.Author.Tests.{lt-ltb, le-leb, ltb-true, leb-true}
 use Rattle.graph.specs.Theorems.{Distinct}
 use Rattle.graph.proofs.Theorems.{order-distinct, order-length}
 use Rattle.leb128.specs.Leb128.{encode}
 use Rattle.pool.specs.Words.{tabulate}
 use Rattle.pool.specs.Layout.{registerCount, cellLimit, cellsOfLength, cellsOf, cell, graphOf, rootsOf}
+use Rattle.pool.specs.Validity.{wellFormed}
+use Rattle.pool.specs.Outcome.{Outcome, answered, refused, status, given}
 use Rattle.pool.proofs.Every.{length-tabulate, getD-tabulate, tabulate-list, tabulate-member}
 use Rattle.pool.proofs.Questions.{length-sized, cells-sized}
 use Rattle.pool.proofs.WellFormed.{WellFormed, well-formed-read, well-formed-made}
@@ -21,6 +25,7 @@ use Rattle.image.specs.Image.{numberIn, fieldCount, savedField, encodeAll, imag
 use Rattle.image.specs.Load.{scanOf, loadedWords, loadOf}
 use Rattle.image.proofs.Scanning.{image-whole}
 use Rattle.image.proofs.Accepted.{whole-allowed}
+use Rattle.save.specs.Save.{saveImage}
 use Rattle.save.specs.RoundTrip.{Words, Renumbered, Restored, SaveThenLoad, LoadThenSave}
 use Rattle.save.proofs.Numbering.{place-none, number-at}
 use Rattle.image.proofs.Decoding.{Allowed, image-encoded}
@@ -65,10 +70,15 @@ module _ (R m K : ℕ) (vs : List ℕ) (few : K ≤ m) (size : length vs ≡ fie
       rw (visited, long) (ap (λ (l : List ℕ). encodeAll (K ∷ l)) same)
 
 pub load-then-save : LoadThenSave
-load-then-save m bytes K start vs end e visited =
+load-then-save m bytes K start vs end some most e visited s out long =
     let i = image-whole registerCount m bytes K start end (ap scanOf e) in
     let same : i .numbers ≡ vs = cc in
-    saved-again registerCount m K vs (i .few) (ap length (sym same) ∙ i .size) (λ j below. rw same at (whole-allowed i j below)) visited
+    let few = i .few in
+    let allowed : (j : ℕ) → j < fieldCount registerCount K → Allowed registerCount K j (getD vs j 0) = λ j below. rw same at (whole-allowed i j below) in
+    let cells = loaded-cells registerCount m K vs few some most in
+    let whole = well-formed-made registerCount m _ (loaded-well-formed registerCount m K vs few allowed) in
+    rw (cells, lt-ltb 0 m some, le-leb (2 * m) (length s) long, whole)
+    (ap (λ (x : List ℕ). saveImage x s out) (saved-again registerCount m K vs few (ap length (sym same) ∙ i .size) allowed visited))
 
 -- The image of the pool w of n cells, loaded into a pool of m cells.
 module _ (n : ℕ) (w : List ℕ) (m : ℕ) (few : keptCells registerCount n w ≤ m) (most : n ≤ cellLimit) (well : WellFormed registerCount n w)
@@ -105,29 +115,59 @@ module _ (n : ℕ) (w : List ℕ) (m : ℕ) (few : keptCells registerCount n w �
         order = renumbering.renumbered-order registerCount n w m few well;
       }
 
-  restored : (behind : List ℕ) → 1 ≤ m → m ≤ cellLimit → (loaded : Loaded × List ℕ)
+  restored : (out : List ℕ) → length (imageOf registerCount n w) ≤ length out → 1 ≤ m → m ≤ cellLimit → (loaded : Loaded × List ℕ)
       → loaded ≡ (record { verdict = 0; end = length (imageOf registerCount n w) }, loadedWords registerCount m K fields)
-      → Restored n w m (loaded .0 .verdict) (drop (loaded .0 .end) (imageOf registerCount n w ++ behind)) behind (loaded .1)
-  restored behind low high loaded is =
+      → let bytes = imageOf registerCount n w ++ drop (length (imageOf registerCount n w)) out in
+      Restored n w out (length (imageOf registerCount n w)) bytes m (loaded .0 .verdict) (drop (loaded .0 .end) bytes) (loaded .1)
+  restored out fits low high loaded is =
       let allowed = renumbering.fields-allowed registerCount n w m few in
       rw is
       (record {
         accepted = refl;
-        part = drop-append-seam (imageOf registerCount n w) behind;
+        part = drop-append-seam (imageOf registerCount n w) (drop (length (imageOf registerCount n w)) out);
         cells = loaded-cells registerCount m K fields few low high;
         well-formed = well-formed-made registerCount m _ (loaded-well-formed registerCount m K fields few allowed);
         renumbered = renumbered;
         kept = ap length (renumbered .order) ∙ length-tabulate K suc;
         free = loaded-free registerCount m K fields few low;
-        again = saved-again registerCount m K fields few size allowed (renumbered .order);
+        again =
+            λ s long.
+            load-then-save m (imageOf registerCount n w ++ []) K _ fields _ low high (image-read []) (renumbered .order) s out long
+            ∙ rw (le-leb (length (imageOf registerCount n w)) (length out) fits);
       })
 
+refusal : {k count : ℕ} {s t bytes out : List ℕ} → _≡_ {A = Outcome × List ℕ × List ℕ} (refused (suc k), s, out) (answered (count ∷ []), t, bytes) → ⊥
+refusal e = omega (arith, ap (λ (x : Outcome × List ℕ × List ℕ). status (x .0)) e)
+
+-- Where save answers the number of bytes, each of its questions was answered with yes.
+saved-whole : (image s out : List ℕ) (count : ℕ) (cleared bytes : List ℕ) (some scratch whole room : Bool)
+    → _≡_ {A = Outcome × List ℕ × List ℕ}
+    (cond some
+    (cond scratch
+    (cond whole
+    (cond room (answered (length image ∷ []), replicate (length s) 0, image ++ drop (length image) out) (refused 10, replicate (length s) 0, out))
+    (refused 3, s, out))
+    (refused 10, s, out))
+    (refused 1, s, out))
+    (answered (count ∷ []), cleared, bytes)
+    → (some ≡ true) × (whole ≡ true) × (room ≡ true) × (count ≡ length image) × (bytes ≡ image ++ drop (length image) out)
+saved-whole image s out count cleared bytes true true true true e =
+    (refl, refl, refl, sym (ap (λ (x : Outcome × List ℕ × List ℕ). given (x .0) 0 0) e), sym (ap (λ (x : Outcome × List ℕ × List ℕ). x .2) e))
+saved-whole image s out count cleared bytes true true true false e = absurd (refusal e)
+saved-whole image s out count cleared bytes true true false room e = absurd (refusal e)
+saved-whole image s out count cleared bytes true false whole room e = absurd (refusal e)
+saved-whole image s out count cleared bytes false scratch whole room e = absurd (refusal e)
+
 pub save-then-load : SaveThenLoad
-save-then-load w words behind word some whole room few =
+save-then-load w scratch out size cleared bytes words word saved target few =
     let n = cellsOf registerCount w in
     let m = cellsOfLength registerCount (length words) in
+    let image = imageOf registerCount n w in
+    let (some, whole, room, long, written) =
+    saved-whole image scratch out size cleared bytes (ltb 0 n) (leb (2 * n) (length scratch)) (wellFormed registerCount n w) (leb (length image) (length out)) saved in
     let well = well-formed-read registerCount n w whole in
-    let most = cells-sized registerCount w some .0 .most in
-    let sized = length-sized registerCount (length words) room in
-    restored n w m few most well word behind (sized .least) (sized .most) (loadOf words (imageOf registerCount n w ++ behind))
-    (simp (lt-ltb 0 m room, image-read n w m few most well word behind))
+    let most = cells-sized registerCount w (ltb-true 0 n some) .0 .most in
+    let sized = length-sized registerCount (length words) target in
+    rw (long, written)
+    (restored n w m few most well word out (leb-true (length image) (length out) room) (sized .least) (sized .most)
+    (loadOf words (image ++ drop (length image) out)) (simp (lt-ltb 0 m target, image-read n w m few most well word (drop (length image) out))))

@@ -1,17 +1,19 @@
 -- What is proved of save and load together: a loaded save is the saved graph, its cells numbered in the order of the visits.
-use Prim.Native.Nat.{ℕ, suc, _<_, _≤_, _^_}
+use Prim.Native.Nat.{ℕ, suc, _*_, _<_, _≤_, _^_}
 use mathlib.Core.Path.{_≡_}
-use mathlib.Core.List.{List, _∷_, _++_}
+use mathlib.Core.List.{List, [], _∷_}
 use mathlib.Core.Bool.{true}
-use lib.ListN.{length, getD, drop}
+use lib.ListN.{length, getD, drop, replicate}
 use lib.Dec.{leb}
 use Rattle.pool.specs.Words.{tabulate}
-use Rattle.pool.specs.Layout.{registerCount, cellsOfLength, cellsOf, register, left, right, value}
+use Rattle.pool.specs.Layout.{registerCount, cellLimit, cellsOfLength, cellsOf, register, left, right, value}
 use Rattle.pool.specs.Validity.{wellFormed}
 use Rattle.pool.specs.Retain.{freeList, freeCells}
+use Rattle.pool.specs.Outcome.{answered}
 use Rattle.collector.specs.Collect.{reachedCells, keptCells}
-use Rattle.image.specs.Image.{numberIn, encodeAll, imageOf, Image, readImage}
+use Rattle.image.specs.Image.{numberIn, encodeAll, Image, readImage}
 use Rattle.image.specs.Load.{loadedWords, loadOf}
+use Rattle.save.specs.Save.{saveImage, saveOf}
 
 -- Every element of the list is a 32-bit word.
 abbrev pub Words : List ℕ → Type 0
@@ -30,33 +32,38 @@ pub record Renumbered (n : ℕ) (w : List ℕ) (m : ℕ) (v : List ℕ) : Type 0
   -- The cells are now visited as 1, 2, ..: the i-th cell visited is cell i.
   pub order : reachedCells registerCount m v ≡ tabulate (keptCells registerCount n w) suc
 
--- What load gives of an image of the pool w of n cells, with any bytes behind it, where v are the words afterwards, of m cells.
-pub record Restored (n : ℕ) (w : List ℕ) (m : ℕ) (verdict : ℕ) (rest behind v : List ℕ) : Type 0 where
+-- A save of the pool w of n cells to the bytes `out` answered `size` and left `bytes` there. Load of these gives the verdict, hands back `rest`, and
+-- leaves the words v, of m cells.
+pub record Restored (n : ℕ) (w out : List ℕ) (size : ℕ) (bytes : List ℕ) (m verdict : ℕ) (rest v : List ℕ) : Type 0 where
   pub accepted : verdict ≡ 0
-  pub part : rest ≡ behind
+  -- The part behind the image is what stood behind it before: "output past the image stays".
+  pub part : rest ≡ drop size out
   pub cells : cellsOf registerCount v ≡ m
   pub well-formed : wellFormed registerCount m v ≡ true
   pub renumbered : Renumbered n w m v
   pub kept : keptCells registerCount m v ≡ keptCells registerCount n w
   -- The free list has every other cell, ascending.
   pub free : freeList registerCount m v ≡ freeCells (λ i. leb i (keptCells registerCount n w)) m 1
-  -- Save of the loaded words writes the same image again.
-  pub again : imageOf registerCount m v ≡ imageOf registerCount n w
+  -- Save of the loaded words answers the same, and writes the same bytes.
+  pub again : (s : List ℕ) → 2 * m ≤ length s → saveOf v s out ≡ (answered (size ∷ []), replicate (length s) 0, bytes)
 
--- Save, then load with any bytes behind the image into words of any pool that has room for the kept cells.
+-- Save, then load: whatever pool is saved, and to whatever bytes, load takes what save left there, into words of any pool that has room for the
+-- kept cells, and restores the graph.
 abbrev pub SaveThenLoad : Type 0
 SaveThenLoad =
-    (w words behind : List ℕ) → Words w
+    (w scratch out : List ℕ) (size : ℕ) (cleared bytes words : List ℕ) → Words w
+    → saveOf w scratch out ≡ (answered (size ∷ []), cleared, bytes)
     → let n = cellsOf registerCount w in
     let m = cellsOfLength registerCount (length words) in
-    let bytes = imageOf registerCount n w ++ behind in
     let loaded = loadOf words bytes in
-    0 < n → wellFormed registerCount n w ≡ true → 0 < m → keptCells registerCount n w ≤ m
-    → Restored n w m (loaded .0 .verdict) (drop (loaded .0 .end) bytes) behind (loaded .1)
+    0 < m → keptCells registerCount n w ≤ m
+    → Restored n w out size bytes m (loaded .0 .verdict) (drop (loaded .0 .end) bytes) (loaded .1)
 
--- Load, then save: an image whose cells are numbered in the order of the visits is saved with the same numbers.
+-- Load, then save: of an image whose cells are numbered in the order of the visits, save of the loaded words writes the same numbers.
 abbrev pub LoadThenSave : Type 0
 LoadThenSave =
-    (m : ℕ) (bytes : List ℕ) (K start : ℕ) (vs : List ℕ) (end : ℕ) → readImage registerCount m bytes ≡ Image.image K start vs end
-    → reachedCells registerCount m (loadedWords registerCount m K vs) ≡ tabulate K suc
-    → imageOf registerCount m (loadedWords registerCount m K vs) ≡ encodeAll (K ∷ vs)
+    (m : ℕ) (bytes : List ℕ) (K start : ℕ) (vs : List ℕ) (end : ℕ) → 0 < m → m ≤ cellLimit
+    → readImage registerCount m bytes ≡ Image.image K start vs end
+    → let v = loadedWords registerCount m K vs in
+    reachedCells registerCount m v ≡ tabulate K suc
+    → (s out : List ℕ) → 2 * m ≤ length s → saveOf v s out ≡ saveImage (encodeAll (K ∷ vs)) s out

@@ -1,7 +1,8 @@
 -- Each theorem applied to its instance: the hypotheses that specs/Instances.antt states are those of the theorems, and all of them.
 use native.Mathlib.Omega.{arith}
 use mathlib.Core.Path.{refl}
-use mathlib.Core.List.{[], _∷_}
+use mathlib.Core.List.{[], _∷_, _++_}
+use lib.ListN.{replicate}
 use Rattle.leb128.proofs.Theorems.{round-trip, fewest-groups, reads-within, prefix-free, one-to-one, one-to-five-bytes}
 use Rattle.graph.specs.Dfs.{marks}
 use Rattle.graph.specs.Marking.{outside}
@@ -14,7 +15,7 @@ use Rattle.pool.specs.Retain.{freshWords}
 use Rattle.pool.proofs.RetainedPool.{retained-free-list}
 use Rattle.pool.proofs.FreshPool.{fresh-is-free, fresh-is-well-formed}
 use Rattle.collector.specs.Collect.{isReached}
-use Rattle.collector.proofs.CollectTheorem.{collection-keeps-the-reached}
+use Rattle.collector.proofs.CollectTheorem.{collection-keeps-the-reached, collection-marks-and-sweeps}
 use Rattle.collector.proofs.Roots.{run-from-roots, run-over-pool}
 use Rattle.collector.proofs.Run.{run-from-link}
 use Rattle.stack_marker.proofs.Chain.{chain-needs}
@@ -33,7 +34,7 @@ use Rattle.script.proofs.Scanning.{parts-read}
 use Rattle.script.proofs.Decimals.{decimals-read-back, fewest-digits}
 use Rattle.interpreter.specs.Work.{start}
 use Rattle.interpreter.proofs.Whole.{starts-whole, parts-join, last-line-ends}
-use Rattle.worked_examples.specs.Instances.{three, threeCollected, two, graph, roots, Swapped, image, numbers, words, calls, list, out, padded, lines, progress, largest}
+use Rattle.worked_examples.specs.Instances.{three, threeCollected, two, graph, roots, Swapped, image, numbers, words, scratch, output, calls, list, out, padded, lines, progress, largest}
 use Rattle.worked_examples.proofs.Instances.{pool-instance, reversal-instance, graph-instance, number-instance, image-instance, batch-instance, script-instance}
 
 pub applied : Unit {0}
@@ -46,6 +47,7 @@ applied =
     let b = batch-instance in
     let s = script-instance in
     let t = collection-keeps-the-reached 3 three (p .some) (p .cells) (p .well-formed) in
+    let t = collection-marks-and-sweeps 3 three (p .some) (p .cells) (p .well-formed) in
     let t = run-over-pool registerCount 3 three (p .room) (p .well-formed) in
     let t = retained-free-list registerCount 3 (isReached registerCount 3 three) three (p .some) (p .room) in
     let t = fresh-is-well-formed 3 (p .some) (p .most) in
@@ -83,8 +85,8 @@ applied =
     let t = decimals-read-back 4294967295 (k .largest) in
     let t = check-is-load 2 image words (i .size) in
     let t = load-is-well-formed words image (i .accepted) in
-    let t = save-then-load three words [] (i .words32) (i .some) (i .well-formed) (i .target) (i .fit) in
-    let t = load-then-save 2 image 2 1 numbers 24 (i .read) (i .ordered) in
+    let t = save-then-load three scratch output 24 (replicate 6 0) (image ++ 9 ∷ 9 ∷ []) words (i .words32) (i .saved) (i .target) (i .fit) in
+    let t = load-then-save 2 image 2 1 numbers 24 (i .some) (i .most) (i .read) (i .ordered) scratch output (i .room) in
     let t = runs-one-after-the-other list calls (freshWords registerCount 3) out (b .program) (b .room) in
     let t = run-equivalence 3 2 list out calls (p .some) (p .most) (b .program) (b .room) in
     let t = never-malformed 3 calls (p .some) (p .most) (answered (1 ∷ 3 ∷ [])) (b .answer) in

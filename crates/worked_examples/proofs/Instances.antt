@@ -186,13 +186,15 @@ image-instance =
       accepted = refl;
       loaded = refl;
       words32 = below 4294967296 (omega arith) three refl;
-      some = omega arith;
-      well-formed = refl;
+      saved = refl;
+      saved-two = refl;
       target = omega arith;
       fit = omega arith;
-      saved = (refl, refl);
+      some = omega arith;
+      most = omega arith;
       read = refl;
       ordered = refl;
+      room = omega arith;
     }
 
 pub batch-instance : Batch-instance

@@ -26,8 +26,9 @@ use Rattle.batch.specs.declared.Ran.the-variants as ran
 use Rattle.batch.specs.Program.{programOf, programOfCalls}
 use Rattle.batch.specs.Run.{runOf, afterAll}
 use Rattle.reference.specs.Equivalence.{poolAnswers}
-use Rattle.image.specs.Image.{imageOf, Image, readImage}
+use Rattle.image.specs.Image.{Image, readImage}
 use Rattle.image.specs.Load.{loadedWords, loadOf}
+use Rattle.save.specs.Save.{saveOf}
 use Rattle.save.specs.RoundTrip.{Words}
 use Rattle.script.specs.declared.Line.the-variants as line
 use Rattle.script.specs.declared.Found.the-variants as found
@@ -58,7 +59,7 @@ graph = graphOf registerCount
 abbrev pub roots : List ℕ → List ℕ
 roots = rootsOf registerCount
 
--- `Collection-keeps-the-reached`, `RunOverPool`, `RetainedFreeList`; and `FreshIsWellFormed`, `FreshIsFree`, `Equivalence`, `EquivalenceAtLimit`,
+-- `Collection-keeps-the-reached`, `Collection-marks-and-sweeps`, `RunOverPool`, `RetainedFreeList`; and `FreshIsWellFormed`, `FreshIsFree`, `Equivalence`, `EquivalenceAtLimit`,
 -- `ReachedPools` and `Chain-needs`, which ask for no more than a number of cells.
 pub record Pool-instance : Type 0 where
   pub some : 0 < 3
@@ -131,22 +132,31 @@ numbers = 1 ∷ (replicate 15 0 ++ (2 ∷ 2 ∷ 300 ∷ 1 ∷ 0 ∷ 8 ∷ []))
 abbrev pub words : List ℕ
 words = replicate 26 5
 
+-- Scratch for a save of three cells, and an output with two bytes more than the image.
+abbrev pub scratch : List ℕ
+scratch = replicate 6 5
+
+abbrev pub output : List ℕ
+output = replicate 26 9
+
 -- The theorems of load and save.
 pub record Image-instance : Type 0 where
   -- `CheckIsLoad`, `LoadIsWellFormed`: the image is accepted
   pub size : length words ≡ poolLength registerCount 2
   pub accepted : loadOf words image .0 .verdict ≡ 0
   pub loaded : loadOf words image .1 ≡ (2 ∷ 0 ∷ 1 ∷ []) ++ replicate 15 0 ++ (0 ∷ 2 ∷ 2 ∷ 300 ∷ []) ++ (0 ∷ 1 ∷ 0 ∷ 8 ∷ [])
-  -- `SaveThenLoad`: both pools are saved as that image
+  -- `SaveThenLoad`: both pools are saved as that image, and the two bytes behind it stay
   pub words32 : Words three
-  pub some : 0 < cellsOf registerCount three
-  pub well-formed : wellFormed registerCount (cellsOf registerCount three) three ≡ true
+  pub saved : saveOf three scratch output ≡ (answered (24 ∷ []), replicate 6 0, image ++ 9 ∷ 9 ∷ [])
+  pub saved-two : saveOf two scratch output ≡ saveOf three scratch output
   pub target : 0 < cellsOfLength registerCount (length words)
   pub fit : keptCells registerCount (cellsOf registerCount three) three ≤ cellsOfLength registerCount (length words)
-  pub saved : (imageOf registerCount 3 three ≡ image) × (imageOf registerCount 2 two ≡ image)
   -- `LoadThenSave`: its cells are numbered in the order of the visits
+  pub some : 0 < 2
+  pub most : 2 ≤ cellLimit
   pub read : readImage registerCount 2 image ≡ Image.image 2 1 numbers 24
   pub ordered : reachedCells registerCount 2 (loadedWords registerCount 2 2 numbers) ≡ tabulate 2 suc
+  pub room : 2 * 2 ≤ length scratch
 
 -- Two calls, five words each, and room for one word more than their answers.
 abbrev pub calls : List Call
