@@ -81,7 +81,7 @@ module _ (R n p : ℕ) (words₀ : List ℕ) (room : poolLength R n ≤ length w
       turned h = rw links (running-turn R n (h .pool) (well h) (pool-room h) (s .run h) held)
 
     -- both links are unmarked and the lent words are full: the stack is not enough
-    pub hand-full : (l r : ℕ) → l ∷ r ∷ [] ≡ onwardIn R words hand → top ≡ length stack → (h : Started R n p words₀)
+    pub hand-full : (l r : ℕ) → l ∷ r ∷ [] ≡ onwardIn R words hand → length stack ≤ top → (h : Started R n p words₀)
         → Ran R n (length stack₀) (h .pool) words (runFrom R n p words₀ h) false
     hand-full l r links full h =
         record {
@@ -92,11 +92,10 @@ module _ (R n p : ℕ) (words₀ : List ℕ) (room : poolLength R n ≤ length w
         }
 
     -- both are unmarked: both are marked, the right one is pushed and the left one taken in hand
-    pub hand-push : (l r : ℕ) (w₁ w₂ stack' : List ℕ) → l ∷ r ∷ [] ≡ onwardIn R words hand → (top ≡ length stack → ⊥) → w₁ ≡ setCell R words l 0 3
+    pub hand-push : (l r : ℕ) (w₁ w₂ stack' : List ℕ) → l ∷ r ∷ [] ≡ onwardIn R words hand → top < length stack → w₁ ≡ setCell R words l 0 3
         → w₂ ≡ setCell R w₁ r 0 3 → stack' ≡ set stack top r → Hand R n p words₀ stack₀ w₂ stack' l (top + 1)
     unfolding markAll
-    hand-push l r w₁ w₂ stack' links some e₁ e₂ es =
-        let fits : top < length stack = omega (arith, s .lent, s .fits, some) in
+    hand-push l r w₁ w₂ stack' links fits e₁ e₂ es =
         record {
           lent = ap length es ∙ (simp length-set (s .lent));
           fits = omega (arith, s .lent);

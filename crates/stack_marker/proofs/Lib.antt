@@ -8,4 +8,5 @@ pub mod Simulation
 pub mod HandLoop
 pub mod RootLoop
 pub mod StackSweep
+pub mod StackCollects
 pub mod StackExample

@@ -1,13 +1,18 @@
 -- What is proved of marking with a stack: statements.
-use Prim.Native.Nat.{ℕ, suc, _*_, _-_, _≤_}
+use Prim.Native.Nat.{ℕ, suc, _*_, _-_, _<_, _≤_}
 use mathlib.Core.Path.{_≡_}
 use mathlib.Core.Logic.{_↔_}
 use mathlib.Core.List.{List, [], _∷_, _++_, List·Memᴰ}
 use mathlib.Core.Bool.{Bool, true, false, cond}
-use lib.ListN.{length}
+use lib.ListN.{length, replicate}
 use lib.Dec.{ltb}
 use Rattle.graph.specs.Graph.{Graph, Reach, Within}
+use Rattle.pool.specs.Layout.{registerCount, cellsOf, graphOf, rootsOf}
+use Rattle.pool.specs.Validity.{wellFormed}
+use Rattle.pool.specs.Outcome.{answered}
+use Rattle.collector.specs.Collect.{collectOf}
 use Rattle.stack_marker.specs.Stack.{isFresh, holding, run, runs, stackRun, stackMarked, mostEntries}
+use Rattle.stack_marker.specs.StackCollect.{stackOf}
 
 -- The four cases of 01, for the cell p in hand with the stack behind it, by whether its left link l and its right link r are unmarked.
 pub record FourCases (turns : ℕ) (g : Graph) (seen : List ℕ) (p : ℕ) (stack : List ℕ) (l r : ℕ) (left-unmarked right-unmarked : Bool) : Type 0 where
@@ -51,3 +56,14 @@ chain n = record { left = λ x. cond (ltb x n) (suc x) 0; right = λ x. cond (lt
 -- "a chain with equal links needs N − 1 words"
 abbrev pub Chain-needs : Type 0
 Chain-needs = (n : ℕ) → 1 ≤ n → mostEntries n (chain n) (1 ∷ []) ≡ n - 1
+
+-- Of a collection with a lent stack: "The pool ends as after collect; the stack words end 0." It answers what collect kept, and whether the stack was
+-- enough, 1 for yes and 0 for no: "yes exactly when Algorithm 2 never holds more entries than there are words".
+abbrev pub Stack-collects : Type 0
+Stack-collects =
+    (n : ℕ) (w stack : List ℕ) → 0 < n → cellsOf registerCount w ≡ n → wellFormed registerCount n w ≡ true
+    → let most = mostEntries n (graphOf registerCount w) (rootsOf registerCount w) in
+    (kept visits enough : ℕ) × (w' : List ℕ)
+    × (collectOf w ≡ (answered (kept ∷ visits ∷ []), w'))
+    × (stackOf w stack ≡ (answered (kept ∷ enough ∷ []), w', replicate (length stack) 0))
+    × ((most ≤ length stack) ↔ (enough ≡ 1)) × ((length stack < most) ↔ (enough ≡ 0))

@@ -19,6 +19,7 @@ use Rattle.collector.proofs.CollectTheorem.{collection-keeps-the-reached, colle
 use Rattle.collector.proofs.Roots.{run-from-roots, run-over-pool}
 use Rattle.collector.proofs.Run.{run-from-link}
 use Rattle.stack_marker.proofs.Chain.{chain-needs}
+use Rattle.stack_marker.proofs.StackCollects.{stack-collects}
 use Rattle.stack_marker.proofs.Going.{stack-ends, stack-marks-the-reached, stack-bound}
 use Rattle.stack_marker.proofs.Cases.{stack-cases}
 use Rattle.calls.specs.declared.Call.the-variants as call
@@ -48,6 +49,7 @@ applied =
     let s = script-instance in
     let t = collection-keeps-the-reached 3 three (p .some) (p .cells) (p .well-formed) in
     let t = collection-marks-and-sweeps 3 three (p .some) (p .cells) (p .well-formed) in
+    let t = stack-collects 3 three (9 ∷ []) (p .some) (p .cells) (p .well-formed) in
     let t = run-over-pool registerCount 3 three (p .room) (p .well-formed) in
     let t = retained-free-list registerCount 3 (isReached registerCount 3 three) three (p .some) (p .room) in
     let t = fresh-is-well-formed 3 (p .some) (p .most) in

@@ -61,9 +61,9 @@ apart (List·Memᴰ·head e) = omega arith
 apart (List·Memᴰ·tail (List·Memᴰ·head e)) = omega arith
 
 pub pool-instance : Pool-instance
-unfolding has visit visits order tabulate every cellsOfLength count cellsOf head register cell setCell lowestFree retain
+unfolding has visit visits order tabulate every cellsOfLength count cellsOf head register cell setCell lowestFree retain run runs
 pool-instance =
-    record { some = omega arith; most = omega arith; room = omega arith; cells = refl; well-formed = refl; answer = refl; full = refl }
+    record { some = omega arith; most = omega arith; room = omega arith; cells = refl; well-formed = refl; answer = refl; full = refl; stack = refl; no-stack = refl }
 
 -- The three cells are as the graph has them.
 untouched : (x : ℕ) → 0 < x → x ≤ 3 → Untouched registerCount 3 (graph three) three x

@@ -20,6 +20,7 @@ use Rattle.collector.specs.Collect.{reachedCells, keptCells, collectOf}
 use Rattle.collector.specs.ReversalTheorem.{Agreement}
 use Rattle.recursive_marker.specs.Recursive.{Visitable}
 use Rattle.stack_marker.specs.Stack.{isFresh, stackRun}
+use Rattle.stack_marker.specs.StackCollect.{stackOf}
 use Rattle.calls.specs.declared.Call.{Call}
 use Rattle.calls.specs.declared.Call.the-variants as call
 use Rattle.batch.specs.declared.Ran.the-variants as ran
@@ -59,8 +60,8 @@ graph = graphOf registerCount
 abbrev pub roots : List ℕ → List ℕ
 roots = rootsOf registerCount
 
--- `Collection-keeps-the-reached`, `Collection-marks-and-sweeps`, `RunOverPool`, `RetainedFreeList`; and `FreshIsWellFormed`, `FreshIsFree`, `Equivalence`, `EquivalenceAtLimit`,
--- `ReachedPools` and `Chain-needs`, which ask for no more than a number of cells.
+-- `Collection-keeps-the-reached`, `Collection-marks-and-sweeps`, `RunOverPool`, `RetainedFreeList`, `Stack-collects`; and `FreshIsWellFormed`,
+-- `FreshIsFree`, `Equivalence`, `EquivalenceAtLimit`, `ReachedPools` and `Chain-needs`, which ask for no more than a number of cells.
 pub record Pool-instance : Type 0 where
   pub some : 0 < 3
   pub most : 3 ≤ cellLimit
@@ -70,6 +71,9 @@ pub record Pool-instance : Type 0 where
   -- A collection frees cell 3. Where all cells are reached it changes nothing.
   pub answer : collectOf three ≡ (answered (2 ∷ 6 ∷ []), threeCollected)
   pub full : collectOf two ≡ (answered (2 ∷ 6 ∷ []), two)
+  -- With a lent stack of one word it does the same; none is not enough.
+  pub stack : stackOf three (9 ∷ []) ≡ (answered (2 ∷ 1 ∷ []), threeCollected, 0 ∷ [])
+  pub no-stack : stackOf three [] ≡ (answered (2 ∷ 0 ∷ []), threeCollected, [])
 
 -- `RunFromLink`, from link 1, and `RunFromRoots` (that the roots are cells is `within .root` of Graph-instance).
 pub record Reversal-instance : Type 0 where

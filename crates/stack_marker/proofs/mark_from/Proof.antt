@@ -42,7 +42,7 @@ returns c =
     let at-look = at-left .before .before in
     let at-turn = at-look .before .before in
     let at-start = at-turn .before .before .before in
-    hand-full registerCount _ _ _ (at-start .pre .1) _ _ _ _ _ (at-turn .loop .inv) _ _ (ap linksOf (sym (at-left .left .given .1)) ∙ at-look .look .ensures) (c .if1 .taken)
+    hand-full registerCount _ _ _ (at-start .pre .1) _ _ _ _ _ (at-turn .loop .inv) _ _ (ap linksOf (sym (at-left .left .given .1)) ∙ at-look .look .ensures) (omega (arith, c .if1 .taken))
 
 write-cell-requires : tie.Need-write-cell-requires Inv-loop μ-loop
 write-cell-requires c κs =
@@ -97,7 +97,7 @@ loop-again c =
     let at-look = at-left .before .before in
     let at-turn = at-look .before .before in
     let at-start = at-turn .before .before .before in
-    hand-push registerCount _ _ _ (at-start .pre .1) _ _ _ _ _ (at-turn .loop .inv) _ _ _ _ _ (ap linksOf (sym (at-left .left .given .1)) ∙ at-look .look .ensures) (at-if1 .if1 .left) (at-write-cell .write-cell .ensures) (at-write-cell2 .write-cell2 .ensures) refl
+    hand-push registerCount _ _ _ (at-start .pre .1) _ _ _ _ _ (at-turn .loop .inv) _ _ _ _ _ (ap linksOf (sym (at-left .left .given .1)) ∙ at-look .look .ensures) (omega (arith, at-turn .loop .inv .fits, at-turn .loop .inv .lent, at-if1 .if1 .left)) (at-write-cell .write-cell .ensures) (at-write-cell2 .write-cell2 .ensures) refl
 
 enum-known-x : tie.Need-enum-known-x Inv-loop μ-loop
 enum-known-x c = search needs
