@@ -13,11 +13,12 @@ ghost use Rattle.collector.specs.ReversalTheorem.{markedOf};
 ghost use Rattle.collector.specs.Collect.{collectIn, collectionOutcome};
 ghost use Rattle.recursive_marker.specs.Recursive.{recursionLimit, recursiveOf, Visitable, visited};
 
-// The most cells of a pool that is marked so, and so the most calls that are in progress at a time.
+// The most cells of a pool that is marked so. In a chain of so many the visit of the first cell has depth 64, that of the last depth 1, and the
+// visits of its links, which are nil, depth 0.
 const DEPTH: u32 = 64;
 
-// Marks the link's cell, if it is unmarked, and what its links lead to, with so much depth left. Gives the visits made so far: one of the
-// cell itself, one after its left link and one after its right link.
+// Marks the link's cell, if it is unmarked, and what its links lead to, with so much depth left. (000 tests a link before the call, this in the
+// call.) Gives the visits made so far: one of the cell itself, one after its left link and one after its right link.
 fn visit(words: &mut [u32], n: u32, depth: u32, p: u32, visits: u32) -> u32
     requires { ⌜ Visitable registerCount n depth p visits (now words) ⌝ }
     ensures { λ r. ⌜ ((h : Visitable registerCount n depth p visits (now (words .entry))) → _≡_ {A = ℕ × List ℕ} (r, now (words .exit)) (visited registerCount n depth p visits (now (words .entry)) h)) ⌝ }

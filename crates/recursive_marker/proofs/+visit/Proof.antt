@@ -134,7 +134,7 @@ visit-add-result t c =
     let at-if1 = at-write-cell .before .before in
     let at-is-unmarked = at-if1 .before in
     let at-start = at-is-unmarked .before .before .before in
-    record { fits = visit-fits-2 registerCount _ _ _ _ _ (at-start .pre .1) (sym (at-is-unmarked .is-unmarked .ensures) ∙ at-if1 .if1 .taken) _ _ (at-write-cell .write-cell .ensures) (at-read-cell .read-cell .ensures) _ _ _ (at-visit .visit .ensures) (at-read-cell2 .read-cell2 .ensures) _ _ (at-visit2 .visit2 .ensures) }
+    omega (arith, visit-fits-2 registerCount _ _ _ _ _ (at-start .pre .1) (sym (at-is-unmarked .is-unmarked .ensures) ∙ at-if1 .if1 .taken) _ _ (at-write-cell .write-cell .ensures) (at-read-cell .read-cell .ensures) _ _ _ (at-visit .visit .ensures) (at-read-cell2 .read-cell2 .ensures) _ _ (at-visit2 .visit2 .ensures))
 
 visit-same-length : (t : ℕ) → visit-lts.Need-same-length (callees t) (visit-at t) visit.Post
 visit-same-length t c =

@@ -23,7 +23,7 @@ same-length-2 c = search needs
 
 returns-2 : tie.Need-returns-2
 returns-2 c =
-    simp (← c .before .before .cells .ensures, lt-ltb 0 (c .before .before .cells .result) (omega arith), lt-leb (c .before .before .cells .result) recursionLimit (c .if2 .taken))
+    simp (← c .before .before .cells .ensures, lt-ltb 0 (c .before .before .cells .result) (omega arith), lt-leb (c .before .before .cells .result) recursionLimit (omega (arith, c .if2 .taken)))
 
 collect-in-requires : tie.Need-collect-in-requires
 collect-in-requires c κs =
@@ -35,7 +35,7 @@ same-length-3 c = search needs
 
 returns-3 : tie.Need-returns-3
 returns-3 c =
-    simp (← c .before .before .before .before .before .before .cells .ensures, lt-ltb 0 (c .before .before .before .before .before .before .cells .result) (omega arith), le-leb (c .before .before .before .before .before .before .cells .result) recursionLimit (c .before .before .before .before .if2 .left)) (c .before .before .collect-in .ensures)
+    simp (← c .before .before .before .before .before .before .cells .ensures, lt-ltb 0 (c .before .before .before .before .before .before .cells .result) (omega arith), le-leb (c .before .before .before .before .before .before .cells .result) recursionLimit (omega (arith, c .before .before .before .before .if2 .left))) (c .before .before .collect-in .ensures)
 
 pub collect-recursive-spec : {M : Type 1} → statement M
 collect-recursive-spec =

@@ -25,7 +25,7 @@ visit-requires c κs =
     let at-test = at-read-register .before .before in
     let at-turn = at-test .before in
     let at-start = at-turn .before .before in
-    marking-visit registerCount _ _ (at-start .pre .0) (at-start .pre .1) _ _ _ _ _ (at-turn .loop .inv) (at-test .loop-test .taken) (at-read-register .read-register .ensures) (at-start .pre .2) (omega (arith, at-start .pre .2))
+    marking-visit registerCount _ _ (at-start .pre .0) (at-start .pre .1) _ _ _ _ _ (at-turn .loop .inv) (at-test .loop-test .taken) (at-read-register .read-register .ensures) (omega (arith, at-start .pre .2)) (omega (arith, at-start .pre .2))
 
 add-k : tie.Need-add-k Inv-loop μ-loop
 add-k c = omega arith
@@ -40,7 +40,7 @@ loop-again c =
     let at-test = at-read-register .before .before in
     let at-turn = at-test .before in
     let at-start = at-turn .before .before in
-    marking-next registerCount _ _ (at-start .pre .0) (at-start .pre .1) _ _ _ _ _ (at-turn .loop .inv) (at-test .loop-test .taken) (at-read-register .read-register .ensures) (at-start .pre .2) (omega (arith, at-start .pre .2)) _ _ (at-visit .visit .ensures)
+    marking-next registerCount _ _ (at-start .pre .0) (at-start .pre .1) _ _ _ _ _ (at-turn .loop .inv) (at-test .loop-test .taken) (at-read-register .read-register .ensures) (omega (arith, at-start .pre .2)) (omega (arith, at-start .pre .2)) _ _ (at-visit .visit .ensures)
 
 same-length : tie.Need-same-length Inv-loop μ-loop
 same-length c = marking-length registerCount _ _ _ _ _ (c .before .loop .inv)
