@@ -136,35 +136,26 @@ module _ (n : ℕ) (w : List ℕ) (m : ℕ) (few : keptCells registerCount n w �
             ∙ rw (le-leb (length (imageOf registerCount n w)) (length out) fits);
       })
 
-refusal : {k count : ℕ} {s t bytes out : List ℕ} → _≡_ {A = Outcome × List ℕ × List ℕ} (refused (suc k), s, out) (answered (count ∷ []), t, bytes) → ⊥
-refusal e = omega (arith, ap (λ (x : Outcome × List ℕ × List ℕ). status (x .0)) e)
+-- A test is true where it cannot be false; and a refusal is no answer.
+true-or : (t : Bool) → (t ≡ false → ⊥) → t ≡ true
+true-or true h = refl
+true-or false h = absurd (h refl)
 
--- Where save answers the number of bytes, each of its questions was answered with yes.
-saved-whole : (image s out : List ℕ) (count : ℕ) (cleared bytes : List ℕ) (some scratch whole room : Bool)
-    → _≡_ {A = Outcome × List ℕ × List ℕ}
-    (cond some
-    (cond scratch
-    (cond whole
-    (cond room (answered (length image ∷ []), replicate (length s) 0, image ++ drop (length image) out) (refused 10, replicate (length s) 0, out))
-    (refused 3, s, out))
-    (refused 10, s, out))
-    (refused 1, s, out))
-    (answered (count ∷ []), cleared, bytes)
-    → (some ≡ true) × (whole ≡ true) × (room ≡ true) × (count ≡ length image) × (bytes ≡ image ++ drop (length image) out)
-saved-whole image s out count cleared bytes true true true true e =
-    (refl, refl, refl, sym (ap (λ (x : Outcome × List ℕ × List ℕ). given (x .0) 0 0) e), sym (ap (λ (x : Outcome × List ℕ × List ℕ). x .2) e))
-saved-whole image s out count cleared bytes true true true false e = absurd (refusal e)
-saved-whole image s out count cleared bytes true true false room e = absurd (refusal e)
-saved-whole image s out count cleared bytes true false whole room e = absurd (refusal e)
-saved-whole image s out count cleared bytes false scratch whole room e = absurd (refusal e)
+no-answer : {o : Outcome} {a b c d xs : List ℕ} → _≡_ {A = Outcome × List ℕ × List ℕ} (o, a, b) (answered xs, c, d) → 0 < status o → ⊥
+no-answer e low = omega (arith, ap (λ (x : Outcome × List ℕ × List ℕ). status (x .0)) e)
 
 pub save-then-load : SaveThenLoad
 save-then-load w scratch out size cleared bytes words word saved target few =
     let n = cellsOf registerCount w in
     let m = cellsOfLength registerCount (length words) in
     let image = imageOf registerCount n w in
-    let (some, whole, room, long, written) =
-    saved-whole image scratch out size cleared bytes (ltb 0 n) (leb (2 * n) (length scratch)) (wellFormed registerCount n w) (leb (length image) (length out)) saved in
+    let some : ltb 0 n ≡ true = true-or (ltb 0 n) (λ e. no-answer (rw e at saved) (omega arith)) in
+    let lent : leb (2 * n) (length scratch) ≡ true = true-or (leb (2 * n) (length scratch)) (λ e. no-answer (rw (some, e) at saved) (omega arith)) in
+    let whole : wellFormed registerCount n w ≡ true = true-or (wellFormed registerCount n w) (λ e. no-answer (rw (some, lent, e) at saved) (omega arith)) in
+    let room : leb (length image) (length out) ≡ true = true-or (leb (length image) (length out)) (λ e. no-answer (rw (some, lent, whole, e) at saved) (omega arith)) in
+    let made = rw (some, lent, whole, room) at saved in
+    let long : size ≡ length image = sym (ap (λ (x : Outcome × List ℕ × List ℕ). given (x .0) 0 0) made) in
+    let written : bytes ≡ image ++ drop (length image) out = sym (ap (λ (x : Outcome × List ℕ × List ℕ). x .2) made) in
     let well = well-formed-read registerCount n w whole in
     let most = cells-sized registerCount w (ltb-true 0 n some) .0 .most in
     let sized = length-sized registerCount (length words) target in
