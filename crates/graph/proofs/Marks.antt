@@ -89,11 +89,11 @@ cells-marks {m = m} t c = cells-more c (marks-keeps m t)
 
 pub outside-cell : (n x : ℕ) → 0 < x → x ≤ n → outside n x ≡ 0
 unfolding outside
-outside-cell n x h k = simp (ne-eqb x 0 (omega arith), le-ltb n x k)
+outside-cell n x h k = rw (ne-eqb x 0 (omega arith), le-ltb)
 
 pub outside-past : (n x : ℕ) → n < x → 0 < outside n x
 unfolding outside
-outside-past n x h = simp (ne-eqb x 0 (omega arith), lt-ltb n x h) (omega arith)
+outside-past n x h = rw (ne-eqb x 0 (omega arith), lt-ltb) (omega arith)
 
 pub outside-nil : (n : ℕ) → 0 < outside n 0
 unfolding outside
