@@ -11,3 +11,4 @@ pub mod VisitStep
 pub mod RootLoop
 pub mod MarkSweep
 pub mod CollectTheorem
+pub mod Determined

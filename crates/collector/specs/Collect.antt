@@ -8,7 +8,7 @@ use Rattle.graph.specs.Order.{has, order}
 use Rattle.pool.specs.Layout.{registerCount, cellsOf, graphOf, rootsOf}
 use Rattle.pool.specs.Validity.{wellFormed}
 use Rattle.pool.specs.Retain.{retain}
-use Rattle.pool.specs.Outcome.{Outcome, answered, refused, refusalNumber}
+use Rattle.pool.specs.Outcome.{Outcome, answered, refused, refusalNumber, Determined}
 use Rattle.collector.specs.declared.Collection.{Collection}
 use Rattle.collector.specs.declared.Collection.the-variants as collection
 
@@ -32,6 +32,10 @@ collected R n w = retain R n (isReached R n w) w
 abbrev pub collectionOutcome : Collection → Outcome
 collectionOutcome (collection.Kept kept visits) = answered (kept ∷ visits ∷ [])
 collectionOutcome (collection.Refused k) = refused (refusalNumber k)
+
+-- What is said determines the answer, its case too.
+abbrev pub CollectionDetermined : Type 0
+CollectionDetermined = Determined Collection collectionOutcome
 
 -- A collection of a pool of n cells: "is the pool whole? .. No: 3"; then kept, and three visits for each kept cell.
 abbrev pub collectIn : ℕ → List ℕ → Outcome × List ℕ

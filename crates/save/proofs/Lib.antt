@@ -8,3 +8,4 @@ pub mod Saving
 pub mod SavedFields
 pub mod Renumbering
 pub mod RoundTrip
+pub mod Determined

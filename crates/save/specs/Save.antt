@@ -6,7 +6,7 @@ use lib.ListN.{length, drop, replicate}
 use lib.Dec.{leb, ltb}
 use Rattle.pool.specs.Layout.{registerCount, cellsOf}
 use Rattle.pool.specs.Validity.{wellFormed}
-use Rattle.pool.specs.Outcome.{Outcome, answered, refused, refusalNumber}
+use Rattle.pool.specs.Outcome.{Outcome, answered, refused, refusalNumber, Determined}
 use Rattle.image.specs.Image.{imageOf}
 use Rattle.save.specs.declared.Saved.{Saved}
 use Rattle.save.specs.declared.Saved.the-variants as saved
@@ -15,6 +15,10 @@ use Rattle.save.specs.declared.Saved.the-variants as saved
 abbrev pub savedOutcome : Saved → Outcome
 savedOutcome (saved.Bytes size) = answered (size ∷ [])
 savedOutcome (saved.Refused why) = refused (refusalNumber why)
+
+-- What is said determines the answer, its case too.
+abbrev pub SavedDetermined : Type 0
+SavedDetermined = Determined Saved savedOutcome
 
 -- The answer, the scratch and the output afterwards, for a well-formed pool: "does the output hold the image? No: 10."; "once save has found
 -- the pool whole all its scratch is 0, refused or not"; "output past the image stays".

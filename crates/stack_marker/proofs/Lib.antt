@@ -10,3 +10,4 @@ pub mod RootLoop
 pub mod StackSweep
 pub mod StackCollects
 pub mod StackExample
+pub mod Determined

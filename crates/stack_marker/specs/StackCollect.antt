@@ -7,7 +7,7 @@ use lib.Dec.{leb, ltb}
 use Rattle.pool.specs.Layout.{registerCount, cellsOf, setCell, graphOf, rootsOf}
 use Rattle.pool.specs.Validity.{wellFormed}
 use Rattle.pool.specs.Retain.{marked}
-use Rattle.pool.specs.Outcome.{Outcome, answered, refused, refusalNumber}
+use Rattle.pool.specs.Outcome.{Outcome, answered, refused, refusalNumber, Determined}
 use Rattle.collector.specs.Collect.{keptCells, collected}
 use Rattle.stack_marker.specs.Stack.{mostEntries}
 use Rattle.stack_marker.specs.declared.StackCollection.{StackCollection}
@@ -21,6 +21,10 @@ isEnough n w stack = leb (mostEntries n (graphOf registerCount w) (rootsOf regis
 abbrev pub stackOutcome : StackCollection → Outcome
 stackOutcome (collection.Kept kept enough) = answered (kept ∷ cond enough 1 0 ∷ [])
 stackOutcome (collection.Refused k) = refused (refusalNumber k)
+
+-- What is said determines the answer, its case too.
+abbrev pub StackCollectionDetermined : Type 0
+StackCollectionDetermined = Determined StackCollection stackOutcome
 
 -- A pool of n cells: "is the pool whole? .. No: 3". "The pool ends as after collect; the stack words end 0."
 abbrev pub stackIn : ℕ → List ℕ → List ℕ → Outcome × List ℕ × List ℕ
