@@ -3,8 +3,8 @@ use Prim.Native.Nat.{ℕ, zero, suc, _+_, _*_, _<_, _≤_, _^_}
 use native.Mathlib.Omega.{arith}
 use mathlib.Core.Path.{_≡_, refl, sym, ap, _∙_}
 use mathlib.Core.List.{List, [], _∷_, _++_}
-use mathlib.Core.Bool.{Bool, true, false, cond}
-use lib.ListN.{length, getD, drop, replicate}
+use mathlib.Core.Bool.{Bool, true, false}
+use lib.ListN.{length, getD, drop}
 use lib.Dec.{leb, ltb}
 use lib.Seq.{drop-append-seam}
 use borrow.Author.Tests.{lt-ltb, le-leb, ltb-true, leb-true}
@@ -14,7 +14,7 @@ use Rattle.leb128.specs.Leb128.{encode}
 use Rattle.pool.specs.Words.{tabulate}
 use Rattle.pool.specs.Layout.{registerCount, cellLimit, cellsOfLength, cellsOf, cell, graphOf, rootsOf}
 use Rattle.pool.specs.Validity.{wellFormed}
-use Rattle.pool.specs.Outcome.{Outcome, answered, refused, status, given}
+use Rattle.pool.specs.Outcome.{Outcome, answered, status, given}
 use Rattle.pool.proofs.Every.{length-tabulate, getD-tabulate, tabulate-list, tabulate-member}
 use Rattle.pool.proofs.Questions.{length-sized, cells-sized}
 use Rattle.pool.proofs.WellFormed.{WellFormed, well-formed-read, well-formed-made}
