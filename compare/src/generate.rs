@@ -117,7 +117,7 @@ pub fn well_formed(random: &mut Random, n: usize) -> Vec<u32> {
 /// A pool that calls have made.
 pub fn built_by_calls(random: &mut Random, n: usize) -> Vec<u32> {
     let mut words = vec![0; words_for(n)];
-    Model.fresh(&mut words).expect("the length is right");
+    PlainRust.fresh(&mut words).expect("the length is right");
     let count = random.between(0, 4 * n.min(60));
     for call in calls(random, count) {
         apply(&Model, &mut words, call);

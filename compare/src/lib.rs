@@ -1,6 +1,7 @@
 //! Comparison of the static library `libcellpool.a` with an independent model of the pool.
 //!
-//! * `model` says what every call does to any words; it is written from the customer's document alone.
+//! * `model` says what every call does to any words; it is written from the customer's document alone. `cause` names why
+//!   a call is refused.
 //! * `reference` is the document's reference model: cells that are never collected, and a limit.
 //! * `baseline` is a second implementation with the algorithms of the source documents, and the benchmark's baseline.
 //! * `pool` (feature `archive`) is the library under test behind safe functions.
@@ -8,6 +9,7 @@
 //! * `checks` are the comparisons; the tests run them on every implementation.
 
 pub mod baseline;
+pub mod cause;
 pub mod checks;
 pub mod generate;
 pub mod guard;
@@ -72,36 +74,36 @@ pub struct Tally {
     pub visits: u32,
 }
 
-/// The functions of the library. A refusal is `Err` with its number.
-pub trait Interface {
+/// The functions of the library. A refusal is `Err` with its number, or with what else `R` says of it.
+pub trait Interface<R = u32> {
     /// Answers N.
-    fn fresh(&self, words: &mut [u32]) -> Result<u32, u32>;
-    fn copy(&self, words: &mut [u32], r: u32, a: u32) -> Result<(), u32>;
-    fn clear(&self, words: &mut [u32], r: u32) -> Result<(), u32>;
+    fn fresh(&self, words: &mut [u32]) -> Result<u32, R>;
+    fn copy(&self, words: &mut [u32], r: u32, a: u32) -> Result<(), R>;
+    fn clear(&self, words: &mut [u32], r: u32) -> Result<(), R>;
     /// Answers visits.
-    fn new_cell(&self, words: &mut [u32], r: u32, a: u32, b: u32, v: u32) -> Result<u32, u32>;
-    fn left(&self, words: &mut [u32], r: u32, a: u32) -> Result<(), u32>;
-    fn right(&self, words: &mut [u32], r: u32, a: u32) -> Result<(), u32>;
-    fn setleft(&self, words: &mut [u32], a: u32, b: u32) -> Result<(), u32>;
-    fn setright(&self, words: &mut [u32], a: u32, b: u32) -> Result<(), u32>;
-    fn setvalue(&self, words: &mut [u32], a: u32, v: u32) -> Result<(), u32>;
-    fn value(&self, words: &mut [u32], a: u32) -> Result<u32, u32>;
-    fn same(&self, words: &mut [u32], a: u32, b: u32) -> Result<u32, u32>;
+    fn new_cell(&self, words: &mut [u32], r: u32, a: u32, b: u32, v: u32) -> Result<u32, R>;
+    fn left(&self, words: &mut [u32], r: u32, a: u32) -> Result<(), R>;
+    fn right(&self, words: &mut [u32], r: u32, a: u32) -> Result<(), R>;
+    fn setleft(&self, words: &mut [u32], a: u32, b: u32) -> Result<(), R>;
+    fn setright(&self, words: &mut [u32], a: u32, b: u32) -> Result<(), R>;
+    fn setvalue(&self, words: &mut [u32], a: u32, v: u32) -> Result<(), R>;
+    fn value(&self, words: &mut [u32], a: u32) -> Result<u32, R>;
+    fn same(&self, words: &mut [u32], a: u32, b: u32) -> Result<u32, R>;
     /// Answers kept and visits.
-    fn collect(&self, words: &mut [u32]) -> Result<(u32, u32), u32>;
+    fn collect(&self, words: &mut [u32]) -> Result<(u32, u32), R>;
     /// Answers kept and visits.
-    fn collect_tally(&self, words: &mut [u32], tally: &mut Tally) -> Result<(u32, u32), u32>;
+    fn collect_tally(&self, words: &mut [u32], tally: &mut Tally) -> Result<(u32, u32), R>;
     /// Answers kept, and 1 if the stack was enough, else 0.
-    fn collect_stack(&self, words: &mut [u32], stack: &mut [u32]) -> Result<(u32, u32), u32>;
+    fn collect_stack(&self, words: &mut [u32], stack: &mut [u32]) -> Result<(u32, u32), R>;
     /// Answers kept and visits.
-    fn collect_recursive(&self, words: &mut [u32]) -> Result<(u32, u32), u32>;
+    fn collect_recursive(&self, words: &mut [u32]) -> Result<(u32, u32), R>;
     /// Answers the number of bytes.
-    fn save(&self, words: &mut [u32], scratch: &mut [u32], out: &mut [u8]) -> Result<usize, u32>;
+    fn save(&self, words: &mut [u32], scratch: &mut [u32], out: &mut [u8]) -> Result<usize, R>;
     /// Answers also where the bytes behind the image begin; refused, their number.
-    fn load(&self, words: &mut [u32], bytes: &[u8]) -> (Result<(), u32>, usize);
-    fn check_image(&self, bytes: &[u8], n: u32) -> Result<(), u32>;
+    fn load(&self, words: &mut [u32], bytes: &[u8]) -> (Result<(), R>, usize);
+    fn check_image(&self, bytes: &[u8], n: u32) -> Result<(), R>;
     /// Answers the percent.
-    fn occupancy(&self, kept: u32, n: u32) -> Result<u32, u32>;
+    fn occupancy(&self, kept: u32, n: u32) -> Result<u32, R>;
 }
 
 /// One of the eleven calls.

@@ -2,11 +2,12 @@
 //!
 //! The words are decoded into a structure, changed there, and encoded again only where the call is accepted: so a
 //! refusal changes nothing by construction. The marker goes by breadth with a set; visits are three for each kept
-//! cell; the stack marker is Algorithm 2 of source document 003 on a list without limit.
+//! cell; the stack marker is Algorithm 2 of source document 003 on a list without limit. A refusal comes from its cause,
+//! and the model answers with either.
 
-use crate::refusal::*;
+use crate::cause::{Cause, Link, Name, Place};
 use crate::{Interface, Tally, CELL, FREE, HEADER, MOST_CELLS, MOST_RECURSIVE, REGISTERS, USED};
-use std::collections::{BTreeMap, BTreeSet, VecDeque};
+use std::collections::{BTreeSet, VecDeque};
 
 /// The model of the library.
 #[derive(Clone, Copy, Debug, Default)]
@@ -28,21 +29,49 @@ pub struct Pool {
     pub cells: Vec<Cell>,
 }
 
-/// N by the length alone.
-pub fn cells_for(len: usize) -> Option<usize> {
-    if len < HEADER || !(len - HEADER).is_multiple_of(CELL) {
-        return None;
+/// N, if it is within its limits.
+fn limited(n: usize) -> Result<usize, Cause> {
+    match n {
+        0 => Err(Cause::NoCells),
+        1..=MOST_CELLS => Ok(n),
+        _ => Err(Cause::ManyCells),
     }
-    let n = (len - HEADER) / CELL;
-    (1..=MOST_CELLS).contains(&n).then_some(n)
+}
+
+/// N by the length alone.
+pub fn cells_for(len: usize) -> Result<usize, Cause> {
+    let cells = len.checked_sub(HEADER).ok_or(Cause::Short)?;
+    if !cells.is_multiple_of(CELL) {
+        return Err(Cause::Form);
+    }
+    limited(cells / CELL)
+}
+
+/// A set of links.
+struct Set(Vec<bool>);
+
+impl Set {
+    /// No link of a pool of `n` cells.
+    fn new(n: u32) -> Set {
+        Set(vec![false; n as usize + 1])
+    }
+
+    fn contains(&self, link: u32) -> bool {
+        self.0[link as usize]
+    }
+
+    /// True if the link is new.
+    fn insert(&mut self, link: u32) -> bool {
+        !std::mem::replace(&mut self.0[link as usize], true)
+    }
 }
 
 impl Pool {
     /// The words, if their length and word 0 fit.
-    pub fn decode(words: &[u32]) -> Result<Pool, u32> {
-        let n = cells_for(words.len()).ok_or(SIZE)?;
+    pub fn decode(words: &[u32]) -> Result<Pool, Cause> {
+        let n = cells_for(words.len())?;
         if words[0] as usize != n {
-            return Err(SIZE);
+            return Err(Cause::WordZero);
         }
         let mut registers = [0; REGISTERS];
         registers.copy_from_slice(&words[2..HEADER]);
@@ -54,12 +83,13 @@ impl Pool {
     }
 
     pub fn encode(&self, words: &mut [u32]) {
-        let mut all = vec![self.cells.len() as u32, self.head];
-        all.extend(self.registers);
-        for cell in &self.cells {
-            all.extend([cell.state, cell.left, cell.right, cell.value]);
+        assert_eq!(words.len(), HEADER + CELL * self.cells.len());
+        words[0] = self.n();
+        words[1] = self.head;
+        words[2..HEADER].copy_from_slice(&self.registers);
+        for (to, cell) in words[HEADER..].chunks_mut(CELL).zip(&self.cells) {
+            to.copy_from_slice(&[cell.state, cell.left, cell.right, cell.value]);
         }
-        words.copy_from_slice(&all);
     }
 
     pub fn n(&self) -> u32 {
@@ -74,41 +104,66 @@ impl Pool {
         &mut self.cells[i as usize - 1]
     }
 
-    pub fn valid_link(&self, link: u32) -> bool {
-        link == 0 || (link <= self.n() && self.cell(link).state == USED)
+    /// Why the link is not valid, where it is not.
+    fn invalid(&self, link: u32) -> Option<Link> {
+        match link {
+            0 => None,
+            _ if link > self.n() => Some(Link::AboveN),
+            _ if self.cell(link).state != USED => Some(Link::NotUsed),
+            _ => None,
+        }
+    }
+
+    /// What keeps the pool from being well-formed.
+    fn faults(&self) -> BTreeSet<Cause> {
+        let mut faults = BTreeSet::new();
+        for &link in &self.registers {
+            faults.extend(self.invalid(link).map(Cause::Register));
+        }
+        for cell in &self.cells {
+            if cell.state == USED {
+                faults.extend(self.invalid(cell.left).map(Cause::Left));
+                faults.extend(self.invalid(cell.right).map(Cause::Right));
+            } else if cell.state != FREE {
+                faults.insert(Cause::State);
+            }
+        }
+        faults
     }
 
     pub fn well_formed(&self) -> bool {
-        self.cells.iter().all(|cell| cell.state == USED || cell.state == FREE)
-            && self.registers.iter().all(|&link| self.valid_link(link))
-            && self
-                .cells
-                .iter()
-                .filter(|cell| cell.state == USED)
-                .all(|cell| self.valid_link(cell.left) && self.valid_link(cell.right))
+        self.faults().is_empty()
     }
 
-    fn require_well_formed(&self) -> Result<(), u32> {
-        if self.well_formed() {
-            Ok(())
-        } else {
-            Err(MALFORMED)
+    fn require_well_formed(&self) -> Result<(), Cause> {
+        let mut faults = self.faults().into_iter();
+        match (faults.next(), faults.next()) {
+            (None, _) => Ok(()),
+            (Some(fault), None) => Err(fault),
+            _ => Err(Cause::Several),
         }
     }
 
     /// The register's content where it is read: it has to be valid.
-    fn read(&self, register: u32) -> Result<u32, u32> {
+    fn read(&self, name: Name, register: u32) -> Result<u32, Cause> {
         let link = self.registers[register as usize];
-        if self.valid_link(link) {
-            Ok(link)
-        } else {
-            Err(MALFORMED)
+        match self.invalid(link) {
+            None => Ok(link),
+            Some(why) => Err(Cause::Read(name, why)),
+        }
+    }
+
+    /// The cell in register a.
+    fn held(&self, a: u32) -> Result<u32, Cause> {
+        match self.read(Name::A, a)? {
+            0 => Err(Cause::Nil),
+            cell => Ok(cell),
         }
     }
 
     /// Cells reached from the registers, by breadth.
     pub fn reached(&self) -> BTreeSet<u32> {
-        let mut found = BTreeSet::new();
+        let mut found = Set::new(self.n());
         let mut queue: VecDeque<u32> = self.registers.into_iter().collect();
         while let Some(link) = queue.pop_front() {
             if link != 0 && found.insert(link) {
@@ -117,7 +172,7 @@ impl Pool {
                 queue.push_back(cell.right);
             }
         }
-        found
+        (1..=self.n()).filter(|&i| found.contains(i)).collect()
     }
 
     /// Cells reached from the registers, by the recursive procedure of source document 000.
@@ -139,7 +194,7 @@ impl Pool {
     /// The cells in the order of their first depth-first visit, left before right, registers in order.
     pub fn depth_first(&self) -> Vec<u32> {
         let mut order = Vec::new();
-        let mut seen = BTreeSet::new();
+        let mut seen = Set::new(self.n());
         for register in self.registers {
             let mut pending = vec![register];
             while let Some(link) = pending.pop() {
@@ -166,8 +221,11 @@ impl Pool {
     /// Keep exactly the reached cells; answers how many.
     fn retain(&mut self) -> u32 {
         let kept = self.reached();
-        for i in 1..=self.n() {
-            self.cell_mut(i).state = if kept.contains(&i) { USED } else { FREE };
+        for cell in &mut self.cells {
+            cell.state = FREE;
+        }
+        for &i in &kept {
+            self.cell_mut(i).state = USED;
         }
         self.chain();
         kept.len() as u32
@@ -175,7 +233,8 @@ impl Pool {
 
     /// The most entries that Algorithm 2 of source document 003 ever holds, and how many cells it marks.
     pub fn stack_needed(&self) -> (usize, usize) {
-        let mut marked = BTreeSet::from([0]);
+        let mut marked = Set::new(self.n());
+        marked.insert(0);
         let mut most = 0;
         for register in self.registers {
             if !marked.insert(register) {
@@ -185,7 +244,7 @@ impl Pool {
             let mut current = register;
             loop {
                 let Cell { left, right, .. } = *self.cell(current);
-                match (marked.contains(&left), marked.contains(&right)) {
+                match (marked.contains(left), marked.contains(right)) {
                     (true, true) => match entries.pop() {
                         Some(next) => current = next,
                         None => break,
@@ -208,21 +267,21 @@ impl Pool {
                 }
             }
         }
-        (most, marked.len() - 1)
+        (most, (1..=self.n()).filter(|&i| marked.contains(i)).count())
     }
 
     /// The saved image of a well-formed pool.
     pub fn image(&self) -> Vec<u8> {
         let order = self.depth_first();
-        let mut number = BTreeMap::from([(0, 0)]);
+        let mut number = vec![0; self.cells.len() + 1];
         for (place, &i) in order.iter().enumerate() {
-            number.insert(i, place as u32 + 1);
+            number[i as usize] = place as u32 + 1;
         }
         let mut numbers = vec![order.len() as u32];
-        numbers.extend(self.registers.iter().map(|link| number[link]));
+        numbers.extend(self.registers.iter().map(|&link| number[link as usize]));
         for &i in &order {
             let cell = self.cell(i);
-            numbers.extend([number[&cell.left], number[&cell.right], cell.value]);
+            numbers.extend([number[cell.left as usize], number[cell.right as usize], cell.value]);
         }
         numbers.into_iter().flat_map(groups).collect()
     }
@@ -244,39 +303,40 @@ pub fn groups(number: u32) -> Vec<u8> {
 }
 
 /// The number at the front of the bytes, and how many bytes it takes.
-pub fn number(bytes: &[u8]) -> Result<(u32, usize), u32> {
-    let first: Vec<u8> = bytes.iter().copied().take(5).collect();
+fn number(bytes: &[u8], place: Place) -> Result<(u32, usize), Cause> {
+    let first = &bytes[..bytes.len().min(5)];
     let taken = match first.iter().position(|byte| byte & 0x80 == 0) {
         Some(last) => last + 1,
-        None if first.len() < 5 => return Err(TRUNCATED),
-        None => return Err(OUT_OF_RANGE),
+        None if first.len() < 5 => return Err(Cause::Truncated(place)),
+        None => return Err(Cause::Long(place)),
     };
-    let sum: u64 = first[..taken].iter().enumerate().map(|(place, &byte)| u64::from(byte & 0x7F) << (7 * place)).sum();
-    u32::try_from(sum).map(|number| (number, taken)).map_err(|_| OUT_OF_RANGE)
+    let groups = first[..taken].iter().enumerate();
+    let sum: u64 = groups.map(|(group, &byte)| u64::from(byte & 0x7F) << (7 * group)).sum();
+    u32::try_from(sum).map(|number| (number, taken)).map_err(|_| Cause::Wide(place))
 }
 
 /// The pool of `n` cells that an image describes, and where the image ends.
-pub fn parse(bytes: &[u8], n: usize) -> Result<(Pool, usize), u32> {
+pub fn parse(bytes: &[u8], n: usize) -> Result<(Pool, usize), Cause> {
     let mut at = 0;
-    let mut next = || -> Result<u32, u32> {
-        let (number, taken) = number(&bytes[at..])?;
+    let mut next = |place: Place, most: u32| -> Result<u32, Cause> {
+        let (number, taken) = number(&bytes[at..], place)?;
         at += taken;
-        Ok(number)
+        match (number > most, place) {
+            (false, _) => Ok(number),
+            (true, Place::K) => Err(Cause::MoreThanN),
+            (true, _) => Err(Cause::AboveK(place)),
+        }
     };
-    let k = next()?;
-    if k as usize > n {
-        return Err(TOO_MANY_CELLS);
-    }
-    let up_to_k = |link: u32| if link <= k { Ok(link) } else { Err(LINK_RANGE) };
+    let k = next(Place::K, n as u32)?;
     let mut registers = [0; REGISTERS];
     for register in &mut registers {
-        *register = up_to_k(next()?)?;
+        *register = next(Place::Register, k)?;
     }
     let mut cells = Vec::new();
     for _ in 0..k {
-        let left = up_to_k(next()?)?;
-        let right = up_to_k(next()?)?;
-        let value = next()?;
+        let left = next(Place::Left, k)?;
+        let right = next(Place::Right, k)?;
+        let value = next(Place::Value, u32::MAX)?;
         cells.push(Cell { state: USED, left, right, value });
     }
     cells.resize(n, Cell { state: FREE, left: 0, right: 0, value: 0 });
@@ -285,11 +345,10 @@ pub fn parse(bytes: &[u8], n: usize) -> Result<(Pool, usize), u32> {
     Ok((pool, at))
 }
 
-fn require_registers(numbers: &[u32]) -> Result<(), u32> {
-    if numbers.iter().all(|&number| (number as usize) < REGISTERS) {
-        Ok(())
-    } else {
-        Err(REGISTER)
+fn require_registers(numbers: &[(Name, u32)]) -> Result<(), Cause> {
+    match numbers.iter().find(|(_, number)| *number as usize >= REGISTERS) {
+        None => Ok(()),
+        Some((name, _)) => Err(Cause::Number(*name)),
     }
 }
 
@@ -301,33 +360,28 @@ enum Side {
 }
 
 impl Model {
-    fn follow(&self, words: &mut [u32], r: u32, a: u32, side: Side) -> Result<(), u32> {
+    fn follow(&self, words: &mut [u32], r: u32, a: u32, side: Side) -> Result<(), Cause> {
         let mut pool = Pool::decode(words)?;
-        require_registers(&[r, a])?;
-        let cell = pool.read(a)?;
-        if cell == 0 {
-            return Err(NIL);
-        }
+        require_registers(&[(Name::R, r), (Name::A, a)])?;
+        let cell = pool.held(a)?;
         let link = match side {
             Side::Left => pool.cell(cell).left,
             Side::Right => pool.cell(cell).right,
         };
-        if !pool.valid_link(link) {
-            return Err(MALFORMED);
+        if let Some(why) = pool.invalid(link) {
+            return Err(Cause::LinkRead(why));
         }
         pool.registers[r as usize] = link;
         pool.encode(words);
         Ok(())
     }
 
-    fn relink(&self, words: &mut [u32], a: u32, b: u32, side: Side) -> Result<(), u32> {
+    fn relink(&self, words: &mut [u32], a: u32, b: u32, side: Side) -> Result<(), Cause> {
         let mut pool = Pool::decode(words)?;
-        require_registers(&[a, b])?;
-        let cell = pool.read(a)?;
-        let link = pool.read(b)?;
-        if cell == 0 {
-            return Err(NIL);
-        }
+        require_registers(&[(Name::A, a), (Name::B, b)])?;
+        pool.read(Name::A, a)?;
+        let link = pool.read(Name::B, b)?;
+        let cell = pool.held(a)?;
         match side {
             Side::Left => pool.cell_mut(cell).left = link,
             Side::Right => pool.cell_mut(cell).right = link,
@@ -335,11 +389,21 @@ impl Model {
         pool.encode(words);
         Ok(())
     }
+
+    /// Answers kept.
+    fn collected(&self, words: &mut [u32]) -> Result<u32, Cause> {
+        let mut pool = Pool::decode(words)?;
+        pool.require_well_formed()?;
+        let kept = pool.retain();
+        pool.encode(words);
+        Ok(kept)
+    }
 }
 
-impl Interface for Model {
-    fn fresh(&self, words: &mut [u32]) -> Result<u32, u32> {
-        let n = cells_for(words.len()).ok_or(SIZE)?;
+/// A refusal is given as its number or as its cause.
+impl<R: From<Cause>> Interface<R> for Model {
+    fn fresh(&self, words: &mut [u32]) -> Result<u32, R> {
+        let n = cells_for(words.len())?;
         let free = Cell { state: FREE, left: 0, right: 0, value: 0 };
         let mut pool = Pool { head: 0, registers: [0; REGISTERS], cells: vec![free; n] };
         pool.chain();
@@ -347,36 +411,40 @@ impl Interface for Model {
         Ok(n as u32)
     }
 
-    fn copy(&self, words: &mut [u32], r: u32, a: u32) -> Result<(), u32> {
+    fn copy(&self, words: &mut [u32], r: u32, a: u32) -> Result<(), R> {
         let mut pool = Pool::decode(words)?;
-        require_registers(&[r, a])?;
-        pool.registers[r as usize] = pool.read(a)?;
+        require_registers(&[(Name::R, r), (Name::A, a)])?;
+        pool.registers[r as usize] = pool.read(Name::A, a)?;
         pool.encode(words);
         Ok(())
     }
 
-    fn clear(&self, words: &mut [u32], r: u32) -> Result<(), u32> {
+    fn clear(&self, words: &mut [u32], r: u32) -> Result<(), R> {
         let mut pool = Pool::decode(words)?;
-        require_registers(&[r])?;
+        require_registers(&[(Name::R, r)])?;
         pool.registers[r as usize] = 0;
         pool.encode(words);
         Ok(())
     }
 
-    fn new_cell(&self, words: &mut [u32], r: u32, a: u32, b: u32, v: u32) -> Result<u32, u32> {
+    fn new_cell(&self, words: &mut [u32], r: u32, a: u32, b: u32, v: u32) -> Result<u32, R> {
         let mut pool = Pool::decode(words)?;
-        require_registers(&[r, a, b])?;
-        let left = pool.read(a)?;
-        let right = pool.read(b)?;
+        require_registers(&[(Name::R, r), (Name::A, a), (Name::B, b)])?;
+        let left = pool.read(Name::A, a)?;
+        let right = pool.read(Name::B, b)?;
         let mut visits = 0;
         if pool.head == 0 {
             pool.require_well_formed()?;
             visits = 3 * pool.retain();
             if pool.head == 0 {
-                return Err(FULL);
+                return Err(Cause::Full.into());
             }
-        } else if pool.head > pool.n() || pool.cell(pool.head).state != FREE || pool.cell(pool.head).left > pool.n() {
-            return Err(MALFORMED);
+        } else if pool.head > pool.n() {
+            return Err(Cause::HeadAboveN.into());
+        } else if pool.cell(pool.head).state != FREE {
+            return Err(Cause::HeadNotFree.into());
+        } else if pool.cell(pool.head).left > pool.n() {
+            return Err(Cause::LeftOfHead.into());
         }
         let taken = pool.head;
         pool.head = pool.cell(taken).left;
@@ -386,115 +454,104 @@ impl Interface for Model {
         Ok(visits)
     }
 
-    fn left(&self, words: &mut [u32], r: u32, a: u32) -> Result<(), u32> {
-        self.follow(words, r, a, Side::Left)
+    fn left(&self, words: &mut [u32], r: u32, a: u32) -> Result<(), R> {
+        Ok(self.follow(words, r, a, Side::Left)?)
     }
 
-    fn right(&self, words: &mut [u32], r: u32, a: u32) -> Result<(), u32> {
-        self.follow(words, r, a, Side::Right)
+    fn right(&self, words: &mut [u32], r: u32, a: u32) -> Result<(), R> {
+        Ok(self.follow(words, r, a, Side::Right)?)
     }
 
-    fn setleft(&self, words: &mut [u32], a: u32, b: u32) -> Result<(), u32> {
-        self.relink(words, a, b, Side::Left)
+    fn setleft(&self, words: &mut [u32], a: u32, b: u32) -> Result<(), R> {
+        Ok(self.relink(words, a, b, Side::Left)?)
     }
 
-    fn setright(&self, words: &mut [u32], a: u32, b: u32) -> Result<(), u32> {
-        self.relink(words, a, b, Side::Right)
+    fn setright(&self, words: &mut [u32], a: u32, b: u32) -> Result<(), R> {
+        Ok(self.relink(words, a, b, Side::Right)?)
     }
 
-    fn setvalue(&self, words: &mut [u32], a: u32, v: u32) -> Result<(), u32> {
+    fn setvalue(&self, words: &mut [u32], a: u32, v: u32) -> Result<(), R> {
         let mut pool = Pool::decode(words)?;
-        require_registers(&[a])?;
-        let cell = pool.read(a)?;
-        if cell == 0 {
-            return Err(NIL);
-        }
+        require_registers(&[(Name::A, a)])?;
+        let cell = pool.held(a)?;
         pool.cell_mut(cell).value = v;
         pool.encode(words);
         Ok(())
     }
 
-    fn value(&self, words: &mut [u32], a: u32) -> Result<u32, u32> {
+    fn value(&self, words: &mut [u32], a: u32) -> Result<u32, R> {
         let pool = Pool::decode(words)?;
-        require_registers(&[a])?;
-        let cell = pool.read(a)?;
-        if cell == 0 {
-            return Err(NIL);
-        }
-        Ok(pool.cell(cell).value)
+        require_registers(&[(Name::A, a)])?;
+        Ok(pool.cell(pool.held(a)?).value)
     }
 
-    fn same(&self, words: &mut [u32], a: u32, b: u32) -> Result<u32, u32> {
+    fn same(&self, words: &mut [u32], a: u32, b: u32) -> Result<u32, R> {
         let pool = Pool::decode(words)?;
-        require_registers(&[a, b])?;
-        Ok(u32::from(pool.read(a)? == pool.read(b)?))
+        require_registers(&[(Name::A, a), (Name::B, b)])?;
+        Ok(u32::from(pool.read(Name::A, a)? == pool.read(Name::B, b)?))
     }
 
-    fn collect(&self, words: &mut [u32]) -> Result<(u32, u32), u32> {
-        let mut pool = Pool::decode(words)?;
-        pool.require_well_formed()?;
-        let kept = pool.retain();
-        pool.encode(words);
+    fn collect(&self, words: &mut [u32]) -> Result<(u32, u32), R> {
+        let kept = self.collected(words)?;
         Ok((kept, 3 * kept))
     }
 
-    fn collect_tally(&self, words: &mut [u32], tally: &mut Tally) -> Result<(u32, u32), u32> {
-        let (kept, visits) = self.collect(words)?;
-        tally.collections = (u64::from(tally.collections) + 1).min(u64::from(u32::MAX)) as u32;
-        tally.visits = (u64::from(tally.visits) + u64::from(visits)).min(u64::from(u32::MAX)) as u32;
-        Ok((kept, visits))
+    fn collect_tally(&self, words: &mut [u32], tally: &mut Tally) -> Result<(u32, u32), R> {
+        let kept = self.collected(words)?;
+        let sum = |before: u32, more: u32| (u64::from(before) + u64::from(more)).min(u64::from(u32::MAX)) as u32;
+        tally.collections = sum(tally.collections, 1);
+        tally.visits = sum(tally.visits, 3 * kept);
+        Ok((kept, 3 * kept))
     }
 
-    fn collect_stack(&self, words: &mut [u32], stack: &mut [u32]) -> Result<(u32, u32), u32> {
+    fn collect_stack(&self, words: &mut [u32], stack: &mut [u32]) -> Result<(u32, u32), R> {
         let pool = Pool::decode(words)?;
         pool.require_well_formed()?;
         let (needed, _) = pool.stack_needed();
-        let (kept, _) = self.collect(words)?;
+        let kept = self.collected(words)?;
         stack.fill(0);
         Ok((kept, u32::from(needed <= stack.len())))
     }
 
-    fn collect_recursive(&self, words: &mut [u32]) -> Result<(u32, u32), u32> {
+    fn collect_recursive(&self, words: &mut [u32]) -> Result<(u32, u32), R> {
         if Pool::decode(words)?.cells.len() > MOST_RECURSIVE {
-            return Err(TOO_LARGE);
+            return Err(Cause::TooLarge.into());
         }
         self.collect(words)
     }
 
-    fn save(&self, words: &mut [u32], scratch: &mut [u32], out: &mut [u8]) -> Result<usize, u32> {
+    fn save(&self, words: &mut [u32], scratch: &mut [u32], out: &mut [u8]) -> Result<usize, R> {
         let pool = Pool::decode(words)?;
         if scratch.len() < 2 * pool.cells.len() {
-            return Err(NO_ROOM);
+            return Err(Cause::Scratch.into());
         }
         pool.require_well_formed()?;
         scratch.fill(0);
         let image = pool.image();
-        let place = out.get_mut(..image.len()).ok_or(NO_ROOM)?;
+        let place = out.get_mut(..image.len()).ok_or(Cause::Output)?;
         place.copy_from_slice(&image);
         Ok(image.len())
     }
 
-    fn load(&self, words: &mut [u32], bytes: &[u8]) -> (Result<(), u32>, usize) {
-        let parsed = cells_for(words.len()).ok_or(SIZE).and_then(|n| parse(bytes, n));
-        match parsed {
+    fn load(&self, words: &mut [u32], bytes: &[u8]) -> (Result<(), R>, usize) {
+        match cells_for(words.len()).and_then(|n| parse(bytes, n)) {
             Ok((pool, end)) => {
                 pool.encode(words);
                 (Ok(()), end)
             }
-            Err(refusal) => (Err(refusal), bytes.len()),
+            Err(cause) => (Err(cause.into()), bytes.len()),
         }
     }
 
-    fn check_image(&self, bytes: &[u8], n: u32) -> Result<(), u32> {
-        if n == 0 || n as usize > MOST_CELLS {
-            return Err(SIZE);
-        }
-        parse(bytes, n as usize).map(|_| ())
+    fn check_image(&self, bytes: &[u8], n: u32) -> Result<(), R> {
+        parse(bytes, limited(n as usize)?)?;
+        Ok(())
     }
 
-    fn occupancy(&self, kept: u32, n: u32) -> Result<u32, u32> {
-        if n == 0 || n as usize > MOST_CELLS || kept > n {
-            return Err(SIZE);
+    fn occupancy(&self, kept: u32, n: u32) -> Result<u32, R> {
+        limited(n as usize)?;
+        if kept > n {
+            return Err(Cause::Kept.into());
         }
         Ok(100 * kept / n)
     }

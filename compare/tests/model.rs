@@ -85,7 +85,7 @@ fn a_saved_image_loads_as_the_pool_that_saves_the_same_image() {
     for pool in well_formed_pools(&mut random(4), rounds(5_000)) {
         let image = pool.image();
         let mut words = vec![7; 18 + 4 * pool.cells.len()];
-        assert_eq!(Model.load(&mut words, &image), (Ok(()), image.len()));
+        assert_eq!(Model.load(&mut words, &image), (Ok::<(), u32>(()), image.len()));
         let loaded = Pool::decode(&words).expect("the size is right");
         assert!(loaded.well_formed());
         assert_eq!(loaded.image(), image);
