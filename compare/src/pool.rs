@@ -1,8 +1,10 @@
 //! The library under test, and the C baseline, behind safe functions.
 //!
-//! Every result is lent with a number that no call writes by chance, so that a refusal that writes it is noticed.
+//! Every result is lent with a number that no call writes by chance, so that a refusal that writes it is noticed, and stands
+//! between two more of these, which no call may write.
 
 use crate::{Interface, Tally};
+use std::fmt::Debug;
 
 const UNSET: u32 = 0xA5A5_1234;
 const UNSET_SIZE: usize = usize::MAX - 0x1234;
@@ -15,18 +17,20 @@ fn done(answer: u32) -> Result<(), u32> {
     }
 }
 
-fn one(answer: u32, number: u32) -> Result<u32, u32> {
+/// Lend numbers for results to a call.
+fn results<T: Copy + PartialEq + Debug, const N: usize>(
+    unset: T,
+    call: impl FnOnce([*mut T; N]) -> u32,
+) -> Result<[T; N], u32> {
+    let mut lent = [[unset; 3]; N];
+    let answer = call(lent.each_mut().map(|[_, number, _]| number as *mut T));
+    assert!(lent.iter().all(|[before, _, behind]| (before, behind) == (&unset, &unset)), "beside a result: {lent:X?}");
+    let numbers = lent.map(|[_, number, _]| number);
     if answer != 0 {
-        assert_eq!(number, UNSET, "refusal {answer} wrote its result");
+        assert_eq!(numbers, [unset; N], "refusal {answer} wrote its result");
         return Err(answer);
     }
-    Ok(number)
-}
-
-fn two(answer: u32, first: u32, second: u32) -> Result<(u32, u32), u32> {
-    let first = one(answer, first);
-    let second = one(answer, second);
-    Ok((first?, second?))
+    Ok(numbers)
 }
 
 /// Declare the functions of one library and give them the common interface.
@@ -91,9 +95,7 @@ macro_rules! bind {
 
         impl Interface for $type {
             fn fresh(&self, words: &mut [u32]) -> Result<u32, u32> {
-                let mut cells = UNSET;
-                let answer = unsafe { $fresh(words.as_mut_ptr(), words.len(), &mut cells) };
-                one(answer, cells)
+                results(UNSET, |[cells]| unsafe { $fresh(words.as_mut_ptr(), words.len(), cells) }).map(|[cells]| cells)
             }
 
             fn copy(&self, words: &mut [u32], r: u32, a: u32) -> Result<(), u32> {
@@ -105,9 +107,8 @@ macro_rules! bind {
             }
 
             fn new_cell(&self, words: &mut [u32], r: u32, a: u32, b: u32, v: u32) -> Result<u32, u32> {
-                let mut visits = UNSET;
-                let answer = unsafe { $new(words.as_mut_ptr(), words.len(), r, a, b, v, &mut visits) };
-                one(answer, visits)
+                results(UNSET, |[visits]| unsafe { $new(words.as_mut_ptr(), words.len(), r, a, b, v, visits) })
+                    .map(|[visits]| visits)
             }
 
             fn left(&self, words: &mut [u32], r: u32, a: u32) -> Result<(), u32> {
@@ -131,62 +132,47 @@ macro_rules! bind {
             }
 
             fn value(&self, words: &mut [u32], a: u32) -> Result<u32, u32> {
-                let mut value = UNSET;
-                let answer = unsafe { $value(words.as_mut_ptr(), words.len(), a, &mut value) };
-                one(answer, value)
+                results(UNSET, |[value]| unsafe { $value(words.as_mut_ptr(), words.len(), a, value) })
+                    .map(|[value]| value)
             }
 
             fn same(&self, words: &mut [u32], a: u32, b: u32) -> Result<u32, u32> {
-                let mut same = UNSET;
-                let answer = unsafe { $same(words.as_mut_ptr(), words.len(), a, b, &mut same) };
-                one(answer, same)
+                results(UNSET, |[same]| unsafe { $same(words.as_mut_ptr(), words.len(), a, b, same) })
+                    .map(|[same]| same)
             }
 
             fn collect(&self, words: &mut [u32]) -> Result<(u32, u32), u32> {
-                let (mut kept, mut visits) = (UNSET, UNSET);
-                let answer = unsafe { $collect(words.as_mut_ptr(), words.len(), &mut kept, &mut visits) };
-                two(answer, kept, visits)
+                results(UNSET, |[kept, visits]| unsafe { $collect(words.as_mut_ptr(), words.len(), kept, visits) })
+                    .map(|[kept, visits]| (kept, visits))
             }
 
             fn collect_tally(&self, words: &mut [u32], tally: &mut Tally) -> Result<(u32, u32), u32> {
-                let (mut kept, mut visits) = (UNSET, UNSET);
-                let answer = unsafe {
-                    $collect_tally(
-                        words.as_mut_ptr(),
-                        words.len(),
-                        &mut tally.collections,
-                        &mut tally.visits,
-                        &mut kept,
-                        &mut visits,
-                    )
-                };
-                two(answer, kept, visits)
+                let mut lent = [UNSET, tally.collections, UNSET, tally.visits, UNSET];
+                let [_, collections, _, total, _] = lent.each_mut().map(|number| number as *mut u32);
+                let answer = results(UNSET, |[kept, visits]| unsafe {
+                    $collect_tally(words.as_mut_ptr(), words.len(), collections, total, kept, visits)
+                });
+                assert_eq!([lent[0], lent[2], lent[4]], [UNSET; 3], "beside the tally: {lent:X?}");
+                *tally = Tally { collections: lent[1], visits: lent[3] };
+                answer.map(|[kept, visits]| (kept, visits))
             }
 
             fn collect_stack(&self, words: &mut [u32], stack: &mut [u32]) -> Result<(u32, u32), u32> {
-                let (mut kept, mut enough) = (UNSET, UNSET);
-                let answer = unsafe {
-                    $collect_stack(
-                        words.as_mut_ptr(),
-                        words.len(),
-                        stack.as_mut_ptr(),
-                        stack.len(),
-                        &mut kept,
-                        &mut enough,
-                    )
-                };
-                two(answer, kept, enough)
+                results(UNSET, |[kept, enough]| unsafe {
+                    $collect_stack(words.as_mut_ptr(), words.len(), stack.as_mut_ptr(), stack.len(), kept, enough)
+                })
+                .map(|[kept, enough]| (kept, enough))
             }
 
             fn collect_recursive(&self, words: &mut [u32]) -> Result<(u32, u32), u32> {
-                let (mut kept, mut visits) = (UNSET, UNSET);
-                let answer = unsafe { $collect_recursive(words.as_mut_ptr(), words.len(), &mut kept, &mut visits) };
-                two(answer, kept, visits)
+                results(UNSET, |[kept, visits]| unsafe {
+                    $collect_recursive(words.as_mut_ptr(), words.len(), kept, visits)
+                })
+                .map(|[kept, visits]| (kept, visits))
             }
 
             fn save(&self, words: &mut [u32], scratch: &mut [u32], out: &mut [u8]) -> Result<usize, u32> {
-                let mut bytes = UNSET_SIZE;
-                let answer = unsafe {
+                results(UNSET_SIZE, |[bytes]| unsafe {
                     $save(
                         words.as_mut_ptr(),
                         words.len(),
@@ -194,21 +180,18 @@ macro_rules! bind {
                         scratch.len(),
                         out.as_mut_ptr(),
                         out.len(),
-                        &mut bytes,
+                        bytes,
                     )
-                };
-                if answer != 0 {
-                    assert_eq!(bytes, UNSET_SIZE, "refusal {answer} wrote its result");
-                    return Err(answer);
-                }
-                Ok(bytes)
+                })
+                .map(|[bytes]| bytes)
             }
 
             fn load(&self, words: &mut [u32], bytes: &[u8]) -> (Result<(), u32>, usize) {
-                let mut rest = UNSET_SIZE;
+                let mut rest = [UNSET_SIZE; 3];
                 let answer =
-                    unsafe { $load(words.as_mut_ptr(), words.len(), bytes.as_ptr(), bytes.len(), &mut rest) };
-                (done(answer), rest)
+                    unsafe { $load(words.as_mut_ptr(), words.len(), bytes.as_ptr(), bytes.len(), &mut rest[1]) };
+                assert_eq!([rest[0], rest[2]], [UNSET_SIZE; 2], "beside the rest: {rest:X?}");
+                (done(answer), rest[1])
             }
 
             fn check_image(&self, bytes: &[u8], n: u32) -> Result<(), u32> {
@@ -216,9 +199,7 @@ macro_rules! bind {
             }
 
             fn occupancy(&self, kept: u32, n: u32) -> Result<u32, u32> {
-                let mut percent = UNSET;
-                let answer = unsafe { $occupancy(kept, n, &mut percent) };
-                one(answer, percent)
+                results(UNSET, |[percent]| unsafe { $occupancy(kept, n, percent) }).map(|[percent]| percent)
             }
         }
     };
