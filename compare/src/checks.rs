@@ -1,13 +1,47 @@
 //! The comparisons. Each runs one implementation on many inputs and answers the first difference as text.
 
 use crate::generate::{self, Shape, SHAPES};
-use crate::model::{Model, Pool};
-use crate::random::Random;
+use crate::model::{groups, Model, Pool};
+use crate::random::{self, Random};
 use crate::reference::Reference;
-use crate::{apply, words_for, Answer, Call, Interface, Tally, CELL, FREE, HEADER, MOST_CELLS, REGISTERS, USED};
+use crate::{
+    apply, cell_at, words_for, Answer, Call, Interface, Tally, CELL, FREE, HEADER, MOST_CELLS, REGISTERS, USED,
+};
 use std::fmt::Debug;
 
 pub type Outcome = Result<(), String>;
+
+/// A comparison, with the stream of its random numbers and, where it has rounds, how many one run has.
+#[derive(Clone, Copy)]
+pub struct Comparison {
+    pub stream: u64,
+    pub rounds: usize,
+    pub run: fn(&dyn Interface, &mut Random, usize) -> Outcome,
+}
+
+impl Comparison {
+    /// Run it, with the seed and the rounds that are set.
+    pub fn on(self, pool: &dyn Interface) -> Outcome {
+        let seed = random::seed();
+        let mut random = Random::new(seed.wrapping_mul(1_000).wrapping_add(self.stream));
+        (self.run)(pool, &mut random, random::rounds(self.rounds)).map_err(|text| format!("seed {seed}: {text}"))
+    }
+}
+
+pub const CALL_LISTS: Comparison = Comparison { stream: 1, rounds: 6_000, run: call_lists };
+pub const ANY_WORDS: Comparison = Comparison { stream: 2, rounds: 30_000, run: any_words };
+pub const REFERENCE: Comparison = Comparison { stream: 3, rounds: 15_000, run: against_reference };
+pub const COLLECTIONS: Comparison = Comparison { stream: 4, rounds: 15_000, run: collections };
+pub const GRAPHS: Comparison = Comparison { stream: 5, rounds: 0, run: graphs };
+pub const SAVES: Comparison = Comparison { stream: 6, rounds: 6_000, run: saves };
+pub const IMAGES: Comparison = Comparison { stream: 7, rounds: 60_000, run: images };
+pub const FIRST_NUMBERS: Comparison = Comparison { stream: 8, rounds: 0, run: first_numbers };
+pub const LENGTHS: Comparison = Comparison { stream: 9, rounds: 0, run: lengths };
+pub const PERCENTAGES: Comparison = Comparison { stream: 10, rounds: 0, run: percentages };
+pub const SMALL_POOLS: Comparison = Comparison { stream: 11, rounds: 0, run: small_pools };
+pub const LARGEST_POOL: Comparison = Comparison { stream: 12, rounds: 0, run: largest_pool_filled };
+pub const SIZES: Comparison = Comparison { stream: 13, rounds: 0, run: every_size };
+pub const STACK_LENGTHS: Comparison = Comparison { stream: 14, rounds: 0, run: every_stack_length };
 
 fn equal<T: PartialEq + Debug>(what: impl Fn() -> String, found: T, expected: T) -> Outcome {
     if found == expected {
@@ -19,10 +53,11 @@ fn equal<T: PartialEq + Debug>(what: impl Fn() -> String, found: T, expected: T)
 
 /// Words after a call; the text names the first place where they differ.
 fn equal_words<T: PartialEq + Debug>(what: impl Fn() -> String, found: &[T], expected: &[T]) -> Outcome {
-    match (0..expected.len()).find(|&place| found[place] != expected[place]) {
-        None => Ok(()),
-        Some(place) => Err(format!("{}: place {place} is {:?}, expected {:?}", what(), found[place], expected[place])),
+    if found == expected {
+        return Ok(());
     }
+    let place = (0..expected.len()).find(|&place| found[place] != expected[place]).expect("one place differs");
+    Err(format!("{}: place {place} is {:?}, expected {:?}", what(), found[place], expected[place]))
 }
 
 /// One call on the words, which are then those of the model.
@@ -36,14 +71,21 @@ pub fn one_call(pool: &dyn Interface, words: &mut [u32], call: Call) -> Outcome 
     equal_words(what, &found, words)
 }
 
+/// Fresh on the words, which are then those of the model.
+fn fresh(pool: &dyn Interface, words: &mut [u32]) -> Outcome {
+    let length = words.len();
+    let what = || format!("fresh on {length} words");
+    let mut found = words.to_vec();
+    equal(what, pool.fresh(&mut found), Model.fresh(words))?;
+    equal_words(what, &found, words)
+}
+
 /// Lists of calls from fresh words, every word compared after every call.
-pub fn call_lists(pool: &dyn Interface, random: &mut Random, rounds: usize) -> Outcome {
+fn call_lists(pool: &dyn Interface, random: &mut Random, rounds: usize) -> Outcome {
     for _ in 0..rounds {
         let n = generate::cells(random);
         let mut words = generate::noise(random, n);
-        let mut found = words.clone();
-        equal(|| "fresh".into(), pool.fresh(&mut found), Model.fresh(&mut words))?;
-        equal_words(|| "fresh".into(), &found, &words)?;
+        fresh(pool, &mut words)?;
         let count = random.between(1, 120);
         for call in generate::calls(random, count) {
             one_call(pool, &mut words, call)?;
@@ -53,16 +95,13 @@ pub fn call_lists(pool: &dyn Interface, random: &mut Random, rounds: usize) -> O
 }
 
 /// Every call on words of any kind, among them damaged ones and ones of a wrong size.
-pub fn any_words(pool: &dyn Interface, random: &mut Random, rounds: usize) -> Outcome {
+fn any_words(pool: &dyn Interface, random: &mut Random, rounds: usize) -> Outcome {
     for _ in 0..rounds {
         let words = generate::words(random);
         for call in generate::calls(random, 12) {
             one_call(pool, &mut words.clone(), call)?;
         }
-        let mut found = words.clone();
-        let mut expected = words.clone();
-        equal(|| format!("fresh on {words:?}"), pool.fresh(&mut found), Model.fresh(&mut expected))?;
-        equal_words(|| format!("fresh on {words:?}"), &found, &expected)?;
+        fresh(pool, &mut words.clone())?;
     }
     Ok(())
 }
@@ -85,7 +124,7 @@ pub fn against_reference(pool: &dyn Interface, random: &mut Random, rounds: usiz
 }
 
 /// One list of calls: where the answers first differ, and where they must.
-pub fn reference_list(pool: &dyn Interface, n: usize, limit: u64, list: &[Call]) -> Outcome {
+fn reference_list(pool: &dyn Interface, n: usize, limit: u64, list: &[Call]) -> Outcome {
     let mut words = vec![0; words_for(n)];
     equal(|| format!("fresh of {n}"), pool.fresh(&mut words), Ok(n as u32))?;
     let found: Vec<Answer> = list.iter().map(|&call| apply(pool, &mut words, call).0).collect();
@@ -104,7 +143,7 @@ pub fn reference_list(pool: &dyn Interface, n: usize, limit: u64, list: &[Call])
 }
 
 /// The largest pool filled, and used again after everything was dropped.
-pub fn largest_pool_filled(pool: &dyn Interface) -> Outcome {
+fn largest_pool_filled(pool: &dyn Interface, _: &mut Random, _: usize) -> Outcome {
     let n = MOST_CELLS;
     let fill = |v: usize| Call::New { r: 0, a: 0, b: 1, v: v as u32 };
     let mut list: Vec<Call> = (0..n + 2).map(fill).collect();
@@ -120,7 +159,7 @@ pub fn largest_pool_filled(pool: &dyn Interface) -> Outcome {
 }
 
 /// Every pool of one or two cells with small numbers, and every well-formed pool of three used cells.
-pub fn small_pools(pool: &dyn Interface, random: &mut Random) -> Outcome {
+fn small_pools(pool: &dyn Interface, random: &mut Random, _: usize) -> Outcome {
     let digits = |mut code: usize, bases: &[usize]| -> Vec<u32> {
         let digit = |&base: &usize| {
             let digit = code % base;
@@ -182,7 +221,7 @@ pub fn small_pools(pool: &dyn Interface, random: &mut Random) -> Outcome {
 }
 
 /// Every form of collect on the same words.
-pub fn collections(pool: &dyn Interface, random: &mut Random, rounds: usize) -> Outcome {
+fn collections(pool: &dyn Interface, random: &mut Random, rounds: usize) -> Outcome {
     for _ in 0..rounds {
         let words = generate::words(random);
         every_collect(pool, &words, random)?;
@@ -190,40 +229,75 @@ pub fn collections(pool: &dyn Interface, random: &mut Random, rounds: usize) -> 
     Ok(())
 }
 
-/// Every form of collect on these words: answers, words, tally and stack.
-pub fn every_collect(pool: &dyn Interface, words: &[u32], random: &mut Random) -> Outcome {
-    let (mut found, mut expected) = (words.to_vec(), words.to_vec());
-    equal(|| format!("collect on {words:?}"), pool.collect(&mut found), Model.collect(&mut expected))?;
-    equal_words(|| format!("collect on {words:?}"), &found, &expected)?;
+/// The pool in these words, if it is well-formed.
+fn decoded(words: &[u32]) -> Option<Pool> {
+    Pool::decode(words).ok().filter(Pool::well_formed)
+}
 
+/// How many cells the length has room for, at least one.
+fn room(words: &[u32]) -> usize {
+    (words.len().saturating_sub(HEADER) / CELL).max(1)
+}
+
+/// The words that the stack marker needs, or a small number.
+fn stack_needed(words: &[u32], random: &mut Random) -> usize {
+    decoded(words).map_or_else(|| random.below(3), |pool| pool.stack_needed().0)
+}
+
+/// A length with up to 20,000 elements behind those needed, and now and then one that differs by 2^16 from one that is
+/// too short.
+fn far_beyond(random: &mut Random, needed: usize) -> usize {
+    if random.once_in(4) {
+        (1 << 16) + random.below(needed + 1)
+    } else {
+        needed + random.below(20_000)
+    }
+}
+
+/// Every form of collect on these words: answers, words, tally and stack. The lengths of the stack are around what is
+/// needed, any up to beyond N, and now and then far beyond.
+fn every_collect(pool: &dyn Interface, words: &[u32], random: &mut Random) -> Outcome {
+    one_call(pool, &mut words.to_vec(), Call::Collect)?;
+    recursive_collect(pool, words)?;
+    tally_collect(pool, words, random)?;
+    let needed = stack_needed(words, random);
+    let around = [needed.saturating_sub(2), needed.saturating_sub(1), needed, needed + 1, needed + 5];
+    let any = [0, 1, random.below(room(words) + 10), random.below(needed + 3)];
+    for length in around.into_iter().chain(any) {
+        stack_collect(pool, words, length, random)?;
+    }
+    if random.once_in(30) {
+        let length = far_beyond(random, needed);
+        stack_collect(pool, words, length, random)?;
+    }
+    Ok(())
+}
+
+fn recursive_collect(pool: &dyn Interface, words: &[u32]) -> Outcome {
     let (mut found, mut expected) = (words.to_vec(), words.to_vec());
     let what = || format!("recursive collect on {words:?}");
     equal(what, pool.collect_recursive(&mut found), Model.collect_recursive(&mut expected))?;
-    equal_words(what, &found, &expected)?;
+    equal_words(what, &found, &expected)
+}
 
-    let near = |random: &mut Random| random.pick(&[0, 1, 7, u32::MAX - 7, u32::MAX - 3, u32::MAX - 1, u32::MAX]);
-    let before = Tally { collections: near(random), visits: near(random) };
+fn tally_collect(pool: &dyn Interface, words: &[u32], random: &mut Random) -> Outcome {
+    let mut near = || match random.below(3) {
+        0 => random.word(),
+        1 => u32::MAX - random.below(3 * room(words) + 2) as u32,
+        _ => random.pick(&[0, 1, 7, u32::MAX - 7, u32::MAX - 3, u32::MAX - 1, u32::MAX]),
+    };
+    let before = Tally { collections: near(), visits: near() };
     let (mut found, mut expected) = (words.to_vec(), words.to_vec());
     let (mut found_tally, mut expected_tally) = (before, before);
     let what = || format!("tally collect with {before:?} on {words:?}");
     let answer = pool.collect_tally(&mut found, &mut found_tally);
     equal(what, answer, Model.collect_tally(&mut expected, &mut expected_tally))?;
     equal_words(what, &found, &expected)?;
-    equal(what, found_tally, expected_tally)?;
-
-    let needed = match Pool::decode(words) {
-        Ok(pool) if pool.well_formed() => pool.stack_needed().0,
-        _ => random.below(3),
-    };
-    let lengths = [0, 1, needed.saturating_sub(2), needed.saturating_sub(1), needed, needed + 1, needed + 5];
-    for length in lengths {
-        stack_collect(pool, words, length, random)?;
-    }
-    Ok(())
+    equal(what, found_tally, expected_tally)
 }
 
 /// The stack marker with a stack of this length.
-pub fn stack_collect(pool: &dyn Interface, words: &[u32], length: usize, random: &mut Random) -> Outcome {
+fn stack_collect(pool: &dyn Interface, words: &[u32], length: usize, random: &mut Random) -> Outcome {
     let stack: Vec<u32> = (0..length).map(|_| random.word() | 1).collect();
     let (mut found, mut expected) = (words.to_vec(), words.to_vec());
     let (mut found_stack, mut expected_stack) = (stack.clone(), stack);
@@ -234,8 +308,28 @@ pub fn stack_collect(pool: &dyn Interface, words: &[u32], length: usize, random:
     equal_words(what, &found_stack, &expected_stack)
 }
 
+/// A chain with equal links of every length, collected with one stack word less than it needs, with as many, with one more,
+/// and with any number: so every length of a stack is tried where it is just too short and where it is just enough. What
+/// is expected is known without the model.
+fn every_stack_length(pool: &dyn Interface, random: &mut Random, _: usize) -> Outcome {
+    for used in 1..=MOST_CELLS {
+        let n = if random.once_in(2) { used } else { random.between(used, MOST_CELLS) };
+        let words = generate::equal_chain(random, used, n);
+        let any = random.below(n + 4);
+        for length in [used.saturating_sub(2), used - 1, used, any] {
+            let (mut found, mut stack) = (words.clone(), vec![random.word() | 1; length]);
+            let what = || format!("stack collect of {used} cells of {n} with {length} words");
+            let answer = pool.collect_stack(&mut found, &mut stack);
+            equal(what, answer, Ok((used as u32, u32::from(length >= used - 1))))?;
+            equal_words(what, &found, &words)?;
+            equal(what, stack.iter().find(|&&word| word != 0), None)?;
+        }
+    }
+    Ok(())
+}
+
 /// Graphs of known shape, up to the largest pool.
-pub fn shapes(pool: &dyn Interface, random: &mut Random) -> Outcome {
+fn graphs(pool: &dyn Interface, random: &mut Random, _: usize) -> Outcome {
     for shape in SHAPES {
         for n in [1, 2, 3, 4, 5, 6, 7, 31, 63, 64, 65, 100, MOST_CELLS - 1, MOST_CELLS] {
             let words = shape.words(n, random);
@@ -253,32 +347,58 @@ pub fn shapes(pool: &dyn Interface, random: &mut Random) -> Outcome {
     Ok(())
 }
 
-/// Save with scratch and output of lengths around what is needed.
-pub fn saves(pool: &dyn Interface, random: &mut Random, rounds: usize) -> Outcome {
+/// Save with scratch and output of lengths around what is needed, and of any.
+fn saves(pool: &dyn Interface, random: &mut Random, rounds: usize) -> Outcome {
     for _ in 0..rounds {
         let words = generate::words(random);
-        every_save(pool, &words, random)?;
+        if words.len() < words_for(200) {
+            every_save(pool, &words, random)?;
+        } else {
+            some_saves(pool, &words, random)?;
+        }
     }
     Ok(())
 }
 
-pub fn every_save(pool: &dyn Interface, words: &[u32], random: &mut Random) -> Outcome {
+/// The image of these words, or bytes of about such a length.
+fn image(words: &[u32], random: &mut Random) -> Vec<u8> {
+    decoded(words).map_or_else(|| vec![0; random.between(17, 40)], |pool| pool.image())
+}
+
+fn every_save(pool: &dyn Interface, words: &[u32], random: &mut Random) -> Outcome {
     let n = words.len().saturating_sub(HEADER) / CELL;
-    let image = match Pool::decode(words) {
-        Ok(pool) if pool.well_formed() => pool.image(),
-        _ => vec![0; random.between(17, 40)],
-    };
-    let bytes = image.len();
+    let bytes = image(words, random).len();
     for scratch in [0, n, (2 * n).saturating_sub(1), 2 * n, 2 * n + 1, 2 * n + 9] {
         for out in [0, 1, 16, 17, bytes - 1, bytes, bytes + 1, bytes + 11] {
             save(pool, words, scratch, out, random)?;
         }
     }
-    // A loaded save, and bytes behind it.
-    let behind = random.below(5);
-    let mut longer = image;
+    some_saves(pool, words, random)
+}
+
+/// Save with enough scratch and output and one element less, with any, and with far more; then load what was saved.
+fn some_saves(pool: &dyn Interface, words: &[u32], random: &mut Random) -> Outcome {
+    let needed = 2 * (words.len().saturating_sub(HEADER) / CELL);
+    let mut longer = image(words, random);
+    let bytes = longer.len();
+    for (scratch, out) in [
+        (needed, bytes),
+        (needed.saturating_sub(1), bytes),
+        (needed, bytes - 1),
+        (random.below(needed + 10), bytes + random.below(10)),
+        (needed + random.below(10), random.below(bytes + 10)),
+    ] {
+        save(pool, words, scratch, out, random)?;
+    }
+    if random.once_in(30) {
+        let (scratch, out) = (far_beyond(random, needed), far_beyond(random, bytes));
+        save(pool, words, scratch, out, random)?;
+    }
+    // Bytes behind the image, now and then so many that the length differs by 2^16 from one that is too short.
+    let behind = if random.once_in(30) { (1 << 16) - 1 } else { random.below(5) };
     longer.extend((0..behind).map(|_| random.word() as u8));
-    load(pool, words, &longer)
+    load(pool, words, &longer)?;
+    check(pool, &longer, needed as u32 / 2)
 }
 
 fn save(pool: &dyn Interface, words: &[u32], scratch: usize, out: usize, random: &mut Random) -> Outcome {
@@ -302,22 +422,27 @@ fn load(pool: &dyn Interface, words: &[u32], bytes: &[u8]) -> Outcome {
     equal_words(what, &found, &expected)
 }
 
+fn check(pool: &dyn Interface, bytes: &[u8], n: u32) -> Outcome {
+    equal(|| format!("check for {n} of {bytes:02X?}"), pool.check_image(bytes, n), Model.check_image(bytes, n))
+}
+
 /// Load and check on images of every kind.
-pub fn images(pool: &dyn Interface, random: &mut Random, rounds: usize) -> Outcome {
+fn images(pool: &dyn Interface, random: &mut Random, rounds: usize) -> Outcome {
     for _ in 0..rounds {
-        let n = random.pick(&[1, 1, 2, 3, 5, 8, 20]);
+        let n = if random.once_in(2) { random.pick(&[1, 1, 2, 3, 5, 8, 20]) } else { generate::cells(random) };
         let bytes = generate::image(random, n);
         let mut words = generate::noise(random, n);
         if random.once_in(20) {
-            let length = random.below(words.len() + 3);
-            words.resize(length, 7);
+            let (few, any) = (random.below(HEADER), random.below(words.len() + 3));
+            words.resize(random.pick(&[few, any, any, words_for(0), words_for(MOST_CELLS + 1)]), 7);
         }
         load(pool, &words, &bytes)?;
-        let limit = random.pick(&[0, 1, n as u32, n as u32, n as u32, n as u32 + 1, 4000, 4001, u32::MAX]);
-        let what = || format!("check for {limit} of {bytes:02X?}");
-        equal(what, pool.check_image(&bytes, limit), Model.check_image(&bytes, limit))?;
+        let near = n as u32;
+        check(pool, &bytes, random.pick(&[0, 1, near - 1, near, near, near, near + 1, 3_999, 4_000, 4_001, u32::MAX]))?;
         if random.once_in(10) {
-            for length in 0..bytes.len() {
+            // Every cut of a short image, some of a long one.
+            let step = if n <= 20 { 1 } else { random.between(bytes.len() / 8 + 1, bytes.len() + 1) };
+            for length in (0..bytes.len()).step_by(step) {
                 load(pool, &words, &bytes[..length])?;
             }
         }
@@ -326,7 +451,7 @@ pub fn images(pool: &dyn Interface, random: &mut Random, rounds: usize) -> Outco
 }
 
 /// Every sequence of up to two bytes, and of five with bytes at the limits, as the first number of an image.
-pub fn first_numbers(pool: &dyn Interface) -> Outcome {
+fn first_numbers(pool: &dyn Interface, _: &mut Random, _: usize) -> Outcome {
     let mut sequences: Vec<Vec<u8>> = vec![vec![]];
     for first in 0..=255u8 {
         sequences.push(vec![first]);
@@ -341,42 +466,111 @@ pub fn first_numbers(pool: &dyn Interface) -> Outcome {
     }
     for mut bytes in sequences {
         for n in [1, 4000] {
-            let what = || format!("check for {n} of {bytes:02X?}");
-            equal(what, pool.check_image(&bytes, n), Model.check_image(&bytes, n))?;
+            check(pool, &bytes, n)?;
         }
         // The same bytes as the value of one cell.
         let mut image = vec![1];
         image.extend([0; REGISTERS + 2]);
         image.append(&mut bytes);
-        let what = || format!("check of {image:02X?}");
-        equal(what, pool.check_image(&image, 1), Model.check_image(&image, 1))?;
+        check(pool, &image, 1)?;
         load(pool, &[9; 22], &image)?;
     }
     Ok(())
 }
 
-/// Fresh on every length up to beyond the longest.
-pub fn lengths(pool: &dyn Interface, random: &mut Random) -> Outcome {
-    for length in (0..400usize).chain(15_900..16_200) {
-        let words: Vec<u32> = (0..length).map(|_| random.word()).collect();
-        let (mut found, mut expected) = (words.clone(), words);
-        equal(|| format!("fresh on {length} words"), pool.fresh(&mut found), Model.fresh(&mut expected))?;
-        equal_words(|| format!("fresh on {length} words"), &found, &expected)?;
-        // The same length with the N that fits, for a call and for load.
-        let mut sized = expected;
-        if let Some(word) = sized.first_mut() {
-            *word = (length.saturating_sub(HEADER) / CELL) as u32;
+/// Every function that takes words, on these words. The calls read register 0.
+fn every_function(pool: &dyn Interface, words: &[u32], random: &mut Random) -> Outcome {
+    let v = generate::value(random);
+    for call in [
+        Call::Copy { r: 1, a: 0 },
+        Call::Clear { r: 0 },
+        Call::New { r: 1, a: 0, b: 1, v },
+        Call::Left { r: 1, a: 0 },
+        Call::Right { r: 1, a: 0 },
+        Call::SetLeft { a: 0, b: 1 },
+        Call::SetRight { a: 0, b: 1 },
+        Call::SetValue { a: 0, v },
+        Call::Value { a: 0 },
+        Call::Same { a: 0, b: 1 },
+        Call::Collect,
+    ] {
+        one_call(pool, &mut words.to_vec(), call)?;
+    }
+    fresh(pool, &mut words.to_vec())?;
+    recursive_collect(pool, words)?;
+    tally_collect(pool, words, random)?;
+    let needed = stack_needed(words, random);
+    for length in [needed.saturating_sub(1), needed] {
+        stack_collect(pool, words, length, random)?;
+    }
+    some_saves(pool, words, random)
+}
+
+/// Every function on a pool of every size, up to beyond the largest. The last cell is read by calls, taken by `new`, found
+/// malformed, and the last cell of an image.
+fn every_size(pool: &dyn Interface, random: &mut Random, _: usize) -> Outcome {
+    for n in 0..=MOST_CELLS + 3 {
+        let words = generate::last_held(random, n);
+        every_function(pool, &words, random)?;
+        let last = n as u32;
+        for k in [last, last + 1] {
+            let mut image = groups(k);
+            image.resize(image.len() + REGISTERS + 3 * k as usize, 0);
+            load(pool, &words, &image)?;
+            check(pool, &image, last)?;
         }
-        one_call(pool, &mut sized.clone(), Call::Clear { r: 3 })?;
-        load(pool, &sized, &[0; 1 + REGISTERS])?;
+        if n == 0 {
+            continue;
+        }
+        // At fault is one link of the last cell, or its state alone, where nothing leads to it.
+        let cell = cell_at(last);
+        for link in [cell + 1, cell + 2] {
+            let mut changed = words.clone();
+            changed[link] = last + 1;
+            one_call(pool, &mut changed, Call::Collect)?;
+        }
+        let mut changed = words.clone();
+        for (place, word) in changed.iter_mut().enumerate().skip(2) {
+            if *word == last && (place < HEADER || matches!(place % CELL, 0 | 3)) {
+                *word = 0;
+            }
+        }
+        changed[cell] = random.pick(&[1, 2, 3, 5]);
+        one_call(pool, &mut changed.clone(), Call::Collect)?;
+        // The last cell is the head, or there is none.
+        let v = generate::value(random);
+        changed[1] = last;
+        changed[cell..].copy_from_slice(&[FREE, random.below(n + 1) as u32, 5, 6]);
+        one_call(pool, &mut changed, Call::New { r: 1, a: 0, b: 1, v })?;
+        let mut changed = words;
+        changed[1] = 0;
+        one_call(pool, &mut changed, Call::New { r: 1, a: 0, b: 0, v })?;
+    }
+    Ok(())
+}
+
+/// Every function on words of every length near the smallest and the largest, and on longer ones that would be right
+/// without their upper bits; word 0 fits.
+fn lengths(pool: &dyn Interface, random: &mut Random, _: usize) -> Outcome {
+    let longer = [1, 2, 700, MOST_CELLS].map(|n| (1 << 16) + words_for(n));
+    for length in (0..400usize).chain(15_900..16_200).chain(longer) {
+        let mut words: Vec<u32> = (0..length).map(|_| random.word()).collect();
+        if let Some(word) = words.first_mut() {
+            *word = (length.saturating_sub(HEADER) / CELL) as u32 % (1 << 14);
+        }
+        every_function(pool, &words, random)?;
     }
     Ok(())
 }
 
 /// The percentage of kept cells.
-pub fn percentages(pool: &dyn Interface, random: &mut Random) -> Outcome {
-    for n in (0..130).chain(3_990..4_010).chain([u32::MAX]) {
-        for kept in (0..n.min(200)).chain([n.wrapping_sub(1), n, n.wrapping_add(1), u32::MAX, random.word()]) {
+fn percentages(pool: &dyn Interface, random: &mut Random, _: usize) -> Outcome {
+    for n in (0..=MOST_CELLS as u32 + 10).chain([1 << 16, (1 << 16) + 100, u32::MAX - 1, u32::MAX]) {
+        let every = if !(130..=3_990).contains(&n) { n.min(200) } else { 0 };
+        let ends = [0, n / 2, n.wrapping_sub(1), n, n.wrapping_add(1), n.wrapping_add(1 << 16), u32::MAX];
+        let any = [(); 3].map(|()| random.below(n as usize + 1) as u32);
+        let more = [(); 3].map(|()| random.word());
+        for kept in (0..every).chain(ends).chain(any).chain(more) {
             let what = || format!("percentage of {kept} of {n}");
             equal(what, pool.occupancy(kept, n), Model.occupancy(kept, n))?;
         }

@@ -1,11 +1,11 @@
 //! Random calls, words and images, and graphs of known shape.
 
 use crate::baseline::PlainRust;
-use crate::model::{groups, Model};
+use crate::model::groups;
 use crate::random::Random;
 use crate::refusal::FULL;
 use crate::script::line;
-use crate::{apply, cell_at, words_for, Answer, Call, Interface, CELL, FREE, HEADER, REGISTERS, USED};
+use crate::{apply, cell_at, words_for, Answer, Call, Interface, CELL, FREE, HEADER, MOST_CELLS, REGISTERS, USED};
 
 /// A register number: mostly one of the first few, seldom one that is refused.
 fn register(random: &mut Random, among: usize) -> u32 {
@@ -57,13 +57,14 @@ pub fn calls(random: &mut Random, count: usize) -> Vec<Call> {
     (0..count).map(|_| call(random, among, weight)).collect()
 }
 
-/// A small number of cells, now and then more.
+/// A number of cells: mostly small, and every one possible.
 pub fn cells(random: &mut Random) -> usize {
-    match random.below(20) {
-        0..=11 => random.between(1, 8),
-        12..=17 => random.between(1, 40),
-        18 => random.between(60, 70),
-        _ => random.between(1, 200),
+    match random.below(40) {
+        0..=23 => random.between(1, 8),
+        24..=35 => random.between(1, 40),
+        36 | 37 => random.between(60, 70),
+        38 => random.between(1, 200),
+        _ => random.between(1, MOST_CELLS),
     }
 }
 
@@ -75,7 +76,8 @@ pub fn noise(random: &mut Random, n: usize) -> Vec<u32> {
 /// A well-formed pool: random used cells, valid links, any content of the free cells, and a head of several kinds.
 pub fn well_formed(random: &mut Random, n: usize) -> Vec<u32> {
     let share = random.pick(&[0, 1, 2, 5, 9, 10, 10]);
-    let used: Vec<u32> = (1..=n as u32).filter(|_| random.below(10) < share).collect();
+    let is_used: Vec<bool> = (0..n).map(|_| random.below(10) < share).collect();
+    let used: Vec<u32> = (1..=n as u32).filter(|&i| is_used[i as usize - 1]).collect();
     let nils = random.pick(&[1, 3, 8]);
     let link = |random: &mut Random| {
         if used.is_empty() || random.once_in(1 + nils) {
@@ -96,7 +98,7 @@ pub fn well_formed(random: &mut Random, n: usize) -> Vec<u32> {
     }
     for i in 1..=n as u32 {
         let at = cell_at(i);
-        if used.contains(&i) {
+        if is_used[i as usize - 1] {
             let left = link(random);
             let right = if random.once_in(4) { left } else { link(random) };
             words[at..at + CELL].copy_from_slice(&[USED, left, right, value(random)]);
@@ -109,7 +111,7 @@ pub fn well_formed(random: &mut Random, n: usize) -> Vec<u32> {
         0 => 0,
         1 => random.below(n + 2) as u32,
         2 => random.pick(&[1, n as u32, n as u32 + 1, u32::MAX]),
-        _ => (1..=n as u32).find(|i| !used.contains(i)).unwrap_or(0),
+        _ => is_used.iter().position(|used| !used).map_or(0, |place| place as u32 + 1),
     };
     words
 }
@@ -120,7 +122,33 @@ pub fn built_by_calls(random: &mut Random, n: usize) -> Vec<u32> {
     PlainRust.fresh(&mut words).expect("the length is right");
     let count = random.between(0, 4 * n.min(60));
     for call in calls(random, count) {
-        apply(&Model, &mut words, call);
+        apply(&PlainRust, &mut words, call);
+    }
+    words
+}
+
+/// A well-formed pool whose register 0 holds its last cell, with any value; without a cell where `n` is 0.
+pub fn last_held(random: &mut Random, n: usize) -> Vec<u32> {
+    let mut words = well_formed(random, n);
+    if n > 0 {
+        let (last, at) = (n as u32, cell_at(n as u32));
+        words[2] = last;
+        if words[at] != USED {
+            words[at..at + 3].copy_from_slice(&[USED, random.pick(&[0, last]), random.pick(&[0, last])]);
+        }
+        words[at + 3] = random.word();
+    }
+    words
+}
+
+/// A chain of `used` cells with equal links in a pool of `n`, whose other cells form the ascending chain: a collection keeps
+/// every word, and the stack marker needs one word less than there are cells in the chain.
+pub fn equal_chain(random: &mut Random, used: usize, n: usize) -> Vec<u32> {
+    let mut words = Shape::EqualChain.words(used, random);
+    words[0] = n as u32;
+    words[1] = if used < n { used as u32 + 1 } else { 0 };
+    for i in used + 1..=n {
+        words.extend([FREE, if i < n { i as u32 + 1 } else { 0 }, 0, 0]);
     }
     words
 }
@@ -128,32 +156,46 @@ pub fn built_by_calls(random: &mut Random, n: usize) -> Vec<u32> {
 /// Change one to three places so that the words may be malformed, or of a wrong size.
 pub fn damage(random: &mut Random, words: &mut Vec<u32>) {
     let n = (words.len() - HEADER) / CELL;
-    for _ in 0..random.between(1, 3) {
-        let bad = |random: &mut Random| {
-            let n = n as u32;
-            let near = random.below(n as usize + 2) as u32;
-            random.pick(&[0, 1, n, n + 1, n + 2, near, near, near, 4000, 4001, 1 << 30, 1 << 31, u32::MAX])
-        };
+    for _ in 0..random.pick(&[1, 1, 2, 3]) {
         if words.len() != words_for(n) {
             return;
         }
-        let cell = cell_at(random.between(1, n) as u32);
-        match random.below(12) {
+        let start = random.below(n);
+        let not_used = (0..n).map(|i| ((start + i) % n + 1) as u32).find(|&i| words[cell_at(i)] != USED).unwrap_or(0);
+        let bad = |random: &mut Random| {
+            let n = n as u32;
+            let near = random.below(n as usize + 2) as u32;
+            let other = random.pick(&[0, 1, n, n + 1, n + 2, 4000, 4001, 1 << 30, 1 << 31, u32::MAX]);
+            random.pick(&[near, not_used, other, other])
+        };
+        let among = random.pick(&[2, 4, REGISTERS]);
+        let register = 2 + random.below(among);
+        // Any cell, or one that a register holds.
+        let held = words[register];
+        let any = random.between(1, n) as u32;
+        let cell = cell_at(if (1..=n as u32).contains(&held) && !random.once_in(4) { held } else { any });
+        match random.below(14) {
             0 => words[0] = bad(random),
             1 => words[0] = (n as u32).wrapping_add(random.pick(&[1, 2, u32::MAX])),
             2 | 3 => words[1] = bad(random),
-            4 => words[2 + random.below(REGISTERS)] = bad(random),
-            5 | 6 => words[cell] = random.pick(&[0, 1, 2, 3, 4, 5, u32::MAX]),
-            7 | 8 => words[cell + 1] = bad(random),
-            9 => words[cell + 2] = bad(random),
-            10 => {
+            4 | 5 => words[register] = bad(random),
+            6 | 7 => words[cell] = random.pick(&[0, 1, 2, 3, 4, 5, u32::MAX]),
+            8 | 9 => words[cell + 1] = bad(random),
+            10 | 11 => words[cell + 2] = bad(random),
+            12 => {
                 let place = random.below(words.len());
                 words[place] = random.word();
             }
             _ => {
-                if random.once_in(3) {
-                    let length = random.between(words.len().saturating_sub(5), words.len() + 5);
-                    words.resize(length, 0);
+                let length = match random.below(12) {
+                    0 | 1 => random.below(HEADER),
+                    2 => words_for(0),
+                    3 => words_for(random.between(MOST_CELLS + 1, MOST_CELLS + 3)),
+                    _ => random.between(words.len() - 5, words.len() + 5),
+                };
+                words.resize(length, 0);
+                if let (Some(word), true) = (words.first_mut(), random.once_in(2)) {
+                    *word = (length.saturating_sub(HEADER) / CELL) as u32;
                 }
             }
         }
@@ -172,7 +214,13 @@ pub fn words(random: &mut Random) -> Vec<u32> {
             words
         }
         1 | 2 => built_by_calls(random, n),
-        3..=5 => well_formed(random, n),
+        3 => {
+            let mut words = random.pick(&SHAPES).words(n, random);
+            words[2 + random.below(REGISTERS)] = random.between(1, n) as u32;
+            words[2] = random.pick(&[0, 0, 1]);
+            words
+        }
+        4 | 5 => well_formed(random, n),
         6 | 7 => {
             let mut words = built_by_calls(random, n);
             damage(random, &mut words);
@@ -212,8 +260,9 @@ pub fn image(random: &mut Random, n: usize) -> Vec<u8> {
     let most = if random.once_in(10) { n + 2 } else { n };
     let k = random.between(0, most) as u32;
     let faults = random.once_in(3);
+    // About one fault in an image, also where it is long.
     let link = |random: &mut Random| {
-        if faults && random.once_in(20) {
+        if faults && random.once_in(20.max(k as usize)) {
             k.wrapping_add(random.pick(&[1, 2, 1000, u32::MAX - 4000]))
         } else {
             random.below(k as usize + 1) as u32

@@ -1,108 +1,174 @@
-//! An implementation between guard words: every lent slice stands in a longer one whose other words must stay.
+//! Implementations side by side, each between guard words: every lent slice stands in a longer one whose other words must
+//! stay, and all implementations must answer and leave the same.
 
 use crate::{Interface, Tally};
+use std::cell::Cell;
 
-pub struct Guarded<T>(pub T);
+pub struct Guarded {
+    list: Vec<(&'static str, Box<dyn Interface>)>,
+    odd: Cell<Option<&'static str>>,
+}
 
-const MARGIN: usize = 8;
+const MARGIN: usize = 64;
 const GUARD_WORD: u32 = 0xC0DE_F00D;
 const GUARD_BYTE: u8 = 0xD7;
 
-fn guarded<E: Copy + PartialEq, R>(lent: &mut [E], guard: E, call: impl FnOnce(&mut [E]) -> R) -> R {
-    let mut all = vec![guard; MARGIN];
-    all.extend_from_slice(lent);
-    all.resize(lent.len() + 2 * MARGIN, guard);
-    let end = MARGIN + lent.len();
-    let answer = call(&mut all[MARGIN..end]);
-    let kept = all[..MARGIN].iter().chain(&all[end..]).all(|element| *element == guard);
-    assert!(kept, "a word outside the lent slice was changed");
-    lent.copy_from_slice(&all[MARGIN..end]);
-    answer
+/// A slice lent between guards.
+#[derive(PartialEq)]
+struct Block<E> {
+    all: Vec<E>,
+    guard: E,
 }
 
-fn words_guarded<R>(lent: &mut [u32], call: impl FnOnce(&mut [u32]) -> R) -> R {
-    guarded(lent, GUARD_WORD, call)
+impl<E: Copy + PartialEq> Block<E> {
+    fn new(lent: &[E], guard: E) -> Block<E> {
+        let mut all = Vec::with_capacity(lent.len() + 2 * MARGIN);
+        all.resize(MARGIN, guard);
+        all.extend_from_slice(lent);
+        all.resize(lent.len() + 2 * MARGIN, guard);
+        Block { all, guard }
+    }
+
+    fn lent(&mut self) -> &mut [E] {
+        let end = self.all.len() - MARGIN;
+        &mut self.all[MARGIN..end]
+    }
+
+    /// Give the slice back to its owner.
+    fn give_back(mut self, name: &str, owner: &mut [E]) {
+        let end = self.all.len() - MARGIN;
+        let kept = self.all[..MARGIN].iter().chain(&self.all[end..]).all(|&element| element == self.guard);
+        assert!(kept, "{name}: a word outside the lent slice was changed");
+        owner.copy_from_slice(self.lent());
+    }
 }
 
-impl<T: Interface> Interface for Guarded<T> {
+impl Guarded {
+    pub fn new(list: Vec<(&'static str, Box<dyn Interface>)>) -> Guarded {
+        Guarded { list, odd: Cell::new(None) }
+    }
+
+    /// The first implementation that did not do as the one before it, if there was one.
+    pub fn odd(&self) -> Option<&'static str> {
+        self.odd.get()
+    }
+
+    /// Make a call with every implementation. What an odd one does is the outcome, so that it is compared with the model.
+    fn each<T: PartialEq>(
+        &self,
+        words: &mut [u32],
+        more: &mut [u32],
+        bytes: &mut [u8],
+        call: impl Fn(&dyn Interface, &mut [u32], &mut [u32], &mut [u8]) -> T,
+    ) -> T {
+        let mut outcome = None;
+        for (name, pool) in &self.list {
+            let mut blocks =
+                (Block::new(words, GUARD_WORD), Block::new(more, GUARD_WORD), Block::new(bytes, GUARD_BYTE));
+            let answer = call(pool.as_ref(), blocks.0.lent(), blocks.1.lent(), blocks.2.lent());
+            let differs = outcome.as_ref().is_some_and(|(_, before, left)| (before, left) != (&answer, &blocks));
+            outcome = Some((name, answer, blocks));
+            if differs {
+                self.odd.set(self.odd.get().or(Some(name)));
+                break;
+            }
+        }
+        let (name, answer, blocks) = outcome.expect("there is an implementation");
+        blocks.0.give_back(name, words);
+        blocks.1.give_back(name, more);
+        blocks.2.give_back(name, bytes);
+        answer
+    }
+
+    /// The same for a call that is lent the words alone.
+    fn on<T: PartialEq>(&self, words: &mut [u32], call: impl Fn(&dyn Interface, &mut [u32]) -> T) -> T {
+        self.each(words, &mut [], &mut [], |pool, words, _, _| call(pool, words))
+    }
+}
+
+impl Interface for Guarded {
     fn fresh(&self, words: &mut [u32]) -> Result<u32, u32> {
-        words_guarded(words, |words| self.0.fresh(words))
+        self.on(words, |pool, words| pool.fresh(words))
     }
 
     fn copy(&self, words: &mut [u32], r: u32, a: u32) -> Result<(), u32> {
-        words_guarded(words, |words| self.0.copy(words, r, a))
+        self.on(words, |pool, words| pool.copy(words, r, a))
     }
 
     fn clear(&self, words: &mut [u32], r: u32) -> Result<(), u32> {
-        words_guarded(words, |words| self.0.clear(words, r))
+        self.on(words, |pool, words| pool.clear(words, r))
     }
 
     fn new_cell(&self, words: &mut [u32], r: u32, a: u32, b: u32, v: u32) -> Result<u32, u32> {
-        words_guarded(words, |words| self.0.new_cell(words, r, a, b, v))
+        self.on(words, |pool, words| pool.new_cell(words, r, a, b, v))
     }
 
     fn left(&self, words: &mut [u32], r: u32, a: u32) -> Result<(), u32> {
-        words_guarded(words, |words| self.0.left(words, r, a))
+        self.on(words, |pool, words| pool.left(words, r, a))
     }
 
     fn right(&self, words: &mut [u32], r: u32, a: u32) -> Result<(), u32> {
-        words_guarded(words, |words| self.0.right(words, r, a))
+        self.on(words, |pool, words| pool.right(words, r, a))
     }
 
     fn setleft(&self, words: &mut [u32], a: u32, b: u32) -> Result<(), u32> {
-        words_guarded(words, |words| self.0.setleft(words, a, b))
+        self.on(words, |pool, words| pool.setleft(words, a, b))
     }
 
     fn setright(&self, words: &mut [u32], a: u32, b: u32) -> Result<(), u32> {
-        words_guarded(words, |words| self.0.setright(words, a, b))
+        self.on(words, |pool, words| pool.setright(words, a, b))
     }
 
     fn setvalue(&self, words: &mut [u32], a: u32, v: u32) -> Result<(), u32> {
-        words_guarded(words, |words| self.0.setvalue(words, a, v))
+        self.on(words, |pool, words| pool.setvalue(words, a, v))
     }
 
     fn value(&self, words: &mut [u32], a: u32) -> Result<u32, u32> {
-        words_guarded(words, |words| self.0.value(words, a))
+        self.on(words, |pool, words| pool.value(words, a))
     }
 
     fn same(&self, words: &mut [u32], a: u32, b: u32) -> Result<u32, u32> {
-        words_guarded(words, |words| self.0.same(words, a, b))
+        self.on(words, |pool, words| pool.same(words, a, b))
     }
 
     fn collect(&self, words: &mut [u32]) -> Result<(u32, u32), u32> {
-        words_guarded(words, |words| self.0.collect(words))
+        self.on(words, |pool, words| pool.collect(words))
     }
 
     fn collect_tally(&self, words: &mut [u32], tally: &mut Tally) -> Result<(u32, u32), u32> {
-        words_guarded(words, |words| self.0.collect_tally(words, tally))
+        let before = *tally;
+        let (answer, after) = self.on(words, |pool, words| {
+            let mut tally = before;
+            (pool.collect_tally(words, &mut tally), tally)
+        });
+        *tally = after;
+        answer
     }
 
     fn collect_stack(&self, words: &mut [u32], stack: &mut [u32]) -> Result<(u32, u32), u32> {
-        words_guarded(words, |words| words_guarded(stack, |stack| self.0.collect_stack(words, stack)))
+        self.each(words, stack, &mut [], |pool, words, stack, _| pool.collect_stack(words, stack))
     }
 
     fn collect_recursive(&self, words: &mut [u32]) -> Result<(u32, u32), u32> {
-        words_guarded(words, |words| self.0.collect_recursive(words))
+        self.on(words, |pool, words| pool.collect_recursive(words))
     }
 
     fn save(&self, words: &mut [u32], scratch: &mut [u32], out: &mut [u8]) -> Result<usize, u32> {
-        words_guarded(words, |words| {
-            words_guarded(scratch, |scratch| guarded(out, GUARD_BYTE, |out| self.0.save(words, scratch, out)))
-        })
+        self.each(words, scratch, out, |pool, words, scratch, out| pool.save(words, scratch, out))
     }
 
     fn load(&self, words: &mut [u32], bytes: &[u8]) -> (Result<(), u32>, usize) {
         // The bytes stand in an allocation of their own length.
         let bytes = bytes.to_vec().into_boxed_slice();
-        words_guarded(words, |words| self.0.load(words, &bytes))
+        self.on(words, |pool, words| pool.load(words, &bytes))
     }
 
     fn check_image(&self, bytes: &[u8], n: u32) -> Result<(), u32> {
         let bytes = bytes.to_vec().into_boxed_slice();
-        self.0.check_image(&bytes, n)
+        self.on(&mut [], |pool, _| pool.check_image(&bytes, n))
     }
 
     fn occupancy(&self, kept: u32, n: u32) -> Result<u32, u32> {
-        self.0.occupancy(kept, n)
+        self.on(&mut [], |pool, _| pool.occupancy(kept, n))
     }
 }

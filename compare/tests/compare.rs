@@ -3,66 +3,86 @@
 
 mod common;
 
-use cellpool_compare::checks;
-use cellpool_compare::random::rounds;
-use common::on_each;
+use cellpool_compare::checks::{self, Comparison};
+use cellpool_compare::guard::Guarded;
+use common::implementations;
+
+fn on_all(comparison: Comparison) {
+    let pool = Guarded::new(implementations());
+    let outcome = comparison.on(&pool);
+    let odd = pool.odd();
+    if let Err(text) = outcome {
+        panic!("{}: {text}", odd.unwrap_or("every implementation"));
+    }
+    assert_eq!(odd, None, "this implementation does not as the one before it");
+}
 
 #[test]
 fn lists_of_calls_leave_the_words_of_the_model() {
-    on_each(1, |pool, random| checks::call_lists(pool, random, rounds(6_000)));
+    on_all(checks::CALL_LISTS);
 }
 
 #[test]
 fn calls_on_any_words_answer_as_the_model() {
-    on_each(2, |pool, random| checks::any_words(pool, random, rounds(20_000)));
+    on_all(checks::ANY_WORDS);
 }
 
 #[test]
 fn lists_of_calls_answer_as_the_reference_model_exactly_where_the_limits_are_not_told_apart() {
-    on_each(3, |pool, random| checks::against_reference(pool, random, rounds(15_000)));
+    on_all(checks::REFERENCE);
 }
 
 #[test]
 fn every_form_of_collect_on_any_words() {
-    on_each(4, |pool, random| checks::collections(pool, random, rounds(15_000)));
+    on_all(checks::COLLECTIONS);
 }
 
 #[test]
 fn graphs_of_known_shape_up_to_the_largest_pool() {
-    on_each(5, |pool, random| checks::shapes(pool, random));
+    on_all(checks::GRAPHS);
 }
 
 #[test]
 fn saves_with_every_nearby_length() {
-    on_each(6, |pool, random| checks::saves(pool, random, rounds(6_000)));
+    on_all(checks::SAVES);
 }
 
 #[test]
 fn images_complete_and_damaged() {
-    on_each(7, |pool, random| checks::images(pool, random, rounds(60_000)));
+    on_all(checks::IMAGES);
 }
 
 #[test]
 fn numbers_of_every_form() {
-    on_each(8, |pool, _| checks::first_numbers(pool));
+    on_all(checks::FIRST_NUMBERS);
 }
 
 #[test]
 fn lengths_up_to_beyond_the_longest() {
-    on_each(9, |pool, random| checks::lengths(pool, random));
+    on_all(checks::LENGTHS);
 }
 
 #[test]
-fn percentages_of_every_small_pool() {
-    on_each(10, |pool, random| checks::percentages(pool, random));
+fn percentages_of_every_size() {
+    on_all(checks::PERCENTAGES);
 }
 
 #[test]
 fn every_small_pool() {
-    on_each(11, |pool, random| checks::small_pools(pool, random));
+    on_all(checks::SMALL_POOLS);
 }
 
 #[test]
 fn the_largest_pool_fills_exactly() {
-    on_each(12, |pool, _| checks::largest_pool_filled(pool));
+    on_all(checks::LARGEST_POOL);
+}
+
+#[test]
+fn every_function_at_every_size() {
+    on_all(checks::SIZES);
+}
+
+#[test]
+fn every_stack_length_just_too_short_and_just_enough() {
+    on_all(checks::STACK_LENGTHS);
 }

@@ -1,117 +1,250 @@
 //! The comparisons find faults: each fault below is put into a correct implementation and must be noticed.
 
 use cellpool_compare::baseline::PlainRust;
-use cellpool_compare::checks::{self, Outcome};
+use cellpool_compare::checks::{self, Comparison};
 use cellpool_compare::random::Random;
-use cellpool_compare::{cell_at, Interface, Tally, FREE, HEADER, USED};
+use cellpool_compare::{cell_at, words_for, Interface, Tally, FREE, HEADER, USED};
 
 #[derive(Clone, Copy, Debug, PartialEq, Eq)]
 enum Fault {
+    Correct,
+    /// The function answers 3 at this N.
+    At(&'static str, usize),
     CollectKeepsAll,
     CollectLosesFreeCell,
+    CollectLosesCellInWindow,
     CollectAnswersWrongVisits,
     CollectChecksFreeLinks,
     CollectLeavesFreeValue,
+    CollectForgetsLastRegister,
+    CollectIgnoresLastLeft,
+    CollectIgnoresHighStates,
     NewNeverCollects,
     NewClearsItsRegisterFirst,
     NewReportsNoVisits,
     NewIgnoresLeftOfHead,
     NewSwapsLinks,
+    NewIgnoresNumberB,
+    NewCutsValue,
     LeftIgnoresValidity,
+    LeftCutsLink,
     SetLeftChecksNilFirst,
+    SetValueCutsValue,
     ClearDoesNothing,
     CopyReadsItsTarget,
     SameDistinguishesNils,
     ValueOfNilIsZero,
+    ValueCutInOneCell,
     EveryCallRefused,
     TallySkipsAtLimit,
     TallyCountsRefused,
+    TallyCutsVisits,
     StackTooShortEarly,
+    StackEnoughAtOneLength,
+    StackTooShortAtOneLength,
+    StackLengthCut,
     StackNotCleared,
+    StackLeavesFarWord,
     StackFallbackSwapsLinks,
     RecursiveChecksLinksFirst,
     RecursiveLimitOneLess,
+    RecursiveLimitOneMore,
     SaveConstant,
     SaveRightFirst,
     SaveLeavesScratch,
+    SaveLeavesFarScratch,
     SaveClearsScratchTooEarly,
+    SaveNeedsOneScratchWordMore,
+    SaveScratchLengthCut,
     SaveWritesWhereRefused,
     SaveNeedsOneByteMore,
+    SaveOutputLengthCut,
+    SaveTouchesFarOutput,
     LoadConfusesCutAndLarge,
     LoadAnswersRestOfRefused,
+    LoadCutsRest,
+    LoadLengthCut,
     LoadDropsBytesBehind,
     LoadLeavesHead,
     LoadChecksLinksBeforeCells,
+    LoadRefusesFullImage,
+    LoadAcceptsOneCellMore,
     CheckIgnoresLimit,
+    CheckLimitOneLess,
+    CheckAcceptsInWindow,
+    CheckLengthCut,
     OccupancyRoundsUp,
+    OccupancyWrongInWindow,
+    OccupancyCutsProduct,
     FreshLeavesRegister,
+    FreshLengthCut,
 }
 
 use Fault::*;
 
-const FAULTS: [Fault; 38] = [
-    CollectKeepsAll,
-    CollectLosesFreeCell,
-    CollectAnswersWrongVisits,
-    CollectChecksFreeLinks,
-    CollectLeavesFreeValue,
-    NewNeverCollects,
-    NewClearsItsRegisterFirst,
-    NewReportsNoVisits,
-    NewIgnoresLeftOfHead,
-    NewSwapsLinks,
-    LeftIgnoresValidity,
-    SetLeftChecksNilFirst,
-    ClearDoesNothing,
-    CopyReadsItsTarget,
-    SameDistinguishesNils,
-    ValueOfNilIsZero,
-    EveryCallRefused,
-    TallySkipsAtLimit,
-    TallyCountsRefused,
-    StackTooShortEarly,
-    StackNotCleared,
-    StackFallbackSwapsLinks,
-    RecursiveChecksLinksFirst,
-    RecursiveLimitOneLess,
-    SaveConstant,
-    SaveRightFirst,
-    SaveLeavesScratch,
-    SaveClearsScratchTooEarly,
-    SaveWritesWhereRefused,
-    SaveNeedsOneByteMore,
-    LoadConfusesCutAndLarge,
-    LoadAnswersRestOfRefused,
-    LoadDropsBytesBehind,
-    LoadLeavesHead,
-    LoadChecksLinksBeforeCells,
-    CheckIgnoresLimit,
-    OccupancyRoundsUp,
-    FreshLeavesRegister,
-];
-
-/// Faults that the answers to a list of calls show, without a look at the words.
-const SEEN_BY_REFERENCE: [Fault; 10] = [
-    CollectKeepsAll,
-    CollectAnswersWrongVisits,
-    NewNeverCollects,
-    NewClearsItsRegisterFirst,
-    NewSwapsLinks,
-    ClearDoesNothing,
-    SameDistinguishesNils,
-    ValueOfNilIsZero,
-    EveryCallRefused,
-    FreshLeavesRegister,
+/// The faults that each comparison finds. Those of the first one show in the answers to a list of calls, without a look at
+/// the words, and no others do.
+const FOUND_BY: [(Comparison, &[Fault]); 9] = [
+    (
+        checks::REFERENCE,
+        &[
+            CollectKeepsAll,
+            CollectAnswersWrongVisits,
+            CollectForgetsLastRegister,
+            NewNeverCollects,
+            NewClearsItsRegisterFirst,
+            NewSwapsLinks,
+            NewIgnoresNumberB,
+            NewCutsValue,
+            SetValueCutsValue,
+            ClearDoesNothing,
+            SameDistinguishesNils,
+            ValueOfNilIsZero,
+            EveryCallRefused,
+            FreshLeavesRegister,
+        ],
+    ),
+    (
+        checks::ANY_WORDS,
+        &[
+            NewReportsNoVisits,
+            NewIgnoresLeftOfHead,
+            LeftIgnoresValidity,
+            LeftCutsLink,
+            SetLeftChecksNilFirst,
+            CopyReadsItsTarget,
+        ],
+    ),
+    (
+        checks::COLLECTIONS,
+        &[
+            CollectLosesFreeCell,
+            CollectLosesCellInWindow,
+            CollectChecksFreeLinks,
+            CollectLeavesFreeValue,
+            CollectIgnoresLastLeft,
+            TallySkipsAtLimit,
+            TallyCountsRefused,
+            TallyCutsVisits,
+            StackTooShortEarly,
+            StackLengthCut,
+            StackNotCleared,
+            StackLeavesFarWord,
+            StackFallbackSwapsLinks,
+            RecursiveChecksLinksFirst,
+            RecursiveLimitOneLess,
+            RecursiveLimitOneMore,
+        ],
+    ),
+    (checks::STACK_LENGTHS, &[StackEnoughAtOneLength, StackTooShortAtOneLength]),
+    (
+        checks::SAVES,
+        &[
+            SaveConstant,
+            SaveRightFirst,
+            SaveLeavesScratch,
+            SaveLeavesFarScratch,
+            SaveClearsScratchTooEarly,
+            SaveNeedsOneScratchWordMore,
+            SaveScratchLengthCut,
+            SaveWritesWhereRefused,
+            SaveNeedsOneByteMore,
+            SaveOutputLengthCut,
+            SaveTouchesFarOutput,
+            LoadCutsRest,
+            LoadLengthCut,
+            CheckLengthCut,
+        ],
+    ),
+    (
+        checks::IMAGES,
+        &[
+            LoadConfusesCutAndLarge,
+            LoadAnswersRestOfRefused,
+            LoadDropsBytesBehind,
+            LoadLeavesHead,
+            LoadChecksLinksBeforeCells,
+            LoadAcceptsOneCellMore,
+            CheckIgnoresLimit,
+            CheckLimitOneLess,
+            CheckAcceptsInWindow,
+        ],
+    ),
+    (checks::PERCENTAGES, &[OccupancyRoundsUp, OccupancyWrongInWindow, OccupancyCutsProduct]),
+    (
+        checks::LENGTHS,
+        &[
+            FreshLengthCut,
+            At("fresh", 0),
+            At("copy", 0),
+            At("new", 0),
+            At("collect", 0),
+            At("save", 0),
+            At("load", 0),
+            At("fresh", 4_001),
+            At("copy", 4_001),
+            At("clear", 4_001),
+            At("new", 4_001),
+            At("left", 4_001),
+            At("right", 4_001),
+            At("setleft", 4_001),
+            At("setright", 4_001),
+            At("setvalue", 4_001),
+            At("value", 4_001),
+            At("same", 4_001),
+            At("collect", 4_001),
+            At("tally", 4_001),
+            At("stack", 4_001),
+            At("recursive", 4_001),
+            At("save", 4_001),
+            At("load", 4_001),
+        ],
+    ),
+    (
+        checks::SIZES,
+        &[
+            CollectIgnoresHighStates,
+            ValueCutInOneCell,
+            LoadRefusesFullImage,
+            At("fresh", 531),
+            At("copy", 531),
+            At("clear", 531),
+            At("new", 531),
+            At("left", 531),
+            At("right", 531),
+            At("setleft", 531),
+            At("setright", 531),
+            At("setvalue", 531),
+            At("value", 531),
+            At("same", 531),
+            At("collect", 531),
+            At("tally", 531),
+            At("stack", 531),
+            At("save", 531),
+            At("load", 531),
+            At("check", 531),
+        ],
+    ),
 ];
 
 struct Faulty(Fault);
 
 impl Faulty {
-    fn refuses(&self) -> Result<(), u32> {
-        if self.0 == EveryCallRefused {
-            Err(3)
+    /// Where it is the fault that this function refuses at this N, or that every call does.
+    fn refuses(&self, name: &str, words: &[u32]) -> Result<(), u32> {
+        match self.0 {
+            EveryCallRefused if name != "fresh" => Err(3),
+            At(function, n) if function == name && words.len() == words_for(n) => Err(3),
+            _ => Ok(()),
+        }
+    }
+
+    /// The length, cut to 16 bits where this is the fault.
+    fn cut(&self, fault: Fault, length: usize) -> usize {
+        if self.0 == fault {
+            length % (1 << 16)
         } else {
-            Ok(())
+            length
         }
     }
 }
@@ -126,8 +259,10 @@ fn register(words: &[u32], number: u32) -> u32 {
 
 impl Interface for Faulty {
     fn fresh(&self, words: &mut [u32]) -> Result<u32, u32> {
+        self.refuses("fresh", words)?;
         let kept = words.get(17).copied();
-        let n = PlainRust.fresh(words)?;
+        let length = self.cut(FreshLengthCut, words.len());
+        let n = PlainRust.fresh(&mut words[..length])?;
         if let (FreshLeavesRegister, Some(kept)) = (self.0, kept) {
             words[17] = kept;
             words[16] = 1;
@@ -136,7 +271,7 @@ impl Interface for Faulty {
     }
 
     fn copy(&self, words: &mut [u32], r: u32, a: u32) -> Result<(), u32> {
-        self.refuses()?;
+        self.refuses("copy", words)?;
         if self.0 == CopyReadsItsTarget && r < 16 && PlainRust.same(words, r, r) == Err(3) {
             return Err(3);
         }
@@ -144,7 +279,7 @@ impl Interface for Faulty {
     }
 
     fn clear(&self, words: &mut [u32], r: u32) -> Result<(), u32> {
-        self.refuses()?;
+        self.refuses("clear", words)?;
         if self.0 == ClearDoesNothing {
             return PlainRust.clear(&mut words.to_vec(), r);
         }
@@ -152,7 +287,7 @@ impl Interface for Faulty {
     }
 
     fn new_cell(&self, words: &mut [u32], r: u32, a: u32, b: u32, v: u32) -> Result<u32, u32> {
-        self.refuses()?;
+        self.refuses("new", words)?;
         let before = words.to_vec();
         let empty = words.get(1) == Some(&0);
         let clears = self.0 == NewClearsItsRegisterFirst && empty && r < 16 && a != r && b != r;
@@ -161,6 +296,8 @@ impl Interface for Faulty {
         }
         let answer = match self.0 {
             NewSwapsLinks => PlainRust.new_cell(words, r, b, a, v),
+            NewIgnoresNumberB => PlainRust.new_cell(words, r, a, b % 16, v),
+            NewCutsValue => PlainRust.new_cell(words, r, a, b, v & 0x00FF_FFFF),
             NewIgnoresLeftOfHead => {
                 let head = words.get(1).copied().unwrap_or(0);
                 let n = cells(words);
@@ -190,22 +327,25 @@ impl Interface for Faulty {
     }
 
     fn left(&self, words: &mut [u32], r: u32, a: u32) -> Result<(), u32> {
-        self.refuses()?;
+        self.refuses("left", words)?;
         let answer = PlainRust.left(words, r, a);
         if self.0 == LeftIgnoresValidity && answer == Err(3) && PlainRust.value(words, a).is_ok() {
             words[2 + r as usize] = words[cell_at(register(words, a)) + 1];
             return Ok(());
         }
+        if self.0 == LeftCutsLink && answer == Ok(()) {
+            words[2 + r as usize] &= 0x07FF;
+        }
         answer
     }
 
     fn right(&self, words: &mut [u32], r: u32, a: u32) -> Result<(), u32> {
-        self.refuses()?;
+        self.refuses("right", words)?;
         PlainRust.right(words, r, a)
     }
 
     fn setleft(&self, words: &mut [u32], a: u32, b: u32) -> Result<(), u32> {
-        self.refuses()?;
+        self.refuses("setleft", words)?;
         let answer = PlainRust.setleft(words, a, b);
         if self.0 == SetLeftChecksNilFirst && answer == Err(3) && register(words, a) == 0 {
             return Err(4);
@@ -214,25 +354,26 @@ impl Interface for Faulty {
     }
 
     fn setright(&self, words: &mut [u32], a: u32, b: u32) -> Result<(), u32> {
-        self.refuses()?;
+        self.refuses("setright", words)?;
         PlainRust.setright(words, a, b)
     }
 
     fn setvalue(&self, words: &mut [u32], a: u32, v: u32) -> Result<(), u32> {
-        self.refuses()?;
-        PlainRust.setvalue(words, a, v)
+        self.refuses("setvalue", words)?;
+        PlainRust.setvalue(words, a, if self.0 == SetValueCutsValue { v & 0x7FFF_FFFF } else { v })
     }
 
     fn value(&self, words: &mut [u32], a: u32) -> Result<u32, u32> {
-        self.refuses()?;
+        self.refuses("value", words)?;
         match PlainRust.value(words, a) {
             Err(4) if self.0 == ValueOfNilIsZero => Ok(0),
+            Ok(value) if self.0 == ValueCutInOneCell && register(words, a) == 999 => Ok(value & 0xFFFF),
             answer => answer,
         }
     }
 
     fn same(&self, words: &mut [u32], a: u32, b: u32) -> Result<u32, u32> {
-        self.refuses()?;
+        self.refuses("same", words)?;
         match PlainRust.same(words, a, b) {
             Ok(_) if self.0 == SameDistinguishesNils && register(words, a) == 0 => Ok(0),
             answer => answer,
@@ -240,10 +381,20 @@ impl Interface for Faulty {
     }
 
     fn collect(&self, words: &mut [u32]) -> Result<(u32, u32), u32> {
-        self.refuses()?;
+        self.refuses("collect", words)?;
         let before = words.to_vec();
-        let (kept, visits) = PlainRust.collect(words)?;
         let n = cells(words);
+        match (self.0, PlainRust.collect(&mut before.clone())) {
+            (CollectForgetsLastRegister, Ok(_)) => words[17] = 0,
+            (CollectIgnoresLastLeft, Err(3)) => words[cell_at(n) + 1] = 0,
+            (CollectIgnoresHighStates, Err(3)) if n > 1_000 => words[cell_at(n)] = FREE,
+            _ => {}
+        }
+        let answer = PlainRust.collect(words);
+        if answer.is_err() {
+            words.copy_from_slice(&before);
+        }
+        let (kept, visits) = answer?;
         match self.0 {
             CollectKeepsAll => {
                 words.copy_from_slice(&before);
@@ -251,6 +402,9 @@ impl Interface for Faulty {
                 return Ok((used, 3 * used));
             }
             CollectLosesFreeCell if words[1] != 0 && words[cell_at(words[1]) + 1] != 0 => {
+                words[1] = words[cell_at(words[1]) + 1];
+            }
+            CollectLosesCellInWindow if (201..=3_899).contains(&n) && words[1] != 0 => {
                 words[1] = words[cell_at(words[1]) + 1];
             }
             CollectAnswersWrongVisits if kept > 3 => return Ok((kept, visits - 1)),
@@ -262,18 +416,22 @@ impl Interface for Faulty {
                 let at = cell_at(words[1]) + 3;
                 words[at] = before[at];
             }
+            CollectForgetsLastRegister => words[17] = before[17],
+            CollectIgnoresLastLeft if words[cell_at(n)] == USED => words[cell_at(n) + 1] = before[cell_at(n) + 1],
             _ => {}
         }
         Ok((kept, visits))
     }
 
     fn collect_tally(&self, words: &mut [u32], tally: &mut Tally) -> Result<(u32, u32), u32> {
+        self.refuses("tally", words)?;
         let before = *tally;
         let answer = PlainRust.collect_tally(words, tally);
         match (self.0, answer) {
             (TallySkipsAtLimit, Ok((_, visits))) if before.visits.checked_add(visits).is_none() => {
                 tally.visits = before.visits;
             }
+            (TallyCutsVisits, Ok((_, visits))) => tally.visits = before.visits.saturating_add(visits & 0x1FFF),
             (TallyCountsRefused, Err(_)) => tally.collections = before.collections.saturating_add(1),
             _ => {}
         }
@@ -281,12 +439,17 @@ impl Interface for Faulty {
     }
 
     fn collect_stack(&self, words: &mut [u32], stack: &mut [u32]) -> Result<(u32, u32), u32> {
-        let length = stack.len();
-        let shorter = if self.0 == StackTooShortEarly { length.saturating_sub(1) } else { length };
-        let (kept, enough) = PlainRust.collect_stack(words, &mut stack[..shorter])?;
-        stack[shorter..].fill(0);
+        self.refuses("stack", words)?;
+        let lent = stack.to_vec();
+        let shorter = usize::from(self.0 == StackTooShortEarly);
+        let length = self.cut(StackLengthCut, lent.len()).saturating_sub(shorter);
+        let (kept, enough) = PlainRust.collect_stack(words, &mut stack[..length])?;
+        stack.fill(0);
         match self.0 {
+            StackEnoughAtOneLength if length == 1_000 => return Ok((kept, 1)),
+            StackTooShortAtOneLength if length == 2_345 => return Ok((kept, 0)),
             StackNotCleared if length > 2 => stack[length - 1] = 1,
+            StackLeavesFarWord if length > 6_000 => stack[6_000] = lent[6_000],
             StackFallbackSwapsLinks if enough == 0 => {
                 let at = cell_at((1..=cells(words)).find(|&i| words[cell_at(i)] == USED).expect("a cell is kept"));
                 words.swap(at + 1, at + 2);
@@ -297,17 +460,21 @@ impl Interface for Faulty {
     }
 
     fn collect_recursive(&self, words: &mut [u32]) -> Result<(u32, u32), u32> {
+        self.refuses("recursive", words)?;
         match PlainRust.collect_recursive(words) {
             Err(11) if self.0 == RecursiveChecksLinksFirst && PlainRust.collect(&mut words.to_vec()) == Err(3) => {
                 Err(3)
             }
+            Err(11) if self.0 == RecursiveLimitOneMore && cells(words) == 65 => PlainRust.collect(words),
             Ok(_) if self.0 == RecursiveLimitOneLess && cells(words) == 64 => Err(11),
             answer => answer,
         }
     }
 
     fn save(&self, words: &mut [u32], scratch: &mut [u32], out: &mut [u8]) -> Result<usize, u32> {
+        self.refuses("save", words)?;
         let lent = scratch.to_vec();
+        let used = 2 * cells(words) as usize;
         let swap = |words: &mut [u32]| (1..=cells(words)).for_each(|i| words.swap(cell_at(i) + 1, cell_at(i) + 2));
         let answer = match self.0 {
             SaveRightFirst => {
@@ -320,81 +487,100 @@ impl Interface for Faulty {
                 let shorter = out.len() - 1;
                 PlainRust.save(words, scratch, &mut out[..shorter])
             }
-            _ => PlainRust.save(words, scratch, out),
+            SaveNeedsOneScratchWordMore if scratch.len() == used => PlainRust.save(words, &mut [], out),
+            _ => {
+                let (words_cut, bytes_cut) =
+                    (self.cut(SaveScratchLengthCut, lent.len()), self.cut(SaveOutputLengthCut, out.len()));
+                PlainRust.save(words, &mut scratch[..words_cut], &mut out[..bytes_cut])
+            }
         };
         match (self.0, answer) {
             (SaveConstant, Ok(_)) => {
                 out[..17].fill(0);
                 return Ok(17);
             }
-            (SaveLeavesScratch, Ok(_)) => {
-                let used = 2 * cells(words) as usize;
-                scratch[used..].copy_from_slice(&lent[used..]);
+            (SaveLeavesScratch, Ok(_)) => scratch[used..].copy_from_slice(&lent[used..]),
+            (SaveLeavesFarScratch, Ok(_)) if lent.len() > used + 1_000 => {
+                scratch[used + 1_000..].copy_from_slice(&lent[used + 1_000..]);
             }
             (SaveClearsScratchTooEarly, Err(3)) => scratch.fill(0),
             (SaveWritesWhereRefused, Err(10)) if out.len() > 1 => out[0] ^= 1,
+            (SaveTouchesFarOutput, Ok(bytes)) if out.len() > bytes + 3_000 => out[bytes + 3_000] ^= 1,
             _ => {}
         }
         answer
     }
 
     fn load(&self, words: &mut [u32], bytes: &[u8]) -> (Result<(), u32>, usize) {
+        if let Err(refusal) = self.refuses("load", words) {
+            return (Err(refusal), bytes.len());
+        }
         let before = words.get(1).copied();
-        let (answer, rest) = PlainRust.load(words, bytes);
+        let (answer, rest) = PlainRust.load(words, &bytes[..self.cut(LoadLengthCut, bytes.len())]);
         match (self.0, answer) {
             (LoadConfusesCutAndLarge, Err(7)) => (Err(6), rest),
             (LoadAnswersRestOfRefused, Err(_)) => (answer, 0),
+            (LoadCutsRest, Err(_)) => (answer, rest % (1 << 16)),
             (LoadDropsBytesBehind, Ok(())) => (answer, bytes.len()),
             (LoadLeavesHead, Ok(())) => {
                 words[1] = before.unwrap_or(0);
                 (answer, rest)
             }
             (LoadChecksLinksBeforeCells, Err(9)) if bytes.len() > 1 && bytes[1] > bytes[0] => (Err(8), rest),
+            (LoadRefusesFullImage, Ok(())) if cells(words) >= 1_000 && words[1] == 0 => (Err(9), bytes.len()),
+            (LoadAcceptsOneCellMore, Err(9)) if PlainRust.check_image(bytes, cells(words) + 1).is_ok() => {
+                (Ok(()), rest)
+            }
             _ => (answer, rest),
         }
     }
 
     fn check_image(&self, bytes: &[u8], n: u32) -> Result<(), u32> {
-        let n = if self.0 == CheckIgnoresLimit && n == 4001 { 4000 } else { n };
-        PlainRust.check_image(bytes, n)
+        match self.0 {
+            At("check", size) if n as usize == size => Err(3),
+            CheckIgnoresLimit if n == 4_001 => PlainRust.check_image(bytes, 4_000),
+            CheckLimitOneLess if n == 4_000 => Err(1),
+            CheckAcceptsInWindow if (1_000..2_000).contains(&n) => Ok(()),
+            _ => PlainRust.check_image(&bytes[..self.cut(CheckLengthCut, bytes.len())], n),
+        }
     }
 
     fn occupancy(&self, kept: u32, n: u32) -> Result<u32, u32> {
         let percent = PlainRust.occupancy(kept, n)?;
-        Ok(if self.0 == OccupancyRoundsUp { (100 * kept).div_ceil(n) } else { percent })
+        Ok(match self.0 {
+            OccupancyRoundsUp => (100 * kept).div_ceil(n),
+            OccupancyWrongInWindow if (1_000..3_000).contains(&n) => percent ^ 1,
+            OccupancyCutsProduct => ((100 * kept) & 0xFFFF) / n,
+            _ => percent,
+        })
     }
-}
-
-fn random() -> Random {
-    Random::new(42)
-}
-
-fn all_checks(pool: &dyn Interface) -> Outcome {
-    checks::against_reference(pool, &mut random(), 300)?;
-    checks::call_lists(pool, &mut random(), 100)?;
-    checks::any_words(pool, &mut random(), 1_500)?;
-    checks::collections(pool, &mut random(), 1_500)?;
-    checks::saves(pool, &mut random(), 100)?;
-    checks::images(pool, &mut random(), 1_500)?;
-    checks::percentages(pool, &mut random())
 }
 
 #[test]
 fn no_difference_is_found_without_a_fault() {
-    assert_eq!(all_checks(&PlainRust), Ok(()));
+    for (comparison, _) in FOUND_BY {
+        // Those without rounds try every size, with plain Rust too.
+        if comparison.rounds > 0 {
+            let fewer = Comparison { rounds: comparison.rounds / 10, ..comparison };
+            assert_eq!(fewer.on(&Faulty(Correct)), Ok(()));
+        }
+    }
 }
 
 #[test]
 fn every_fault_is_found() {
-    for fault in FAULTS {
-        assert!(all_checks(&Faulty(fault)).is_err(), "{fault:?} is not found");
+    for (comparison, faults) in FOUND_BY {
+        for &fault in faults {
+            assert!(comparison.on(&Faulty(fault)).is_err(), "{fault:?} is not found");
+        }
     }
 }
 
 #[test]
 fn the_reference_model_finds_the_faults_that_answers_show() {
-    for fault in FAULTS {
-        let found = checks::against_reference(&Faulty(fault), &mut random(), 300).is_err();
-        assert_eq!(found, SEEN_BY_REFERENCE.contains(&fault), "{fault:?}");
+    let (_, shown) = FOUND_BY[0];
+    for fault in FOUND_BY.iter().flat_map(|(_, faults)| *faults) {
+        let found = checks::against_reference(&Faulty(*fault), &mut Random::new(42), 300).is_err();
+        assert_eq!(found, shown.contains(fault), "{fault:?}");
     }
 }

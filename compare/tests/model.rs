@@ -1,7 +1,6 @@
 //! The model against itself, against the reference model, and what the generated inputs reach.
 
-mod common;
-
+use cellpool_compare::cause::{Cause, Link, Name, Place};
 use cellpool_compare::checks;
 use cellpool_compare::generate::{self, Shape, SHAPES};
 use cellpool_compare::model::{Model, Pool};
@@ -98,146 +97,195 @@ fn the_model_answers_as_the_reference_model() {
     checks::against_reference(&Model, &mut random(5), rounds(10_000)).unwrap();
 }
 
-/// The model, counting every answer of every function.
+/// The name of a function, and the kind of an accepted answer or the cause of a refusal.
+type Reached = (&'static str, Result<&'static str, Cause>);
+
+/// The model, counting what is reached.
 #[derive(Default)]
-struct Counting(RefCell<BTreeMap<(&'static str, u32), usize>>);
+struct Counting(RefCell<BTreeMap<Reached, usize>>);
 
 impl Counting {
-    fn count<T>(&self, name: &'static str, answer: Result<T, u32>) -> Result<T, u32> {
-        let code = answer.as_ref().err().copied().unwrap_or(0);
-        *self.0.borrow_mut().entry((name, code)).or_default() += 1;
-        answer
+    fn count<T>(
+        &self,
+        name: &'static str,
+        answer: Result<T, Cause>,
+        kind: impl Fn(&T) -> &'static str,
+    ) -> Result<T, u32> {
+        let reached = answer.as_ref().map(kind).map_err(|cause| *cause);
+        *self.0.borrow_mut().entry((name, reached)).or_default() += 1;
+        Ok(answer?)
     }
+}
+
+fn done<T>(_: &T) -> &'static str {
+    "done"
 }
 
 impl Interface for Counting {
     fn fresh(&self, words: &mut [u32]) -> Result<u32, u32> {
-        self.count("fresh", Model.fresh(words))
+        self.count("fresh", Model.fresh(words), done)
     }
     fn copy(&self, words: &mut [u32], r: u32, a: u32) -> Result<(), u32> {
-        self.count("copy", Model.copy(words, r, a))
+        self.count("copy", Model.copy(words, r, a), done)
     }
     fn clear(&self, words: &mut [u32], r: u32) -> Result<(), u32> {
-        self.count("clear", Model.clear(words, r))
+        self.count("clear", Model.clear(words, r), done)
     }
     fn new_cell(&self, words: &mut [u32], r: u32, a: u32, b: u32, v: u32) -> Result<u32, u32> {
-        let answer = self.count("new", Model.new_cell(words, r, a, b, v));
-        if answer.is_ok_and(|visits| visits > 0) {
-            let _ = self.count("new that collects", answer);
-        }
-        answer
+        let kind = |visits: &u32| if *visits > 0 { "collected" } else { "done" };
+        self.count("new", Model.new_cell(words, r, a, b, v), kind)
     }
     fn left(&self, words: &mut [u32], r: u32, a: u32) -> Result<(), u32> {
-        self.count("left", Model.left(words, r, a))
+        self.count("left", Model.left(words, r, a), done)
     }
     fn right(&self, words: &mut [u32], r: u32, a: u32) -> Result<(), u32> {
-        self.count("right", Model.right(words, r, a))
+        self.count("right", Model.right(words, r, a), done)
     }
     fn setleft(&self, words: &mut [u32], a: u32, b: u32) -> Result<(), u32> {
-        self.count("setleft", Model.setleft(words, a, b))
+        self.count("setleft", Model.setleft(words, a, b), done)
     }
     fn setright(&self, words: &mut [u32], a: u32, b: u32) -> Result<(), u32> {
-        self.count("setright", Model.setright(words, a, b))
+        self.count("setright", Model.setright(words, a, b), done)
     }
     fn setvalue(&self, words: &mut [u32], a: u32, v: u32) -> Result<(), u32> {
-        self.count("setvalue", Model.setvalue(words, a, v))
+        self.count("setvalue", Model.setvalue(words, a, v), done)
     }
     fn value(&self, words: &mut [u32], a: u32) -> Result<u32, u32> {
-        self.count("value", Model.value(words, a))
+        self.count("value", Model.value(words, a), done)
     }
     fn same(&self, words: &mut [u32], a: u32, b: u32) -> Result<u32, u32> {
-        let answer = self.count("same", Model.same(words, a, b));
-        if answer == Ok(1) && a != b && words[2 + a as usize] != 0 {
-            let _ = self.count("same cell", answer);
-        }
-        answer
+        let held = words.get(2 + a as usize).copied();
+        let kind = |same: &u32| match (same, held) {
+            (0, _) => "different",
+            (_, Some(0)) => "both nil",
+            _ if a == b => "one register",
+            _ => "one cell",
+        };
+        self.count("same", Model.same(words, a, b), kind)
     }
     fn collect(&self, words: &mut [u32]) -> Result<(u32, u32), u32> {
-        self.count("collect", Model.collect(words))
+        self.count("collect", Model.collect(words), done)
     }
     fn collect_tally(&self, words: &mut [u32], tally: &mut Tally) -> Result<(u32, u32), u32> {
         let before = *tally;
-        let answer = self.count("tally", Model.collect_tally(words, tally));
-        if answer.is_ok_and(|(_, visits)| tally.visits.wrapping_sub(before.visits) < visits) {
-            let _ = self.count("tally that stops", answer);
-        }
-        answer
+        let answer = Model.collect_tally(words, tally);
+        let stops = |visits: u32| tally.visits - before.visits < visits;
+        let kind = |&(_, visits): &(u32, u32)| match (tally.collections == before.collections, stops(visits)) {
+            (false, false) => "done",
+            (true, false) => "collections stop",
+            (false, true) => "visits stop",
+            (true, true) => "both stop",
+        };
+        self.count("tally", answer, kind)
     }
     fn collect_stack(&self, words: &mut [u32], stack: &mut [u32]) -> Result<(u32, u32), u32> {
-        let answer = self.count("stack", Model.collect_stack(words, stack));
-        match answer {
-            Ok((_, 0)) => self.count("stack too short", answer),
-            Ok((kept, _)) if kept > 5 && !stack.is_empty() => self.count("stack long enough", answer),
-            _ => answer,
-        }
+        let answer = Model.collect_stack(words, stack);
+        let kind = |&(kept, enough): &(u32, u32)| match enough {
+            0 => "too short",
+            _ if kept > 5 && !stack.is_empty() => "enough for many cells",
+            _ => "done",
+        };
+        self.count("stack", answer, kind)
     }
     fn collect_recursive(&self, words: &mut [u32]) -> Result<(u32, u32), u32> {
-        self.count("recursive", Model.collect_recursive(words))
+        self.count("recursive", Model.collect_recursive(words), done)
     }
     fn save(&self, words: &mut [u32], scratch: &mut [u32], out: &mut [u8]) -> Result<usize, u32> {
-        self.count("save", Model.save(words, scratch, out))
+        self.count("save", Model.save(words, scratch, out), done)
     }
     fn load(&self, words: &mut [u32], bytes: &[u8]) -> (Result<(), u32>, usize) {
         let (answer, rest) = Model.load(words, bytes);
-        if rest < bytes.len() {
-            let _ = self.count("load with bytes behind", answer);
-        }
-        (self.count("load", answer), rest)
+        let kind = |_: &()| if rest < bytes.len() { "bytes behind" } else { "done" };
+        (self.count("load", answer, kind), rest)
     }
     fn check_image(&self, bytes: &[u8], n: u32) -> Result<(), u32> {
-        self.count("check", Model.check_image(bytes, n))
+        self.count("check", Model.check_image(bytes, n), done)
     }
     fn occupancy(&self, kept: u32, n: u32) -> Result<u32, u32> {
-        self.count("occupancy", Model.occupancy(kept, n))
+        self.count("occupancy", Model.occupancy(kept, n), done)
     }
 }
 
+/// The kinds of accepted answers of every function, and the causes of its refusals by the document's questions.
+fn answers() -> Vec<(&'static str, Vec<&'static str>, Vec<Cause>)> {
+    use Cause::*;
+    use Name::*;
+    const LINKS: [Link; 2] = [Link::AboveN, Link::NotUsed];
+    let length = || vec![Short, Form, NoCells, ManyCells];
+    let size = || [length(), vec![WordZero]].concat();
+    let numbers = |names: &[Name]| -> Vec<Cause> { names.iter().map(|&name| Number(name)).collect() };
+    let read =
+        |names: &[Name]| -> Vec<Cause> { names.iter().flat_map(|&name| LINKS.map(|link| Read(name, link))).collect() };
+    let not_well_formed = || {
+        let links = LINKS.into_iter().flat_map(|link| [Register(link), Left(link), Right(link)]);
+        links.chain([State, Several]).collect::<Vec<_>>()
+    };
+    let collect = || [size(), not_well_formed()].concat();
+    let follow = || [size(), numbers(&[R, A]), read(&[A]), vec![Nil], LINKS.map(LinkRead).to_vec()].concat();
+    let relink = || [size(), numbers(&[A, B]), read(&[A, B]), vec![Nil]].concat();
+    let held = || [size(), numbers(&[A]), read(&[A]), vec![Nil]].concat();
+    let image = || {
+        let places = [Place::K, Place::Register, Place::Left, Place::Right, Place::Value];
+        let ends = places.into_iter().flat_map(|place| [Truncated(place), Wide(place), Long(place)]);
+        let links = [Place::Register, Place::Left, Place::Right].map(AboveK);
+        ends.chain([MoreThanN]).chain(links).collect::<Vec<_>>()
+    };
+    vec![
+        ("fresh", vec!["done"], length()),
+        ("copy", vec!["done"], [size(), numbers(&[R, A]), read(&[A])].concat()),
+        ("clear", vec!["done"], [size(), numbers(&[R])].concat()),
+        (
+            "new",
+            vec!["done", "collected"],
+            [
+                size(),
+                numbers(&[R, A, B]),
+                read(&[A, B]),
+                not_well_formed(),
+                vec![HeadAboveN, HeadNotFree, LeftOfHead, Full],
+            ]
+            .concat(),
+        ),
+        ("left", vec!["done"], follow()),
+        ("right", vec!["done"], follow()),
+        ("setleft", vec!["done"], relink()),
+        ("setright", vec!["done"], relink()),
+        ("setvalue", vec!["done"], held()),
+        ("value", vec!["done"], held()),
+        (
+            "same",
+            vec!["different", "both nil", "one register", "one cell"],
+            [size(), numbers(&[A, B]), read(&[A, B])].concat(),
+        ),
+        ("collect", vec!["done"], collect()),
+        ("tally", vec!["done", "collections stop", "visits stop", "both stop"], collect()),
+        ("stack", vec!["done", "enough for many cells", "too short"], collect()),
+        ("recursive", vec!["done"], [collect(), vec![TooLarge]].concat()),
+        ("save", vec!["done"], [collect(), vec![Scratch, Output]].concat()),
+        ("load", vec!["done", "bytes behind"], [length(), image()].concat()),
+        ("check", vec!["done"], [vec![NoCells, ManyCells], image()].concat()),
+        ("occupancy", vec!["done"], vec![NoCells, ManyCells, Kept]),
+    ]
+}
+
 #[test]
-fn the_generated_inputs_reach_every_answer_of_every_function() {
+fn the_random_inputs_reach_every_answer_and_every_cause_of_every_function() {
     let counting = Counting::default();
-    let mut random = random(6);
-    checks::any_words(&counting, &mut random, 4_000).unwrap();
-    checks::call_lists(&counting, &mut random, 200).unwrap();
-    checks::collections(&counting, &mut random, 1_500).unwrap();
-    checks::saves(&counting, &mut random, 200).unwrap();
-    checks::images(&counting, &mut random, 3_000).unwrap();
-    checks::percentages(&counting, &mut random).unwrap();
-    let expected: [(&str, &[u32]); 24] = [
-        ("fresh", &[0, 1]),
-        ("copy", &[0, 1, 2, 3]),
-        ("clear", &[0, 1, 2]),
-        ("new", &[0, 1, 2, 3, 5]),
-        ("new that collects", &[0]),
-        ("left", &[0, 1, 2, 3, 4]),
-        ("right", &[0, 1, 2, 3, 4]),
-        ("setleft", &[0, 1, 2, 3, 4]),
-        ("setright", &[0, 1, 2, 3, 4]),
-        ("setvalue", &[0, 1, 2, 3, 4]),
-        ("value", &[0, 1, 2, 3, 4]),
-        ("same", &[0, 1, 2, 3]),
-        ("same cell", &[0]),
-        ("collect", &[0, 1, 3]),
-        ("tally", &[0, 1, 3]),
-        ("tally that stops", &[0]),
-        ("stack", &[0, 1, 3]),
-        ("stack too short", &[0]),
-        ("stack long enough", &[0]),
-        ("recursive", &[0, 1, 3, 11]),
-        ("save", &[0, 1, 3, 10]),
-        ("load", &[0, 1, 6, 7, 8, 9]),
-        ("load with bytes behind", &[0]),
-        ("check", &[0, 1, 6, 7, 8, 9]),
-    ];
-    let counts = counting.0.into_inner();
-    for (name, codes) in expected {
-        for &code in codes {
-            let count = counts.get(&(name, code)).copied().unwrap_or(0);
-            assert!(count >= 12, "{name} answers {code} only {count} times");
+    for comparison in
+        [checks::CALL_LISTS, checks::ANY_WORDS, checks::COLLECTIONS, checks::SAVES, checks::IMAGES, checks::PERCENTAGES]
+    {
+        comparison.on(&counting).unwrap();
+    }
+    let mut counts = counting.0.into_inner();
+    let mut seldom = BTreeMap::new();
+    for (name, kinds, causes) in answers() {
+        for reached in kinds.into_iter().map(Ok).chain(causes.into_iter().map(Err)) {
+            let count = counts.remove(&(name, reached)).unwrap_or(0);
+            if count < 12 {
+                seldom.insert((name, reached), count);
+            }
         }
     }
-    let known: Vec<&str> = expected.iter().map(|(name, _)| *name).chain(["occupancy"]).collect();
-    for (name, code) in counts.keys() {
-        let answers = expected.iter().find(|(known, _)| known == name).map_or(&[0, 1][..], |(_, codes)| codes);
-        assert!(known.contains(name) && answers.contains(code), "{name} is not to answer {code}");
-    }
+    assert_eq!(seldom, BTreeMap::new(), "answers that are reached too seldom, and how often");
+    assert_eq!(counts, BTreeMap::new(), "answers that are not to come");
 }

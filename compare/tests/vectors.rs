@@ -2,6 +2,7 @@
 
 mod common;
 
+use cellpool_compare::guard::Guarded;
 use cellpool_compare::model::Model;
 use cellpool_compare::{Interface, Tally};
 use common::implementations;
@@ -9,8 +10,8 @@ use common::implementations;
 /// Run on every implementation and on the model.
 fn on_all(check: impl Fn(&dyn Interface)) {
     check(&Model);
-    for (_, pool) in implementations() {
-        check(pool.as_ref());
+    for implementation in implementations() {
+        check(&Guarded::new(vec![implementation]));
     }
 }
 
