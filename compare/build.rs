@@ -73,7 +73,7 @@ fn compile(cc: &OsStr, options: &[&str], sources: &[&Path], result: &Path) {
 
 fn build_c_baseline() -> bool {
     let source = manifest_dir().join("baseline/baseline.c");
-    println!("cargo:rerun-if-changed={}", source.display());
+    println!("cargo:rerun-if-changed={}", manifest_dir().join("baseline").display());
     let out = PathBuf::from(env::var_os("OUT_DIR").expect("cargo sets OUT_DIR"));
     let object = out.join("baseline.o");
     let archive = out.join("libcellpool_baseline.a");
@@ -84,7 +84,6 @@ fn build_c_baseline() -> bool {
     compile(&cc, &["-fPIC", "-c"], &[&source], &object);
     let script = manifest_dir().join("baseline/runscript.c");
     let program = out.join("plain_runscript");
-    println!("cargo:rerun-if-changed={}", script.display());
     compile(&cc, &["-DBASELINE_AS_CELLPOOL"], &[&source, &script], &program);
     println!("cargo:rustc-env=PLAIN_RUNSCRIPT={}", program.display());
     let _ = std::fs::remove_file(&archive);

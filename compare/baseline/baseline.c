@@ -1,9 +1,9 @@
 /*
- * The functions of cellpool.h in plain C, with the algorithms of the source documents: the benchmark's C baseline.
- * Its functions are named baseline_*; with -DBASELINE_AS_CELLPOOL they take the names of cellpool.h, which makes an archive
- * to try the tests with.
+ * The functions of cellpool.h in plain C, with the algorithms of the source documents: the benchmark's C baseline, and
+ * what the fuzz target compares the library with. Its functions are named baseline_*; with -DBASELINE_AS_CELLPOOL they take
+ * the names of cellpool.h, which makes an archive to try the tests with.
  */
-#include "cellpool.h"
+#include "baseline.h"
 
 #include <string.h>
 
@@ -11,26 +11,6 @@
 #define NAME(name) cellpool_##name
 #else
 #define NAME(name) baseline_##name
-/* Every function is declared before it is defined. */
-uint32_t baseline_fresh(uint32_t *, size_t, uint32_t *);
-uint32_t baseline_copy(uint32_t *, size_t, uint32_t, uint32_t);
-uint32_t baseline_clear(uint32_t *, size_t, uint32_t);
-uint32_t baseline_new(uint32_t *, size_t, uint32_t, uint32_t, uint32_t, uint32_t, uint32_t *);
-uint32_t baseline_left(uint32_t *, size_t, uint32_t, uint32_t);
-uint32_t baseline_right(uint32_t *, size_t, uint32_t, uint32_t);
-uint32_t baseline_setleft(uint32_t *, size_t, uint32_t, uint32_t);
-uint32_t baseline_setright(uint32_t *, size_t, uint32_t, uint32_t);
-uint32_t baseline_setvalue(uint32_t *, size_t, uint32_t, uint32_t);
-uint32_t baseline_value(uint32_t *, size_t, uint32_t, uint32_t *);
-uint32_t baseline_same(uint32_t *, size_t, uint32_t, uint32_t, uint32_t *);
-uint32_t baseline_collect(uint32_t *, size_t, uint32_t *, uint32_t *);
-uint32_t baseline_collect_tally(uint32_t *, size_t, uint32_t *, uint32_t *, uint32_t *, uint32_t *);
-uint32_t baseline_collect_stack(uint32_t *, size_t, uint32_t *, size_t, uint32_t *, uint32_t *);
-uint32_t baseline_collect_recursive(uint32_t *, size_t, uint32_t *, uint32_t *);
-uint32_t baseline_save(uint32_t *, size_t, uint32_t *, size_t, uint8_t *, size_t, size_t *);
-uint32_t baseline_load(uint32_t *, size_t, const uint8_t *, size_t, size_t *);
-uint32_t baseline_check_image(const uint8_t *, size_t, uint32_t);
-uint32_t baseline_occupancy(uint32_t, uint32_t, uint32_t *);
 #endif
 
 #define USED 0u

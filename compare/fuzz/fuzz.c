@@ -1,51 +1,190 @@
 /*
  * A fuzz target for the functions of cellpool.h, for libFuzzer (LLVMFuzzerTestOneInput).
  *
- * Every lent block stands against a page that may be neither read nor written, so that also an archive compiled
- * without a sanitizer is caught at the first access outside. What is demanded of every answer is stated here without
- * a model: a refusal changes nothing but what the header names, a call changes its one word, the forms of collect
- * agree, load and check_image agree, and an image that was saved loads and saves as the same bytes.
+ * An input is the words of a pool and a list of calls of any function. Every call is made by the library and by the plain C
+ * version (../baseline/baseline.c), on equal blocks: answers, results, and every word and byte of every block have to be the
+ * same. The branches of the plain C version, which is compiled with this file, guide the fuzzer.
+ *
+ * The blocks stand against pages that may be neither read nor written, so that also an archive compiled without a sanitizer
+ * is caught at the first access outside. The library is compared with itself too: a refusal is one that the header lists with
+ * its function and changes nothing but what the header names, the forms of collect agree, and an image that was saved loads
+ * and saves as the same bytes, while every cut of it is refused.
  *
  * With -DSTANDALONE a main is added that runs pseudo-random inputs: fuzz [inputs [seed]].
  */
 #define _DEFAULT_SOURCE
-#include "cellpool.h"
+#include "../baseline/baseline.h"
 
 #include <stdio.h>
 #include <stdlib.h>
 #include <string.h>
 #include <sys/mman.h>
-#include <unistd.h>
 
 int LLVMFuzzerTestOneInput(const uint8_t *data, size_t size);
 
 #define DEMAND(condition) ((condition) ? (void)0 : fail(#condition, __LINE__))
 
+static const char *called = "no function";
+
 static void fail(const char *condition, int line) {
-    fprintf(stderr, "fuzz.c:%d: not so: %s\n", line, condition);
+    fprintf(stderr, "fuzz.c:%d: %s: not so: %s\n", line, called, condition);
     abort();
 }
 
-/* Blocks between guard pages. */
-enum { WORDS, OTHER, STACK, OUT, IMAGE, BLOCKS };
-enum { ROOM = 128 * 1024, MOST = 4002 };
+/* The blocks that calls are lent, for either side the same bytes, and their content before a call. The stack is also the
+   scratch of save. */
+enum { LIBRARY, PLAIN, SIDES };
+enum { WORDS, STACK, OUT, IMAGE, BLOCKS };
+enum { ROOM = 128 * 1024, GUARD = 1024 * 1024 };
 
-static uint8_t *room_of(int block) {
-    static uint8_t *rooms[BLOCKS];
-    if (rooms[block] == NULL) {
-        size_t page = (size_t)sysconf(_SC_PAGESIZE);
-        uint8_t *all = mmap(NULL, ROOM + 2 * page, PROT_NONE, MAP_PRIVATE | MAP_ANONYMOUS, -1, 0);
-        DEMAND(all != MAP_FAILED);
-        DEMAND(mprotect(all + page, ROOM, PROT_READ | PROT_WRITE) == 0);
-        rooms[block] = all + page;
+static struct {
+    uint8_t *room[SIDES], *at[SIDES];
+    size_t bytes;
+    uint8_t before[ROOM];
+} blocks[BLOCKS];
+
+static int at_end;
+
+/* Lend so many bytes, with a guard directly behind them or directly before them. Answers the library's block. */
+static void *lend(int block, size_t bytes) {
+    DEMAND(bytes <= ROOM);
+    for (int side = 0; side < SIDES; side++) {
+        if (blocks[block].room[side] == NULL) {
+            uint8_t *all = mmap(NULL, ROOM + 2 * GUARD, PROT_NONE, MAP_PRIVATE | MAP_ANONYMOUS, -1, 0);
+            DEMAND(all != MAP_FAILED && mprotect(all + GUARD, ROOM, PROT_READ | PROT_WRITE) == 0);
+            blocks[block].room[side] = all + GUARD;
+        }
+        blocks[block].at[side] = blocks[block].room[side] + (at_end ? ROOM - bytes : 0);
     }
-    return rooms[block];
+    blocks[block].bytes = bytes;
+    return blocks[block].at[LIBRARY];
 }
 
-/* A block of so many bytes with a guard page directly behind it, or directly before it. */
-static void *lend(int block, size_t bytes, int at_end) {
-    DEMAND(bytes <= ROOM);
-    return room_of(block) + (at_end ? ROOM - bytes : 0);
+static uint32_t *words_of(int side) { return (uint32_t *)blocks[WORDS].at[side]; }
+
+/* The pool's cells, by its length. */
+static uint32_t cells;
+
+enum {
+    COPY, CLEAR, NEW, LEFT, RIGHT, SETLEFT, SETRIGHT, SETVALUE, VALUE, SAME, COLLECT,
+    FRESH, TALLY, STACKED, RECURSIVE, SAVE, LOAD, CHECK, OCCUPANCY, FUNCTIONS
+};
+
+/* Every function: the refusals that the header lists with it, and the blocks that it is lent. */
+#define BIT(i) (1u << (i))
+static const struct {
+    const char *name;
+    uint32_t refusals, lent;
+} functions[FUNCTIONS] = {
+    [COPY] = {"copy", BIT(1) | BIT(2) | BIT(3), BIT(WORDS)},
+    [CLEAR] = {"clear", BIT(1) | BIT(2), BIT(WORDS)},
+    [NEW] = {"new", BIT(1) | BIT(2) | BIT(3) | BIT(5), BIT(WORDS)},
+    [LEFT] = {"left", BIT(1) | BIT(2) | BIT(3) | BIT(4), BIT(WORDS)},
+    [RIGHT] = {"right", BIT(1) | BIT(2) | BIT(3) | BIT(4), BIT(WORDS)},
+    [SETLEFT] = {"setleft", BIT(1) | BIT(2) | BIT(3) | BIT(4), BIT(WORDS)},
+    [SETRIGHT] = {"setright", BIT(1) | BIT(2) | BIT(3) | BIT(4), BIT(WORDS)},
+    [SETVALUE] = {"setvalue", BIT(1) | BIT(2) | BIT(3) | BIT(4), BIT(WORDS)},
+    [VALUE] = {"value", BIT(1) | BIT(2) | BIT(3) | BIT(4), BIT(WORDS)},
+    [SAME] = {"same", BIT(1) | BIT(2) | BIT(3), BIT(WORDS)},
+    [COLLECT] = {"collect", BIT(1) | BIT(3), BIT(WORDS)},
+    [FRESH] = {"fresh", BIT(1), BIT(WORDS)},
+    [TALLY] = {"collect_tally", BIT(1) | BIT(3), BIT(WORDS)},
+    [STACKED] = {"collect_stack", BIT(1) | BIT(3), BIT(WORDS) | BIT(STACK)},
+    [RECURSIVE] = {"collect_recursive", BIT(1) | BIT(3) | BIT(11), BIT(WORDS)},
+    [SAVE] = {"save", BIT(1) | BIT(3) | BIT(10), BIT(WORDS) | BIT(STACK) | BIT(OUT)},
+    [LOAD] = {"load", BIT(1) | BIT(6) | BIT(7) | BIT(8) | BIT(9), BIT(WORDS) | BIT(IMAGE)},
+    [CHECK] = {"check_image", BIT(1) | BIT(6) | BIT(7) | BIT(8) | BIT(9), BIT(IMAGE)},
+    [OCCUPANCY] = {"occupancy", BIT(1), 0},
+};
+
+typedef struct {
+    int function;
+    /* Of a tally, a and b are what it counts from; of check_image and occupancy, a is n. */
+    uint32_t r, a, b, v;
+} Call;
+
+/* Numbers for results: the odd ones are lent, and the others must stay. */
+#define UNSET 0xA5A51234u
+typedef struct {
+    uint32_t number[9];
+    size_t size[3];
+} Results;
+
+#define BY(side, name) ((side) == LIBRARY ? cellpool_##name : baseline_##name)
+
+static uint32_t run(int side, const Call *call, Results *results) {
+    uint32_t *words = words_of(side), *stack = (uint32_t *)blocks[STACK].at[side];
+    uint8_t *out = blocks[OUT].at[side], *image = blocks[IMAGE].at[side];
+    size_t len = blocks[WORDS].bytes / sizeof *words, stack_len = blocks[STACK].bytes / sizeof *stack;
+    size_t out_len = blocks[OUT].bytes, image_len = blocks[IMAGE].bytes;
+    uint32_t r = call->r, a = call->a, b = call->b, v = call->v, *number = results->number;
+    switch (call->function) {
+    case COPY: return BY(side, copy)(words, len, r, a);
+    case CLEAR: return BY(side, clear)(words, len, r);
+    case NEW: return BY(side, new)(words, len, r, a, b, v, number + 1);
+    case LEFT: return BY(side, left)(words, len, r, a);
+    case RIGHT: return BY(side, right)(words, len, r, a);
+    case SETLEFT: return BY(side, setleft)(words, len, a, b);
+    case SETRIGHT: return BY(side, setright)(words, len, a, b);
+    case SETVALUE: return BY(side, setvalue)(words, len, a, v);
+    case VALUE: return BY(side, value)(words, len, a, number + 1);
+    case SAME: return BY(side, same)(words, len, a, b, number + 1);
+    case COLLECT: return BY(side, collect)(words, len, number + 1, number + 3);
+    case FRESH: return BY(side, fresh)(words, len, number + 1);
+    case TALLY: return BY(side, collect_tally)(words, len, number + 5, number + 7, number + 1, number + 3);
+    case STACKED: return BY(side, collect_stack)(words, len, stack, stack_len, number + 1, number + 3);
+    case RECURSIVE: return BY(side, collect_recursive)(words, len, number + 1, number + 3);
+    case SAVE: return BY(side, save)(words, len, stack, stack_len, out, out_len, results->size + 1);
+    case LOAD: return BY(side, load)(words, len, image, image_len, results->size + 1);
+    case CHECK: return BY(side, check_image)(image, image_len, a);
+    default: return BY(side, occupancy)(v, a, number + 1);
+    }
+}
+
+/* Make a call on both sides, from the library's blocks as they are, and compare. */
+static uint32_t make(Call call, Results *results) {
+    Results start, found[SIDES];
+    uint32_t answer[SIDES], lent = functions[call.function].lent;
+    called = functions[call.function].name;
+    for (int i = 0; i < 9; i++) start.number[i] = UNSET;
+    for (int i = 0; i < 3; i++) start.size[i] = UNSET;
+    if (call.function == TALLY) {
+        start.number[5] = call.a;
+        start.number[7] = call.b;
+    }
+    for (int block = 0; block < BLOCKS; block++) {
+        if ((lent & BIT(block)) == 0) continue;
+        memcpy(blocks[block].before, blocks[block].at[LIBRARY], blocks[block].bytes);
+        memcpy(blocks[block].at[PLAIN], blocks[block].at[LIBRARY], blocks[block].bytes);
+    }
+    for (int side = 0; side < SIDES; side++) {
+        found[side] = start;
+        answer[side] = run(side, &call, &found[side]);
+    }
+    DEMAND(answer[LIBRARY] == answer[PLAIN]);
+    DEMAND(memcmp(&found[LIBRARY], &found[PLAIN], sizeof start) == 0);
+    for (int block = 0; block < BLOCKS; block++) {
+        if ((lent & BIT(block)) == 0) continue;
+        DEMAND(memcmp(blocks[block].at[LIBRARY], blocks[block].at[PLAIN], blocks[block].bytes) == 0);
+    }
+    if (answer[LIBRARY] != 0) {
+        /* Refused, save clears its scratch where only the output is too short, and load answers where the bytes end. */
+        int cleared = call.function == SAVE && answer[LIBRARY] == 10 && blocks[STACK].bytes >= 8 * (size_t)cells;
+        DEMAND(answer[LIBRARY] < 32 && (functions[call.function].refusals & BIT(answer[LIBRARY])) != 0);
+        if (call.function == LOAD) start.size[1] = blocks[IMAGE].bytes;
+        DEMAND(memcmp(&found[LIBRARY], &start, sizeof start) == 0);
+        for (int block = 0; block < BLOCKS; block++) {
+            if ((lent & BIT(block)) == 0 || (block == STACK && cleared)) continue;
+            DEMAND(memcmp(blocks[block].at[LIBRARY], blocks[block].before, blocks[block].bytes) == 0);
+        }
+    }
+    if (results != NULL) *results = found[LIBRARY];
+    return answer[LIBRARY];
+}
+
+static uint32_t make_plainly(int function, Results *results) {
+    Call call = {function, 0, 0, 0, 0};
+    return make(call, results);
 }
 
 /* The input, read byte by byte; 0 behind its end. */
@@ -65,283 +204,162 @@ static uint32_t number_of(Input *input, uint32_t n) {
     return number;
 }
 
-typedef struct {
-    uint32_t *words;
-    size_t len;
-    uint32_t n;
-} Pool;
+/* A link, or nil where it is not valid. */
+static uint32_t valid(const uint32_t *words, uint32_t link) {
+    return link >= 1 && link <= cells && words[CELLPOOL_WORDS((size_t)link - 1)] == 0 ? link : 0;
+}
 
-static uint32_t before[18 + 4 * MOST + 8];
-
-static void remember(const Pool *pool) { memcpy(before, pool->words, pool->len * sizeof *before); }
-static int unchanged(const Pool *pool) { return memcmp(before, pool->words, pool->len * sizeof *before) == 0; }
+/* Make the words a well-formed pool. */
+static void mend(uint32_t *words) {
+    words[0] = cells;
+    for (size_t i = 18; i < CELLPOOL_WORDS((size_t)cells); i += 4)
+        if (words[i] != 0) words[i] = 4;
+    for (size_t i = 2; i < 18; i++) words[i] = valid(words, words[i]);
+    for (size_t i = 18; i < CELLPOOL_WORDS((size_t)cells); i += 4)
+        if (words[i] == 0)
+            for (size_t side = 1; side <= 2; side++) words[i + side] = valid(words, words[i + side]);
+}
 
 /* Words of any length, content by the input. */
-static Pool pool_of(Input *input, int block, int at_end) {
-    Pool pool;
+static void lend_pool(Input *input, int mended) {
     uint8_t kind = byte_of(input);
-    pool.n = kind < 0xF0 ? 1 + kind % 40u : kind < 0xF8 ? kind % 3u : 4000u - 3u + kind % 8u;
-    pool.len = CELLPOOL_WORDS(pool.n) + (kind == 0xFE ? 1 : 0);
-    pool.words = lend(block, pool.len * sizeof *pool.words, at_end);
-    for (size_t i = 0; i < pool.len; i++) {
-        uint32_t number = number_of(input, pool.n);
+    if (kind < 0xF0) cells = 1 + kind % 40u;
+    else if (kind < 0xF4) cells = kind % 4u;
+    else if (kind < 0xF8) cells = number_of(input, 4001) % 4003u;
+    else cells = 4000u - 3u + kind % 8u;
+    size_t len = CELLPOOL_WORDS(cells) + (kind == 0xFE ? 1 : 0);
+    uint32_t *words = lend(WORDS, len * sizeof *words);
+    for (size_t i = 0; i < len; i++) {
+        uint32_t number = number_of(input, cells);
         /* States are mostly 0 or 4. */
-        if (i >= 18 && i % 4 == 2 && number <= pool.n + 1) number = number % 8 < 5 ? 0 : number % 8 < 7 ? 4 : number;
-        pool.words[i] = number;
+        if (i >= 18 && i % 4 == 2 && number <= cells + 1) number = number % 8 < 5 ? 0 : number % 8 < 7 ? 4 : number;
+        words[i] = number;
     }
-    if (byte_of(input) % 8 != 0) pool.words[0] = pool.n;
-    return pool;
+    if (byte_of(input) % 8 != 0) words[0] = cells;
+    if (mended) mend(words);
 }
 
-/* The pool is well-formed, by the header. */
-static int valid_link(const Pool *pool, uint32_t link) {
-    return link == 0 || (link <= pool->n && pool->words[18 + 4 * (size_t)(link - 1)] == 0);
+/* Lend so many elements, at most as there is room for, all bytes with this content. */
+static void *lend_filled(int block, size_t count, size_t element, int content) {
+    if (count > ROOM / element) count = ROOM / element;
+    return memset(lend(block, count * element), content, count * element);
 }
 
-static int well_formed(const Pool *pool) {
-    for (int i = 2; i < 18; i++)
-        if (!valid_link(pool, pool->words[i])) return 0;
-    for (uint32_t i = 0; i < pool->n; i++) {
-        const uint32_t *cell = pool->words + 18 + 4 * (size_t)i;
-        if (cell[0] != 0 && cell[0] != 4) return 0;
-        if (cell[0] == 0 && (!valid_link(pool, cell[1]) || !valid_link(pool, cell[2]))) return 0;
-    }
-    return 1;
-}
+/* The image that was saved last, or one by the input; then a change of one byte, or none. */
+static uint8_t saved[ROOM];
+static size_t saved_bytes;
 
-static int sized(const Pool *pool) {
-    return pool->n >= 1 && pool->n <= 4000 && pool->len == CELLPOOL_WORDS(pool->n) && pool->words[0] == pool->n;
-}
-
-/* Only this word may have changed, and it is now so. */
-static int changed_only(const Pool *pool, size_t place, uint32_t now) {
-    before[place] = now;
-    return unchanged(pool);
-}
-
-/* The place of a word of the cell that register a holds; the register holds one. */
-static size_t place_in_cell(const Pool *pool, uint32_t a, size_t word) {
-    uint32_t held = before[2 + a];
-    DEMAND(held >= 1 && held <= pool->n && before[18 + 4 * (size_t)(held - 1)] == 0);
-    return 18 + 4 * (size_t)(held - 1) + word;
-}
-
-/* No number that a result starts with is written by chance. */
-#define UNSET 0xA5A51234u
-
-static void try_call(Input *input, Pool *pool) {
+static void lend_image(Input *input) {
     uint8_t kind = byte_of(input);
-    uint32_t r = byte_of(input) % 17u, a = byte_of(input) % 17u, b = byte_of(input) % 17u, v = number_of(input, pool->n);
-    uint32_t result = UNSET, answer, allowed = 0;
-    int was_sized = sized(pool), was_well_formed = was_sized && well_formed(pool), writes = 1;
-    remember(pool);
-#define REFUSALS(list) allowed = (list)
-#define BIT(i) (1u << (i))
-    switch (kind % 10) {
-    case 0: answer = cellpool_copy(pool->words, pool->len, r, a); REFUSALS(BIT(1) | BIT(2) | BIT(3)); break;
-    case 1: answer = cellpool_clear(pool->words, pool->len, r); REFUSALS(BIT(1) | BIT(2)); break;
-    case 2: answer = cellpool_left(pool->words, pool->len, r, a); REFUSALS(BIT(1) | BIT(2) | BIT(3) | BIT(4)); break;
-    case 3: answer = cellpool_right(pool->words, pool->len, r, a); REFUSALS(BIT(1) | BIT(2) | BIT(3) | BIT(4)); break;
-    case 4: answer = cellpool_setleft(pool->words, pool->len, a, b); REFUSALS(BIT(1) | BIT(2) | BIT(3) | BIT(4)); break;
-    case 5: answer = cellpool_setright(pool->words, pool->len, a, b); REFUSALS(BIT(1) | BIT(2) | BIT(3) | BIT(4)); break;
-    case 6: answer = cellpool_setvalue(pool->words, pool->len, a, v); REFUSALS(BIT(1) | BIT(2) | BIT(3) | BIT(4)); break;
-    case 7:
-        answer = cellpool_value(pool->words, pool->len, a, &result);
-        REFUSALS(BIT(1) | BIT(2) | BIT(3) | BIT(4));
-        writes = 0;
+    size_t left = input->size - input->at, bytes = kind & 1 ? saved_bytes : number_of(input, 245) % (left + 1);
+    uint8_t *image = lend(IMAGE, bytes > ROOM ? ROOM : bytes);
+    for (size_t i = 0; i < blocks[IMAGE].bytes; i++) image[i] = kind & 1 ? saved[i] : byte_of(input);
+    if (kind & 2 && bytes > 0) {
+        size_t place = (byte_of(input) | (size_t)byte_of(input) << 8) % blocks[IMAGE].bytes;
+        image[place] = byte_of(input);
+    }
+}
+
+/* A call by the input. */
+static void any_call(Input *input) {
+    uint8_t kind = byte_of(input);
+    Call call = {kind < 0x80 ? kind % 11 : kind < 0xA0 ? NEW : kind % FUNCTIONS, 0, 0, 0, 0};
+    Results results;
+    switch (call.function) {
+    case FRESH:
+    case COLLECT:
+    case RECURSIVE: break;
+    case TALLY:
+        call.a = number_of(input, 3) ^ (kind & 0x20 ? UINT32_MAX : 0);
+        call.b = number_of(input, 120) ^ (kind & 0x40 ? UINT32_MAX : 0);
         break;
-    case 8:
-        answer = cellpool_same(pool->words, pool->len, a, b, &result);
-        REFUSALS(BIT(1) | BIT(2) | BIT(3));
-        writes = 0;
-        DEMAND(answer != 0 || result <= 1);
+    case STACKED: lend_filled(STACK, number_of(input, cells), sizeof(uint32_t), 0x5A); break;
+    case SAVE:
+        lend_filled(STACK, 2 * (size_t)cells + byte_of(input) % 8u - (kind & 0x20 && cells > 0), sizeof(uint32_t), 0x5A);
+        lend_filled(OUT, kind & 0x40 ? CELLPOOL_IMAGE_BYTES((size_t)cells) : number_of(input, 60), 1, 0x77);
+        break;
+    case CHECK:
+        lend_image(input);
+        call.a = kind & 0x40 ? number_of(input, cells) : cells;
+        break;
+    case LOAD: lend_image(input); break;
+    case OCCUPANCY:
+        call.a = kind & 0x40 ? number_of(input, 4000) : cells;
+        call.v = number_of(input, call.a < 4000 ? call.a : 4000);
         break;
     default:
-        answer = cellpool_new(pool->words, pool->len, r, a, b, v, &result);
-        REFUSALS(BIT(1) | BIT(2) | BIT(3) | BIT(5));
-        if (answer == 0) {
-            DEMAND(result % 3 == 0 && result <= 3 * pool->n);
-            DEMAND(pool->words[2 + r] >= 1 && pool->words[2 + r] <= pool->n);
-            DEMAND(pool->words[18 + 4 * (size_t)(pool->words[2 + r] - 1) + 3] == v);
-        }
+        call.r = byte_of(input) % 17u;
+        call.a = byte_of(input) % 17u;
+        call.b = byte_of(input) % 17u;
+        call.v = number_of(input, cells);
         break;
     }
-    DEMAND(answer == 0 || (answer < 32 && (allowed & BIT(answer)) != 0));
-    DEMAND((answer == 1) == !was_sized);
-    if (answer != 0) DEMAND(unchanged(pool) && (result == UNSET));
-    if (!writes) DEMAND(unchanged(pool));
-    if (answer == 0) {
-        switch (kind % 10) {
-        case 0: DEMAND(changed_only(pool, 2 + r, before[2 + a])); break;
-        case 1: DEMAND(changed_only(pool, 2 + r, 0)); break;
-        case 2: DEMAND(changed_only(pool, 2 + r, before[place_in_cell(pool, a, 1)])); break;
-        case 3: DEMAND(changed_only(pool, 2 + r, before[place_in_cell(pool, a, 2)])); break;
-        case 4: DEMAND(changed_only(pool, place_in_cell(pool, a, 1), before[2 + b])); break;
-        case 5: DEMAND(changed_only(pool, place_in_cell(pool, a, 2), before[2 + b])); break;
-        case 6: DEMAND(changed_only(pool, place_in_cell(pool, a, 3), v)); break;
-        case 7: DEMAND(result == before[place_in_cell(pool, a, 3)]); break;
-        case 8: DEMAND(result == (before[2 + a] == before[2 + b])); break;
-        default: break;
-        }
+    if (make(call, &results) == 0 && call.function == SAVE) {
+        saved_bytes = results.size[1];
+        memcpy(saved, blocks[OUT].at[LIBRARY], saved_bytes);
     }
-    if (answer == 0 && was_well_formed) DEMAND(sized(pool) && well_formed(pool));
 }
 
-static void try_collect(Input *input, Pool *pool, int at_end) {
-    static uint32_t collected[18 + 4 * MOST + 8];
-    uint32_t kept = UNSET, visits = UNSET, other = UNSET, more = UNSET;
-    uint32_t collections = number_of(input, 3), total = number_of(input, 3);
-    if (byte_of(input) % 2) {
-        collections = UINT32_MAX - collections;
-        total = UINT32_MAX - total;
-    }
-    int was_sized = sized(pool), was_well_formed = was_sized && well_formed(pool);
-    size_t bytes = pool->len * sizeof *pool->words;
-    uint32_t expected = !was_sized ? 1 : was_well_formed ? 0 : 3;
-    remember(pool);
+/* Every form of collect on the same words: the same words and cells kept, and the same visits where there are some. */
+static void forms_of_collect(Input *input) {
+    static uint8_t start[ROOM], collected[ROOM];
+    size_t bytes = blocks[WORDS].bytes;
+    Results first, other;
+    memcpy(start, words_of(LIBRARY), bytes);
+    uint32_t answer = make_plainly(COLLECT, &first), kept = answer == 0 ? first.number[1] : 0, was_enough = 0;
+    DEMAND(answer != 0 || first.number[3] == 3 * kept);
+    memcpy(collected, words_of(LIBRARY), bytes);
 
-    DEMAND(cellpool_collect(pool->words, pool->len, &kept, &visits) == expected);
-    if (expected != 0) DEMAND(unchanged(pool) && kept == UNSET && visits == UNSET);
-    if (expected == 0) DEMAND(visits == 3 * kept && kept <= pool->n && sized(pool) && well_formed(pool));
-    memcpy(collected, pool->words, bytes);
-
-    memcpy(pool->words, before, bytes);
-    uint32_t was_collections = collections, was_total = total;
-    DEMAND(cellpool_collect_tally(pool->words, pool->len, &collections, &total, &other, &more) == expected);
-    DEMAND(memcmp(collected, pool->words, bytes) == 0 && other == kept && more == visits);
-    if (expected != 0) {
-        DEMAND(collections == was_collections && total == was_total);
-    } else {
-        DEMAND(collections == (was_collections == UINT32_MAX ? UINT32_MAX : was_collections + 1));
-        DEMAND(total == (visits > UINT32_MAX - was_total ? UINT32_MAX : was_total + visits));
-    }
-
-    memcpy(pool->words, before, bytes);
-    other = more = UNSET;
-    uint32_t recursive = expected == 1 ? 1 : pool->n > 64 ? 11 : expected;
-    DEMAND(cellpool_collect_recursive(pool->words, pool->len, &other, &more) == recursive);
-    if (recursive == 0) DEMAND(memcmp(collected, pool->words, bytes) == 0 && other == kept && more == visits);
-    if (recursive != 0) DEMAND(unchanged(pool) && other == UNSET && more == UNSET);
-
-    /* A stack that is enough stays enough when it is longer, and one of kept words is always enough. */
-    uint32_t was_enough = 0;
-    size_t lengths[] = {0, 1, byte_of(input) % 8u, pool->n, pool->n + 1};
+#define AGAIN(function)                           \
+    (memcpy(words_of(LIBRARY), start, bytes),     \
+     make_plainly(function, &other) == answer &&  \
+         memcmp(words_of(LIBRARY), collected, bytes) == 0 && other.number[1] == first.number[1])
+    DEMAND(AGAIN(TALLY) && other.number[3] == first.number[3]);
+    if (cells <= CELLPOOL_MOST_RECURSIVE) DEMAND(AGAIN(RECURSIVE) && other.number[3] == first.number[3]);
+    /* A stack that is enough stays enough when it is longer, and one of as many words as cells are kept is always. */
+    size_t lengths[] = {0, 1, input->size % (kept / 2 + 1), kept, cells + (size_t)1};
     for (size_t i = 0; i < sizeof lengths / sizeof *lengths; i++) {
-        uint32_t *stack = lend(STACK, lengths[i] * sizeof *stack, at_end), enough = UNSET;
-        memset(stack, 0x5A, lengths[i] * sizeof *stack);
-        memcpy(pool->words, before, bytes);
-        other = UNSET;
-        DEMAND(cellpool_collect_stack(pool->words, pool->len, stack, lengths[i], &other, &enough) == expected);
-        DEMAND(memcmp(collected, pool->words, bytes) == 0 && other == kept);
-        for (size_t k = 0; k < lengths[i]; k++) DEMAND(stack[k] == (expected == 0 ? 0 : 0x5A5A5A5Au));
-        if (expected != 0) {
-            DEMAND(enough == UNSET);
-        } else {
-            DEMAND(enough <= 1 && (lengths[i] < kept || enough == 1));
-            if (i > 0 && lengths[i] >= lengths[i - 1]) DEMAND(enough >= was_enough);
-            was_enough = enough;
-        }
+        lend_filled(STACK, lengths[i], sizeof(uint32_t), 0x5A);
+        DEMAND(AGAIN(STACKED));
+        if (answer != 0) continue;
+        DEMAND(other.number[3] <= 1 && (lengths[i] < kept || other.number[3] == 1));
+        if (i > 0 && lengths[i] >= lengths[i - 1]) DEMAND(other.number[3] >= was_enough);
+        was_enough = other.number[3];
     }
-    memcpy(pool->words, before, bytes);
+    memcpy(words_of(LIBRARY), start, bytes);
 }
 
-static void try_save(Input *input, Pool *pool, int at_end) {
-    uint32_t n = pool->n;
-    size_t scratch_len = 2 * (size_t)n + byte_of(input) % 3u;
-    if (byte_of(input) % 4 == 0 && scratch_len > 2) scratch_len -= 2;
-    size_t room = CELLPOOL_IMAGE_BYTES(n), length = UNSET, again = UNSET, rest = UNSET;
-    uint32_t *scratch = lend(STACK, scratch_len * sizeof *scratch, at_end);
-    uint8_t *out = lend(OUT, room, at_end);
-    int was_sized = sized(pool), was_well_formed = was_sized && well_formed(pool);
-    uint32_t expected = !was_sized ? 1 : scratch_len < 2 * (size_t)n ? 10 : was_well_formed ? 0 : 3;
-    remember(pool);
-    memset(scratch, 0x5A, scratch_len * sizeof *scratch);
-    memset(out, 0x77, room);
-    DEMAND(cellpool_save(pool->words, pool->len, scratch, scratch_len, out, room, &length) == expected);
-    DEMAND(unchanged(pool));
-    for (size_t i = 0; i < scratch_len; i++) DEMAND(scratch[i] == (expected == 0 ? 0 : 0x5A5A5A5Au));
-    for (size_t i = expected == 0 ? length : 0; i < room; i++) DEMAND(out[i] == 0x77);
-    if (expected != 0) {
-        DEMAND(length == UNSET);
-        return;
-    }
-    DEMAND(length >= 17 && length <= room);
-    /* One byte less is refused, and the scratch ends 0. */
-    uint8_t *image = lend(IMAGE, length, at_end);
-    memset(image, 0x33, length);
-    memset(scratch, 0x5A, scratch_len * sizeof *scratch);
-    DEMAND(cellpool_save(pool->words, pool->len, scratch, scratch_len, image, length - 1, &again) == 10);
-    DEMAND(again == UNSET);
-    for (size_t i = 0; i < length; i++) DEMAND(image[i] == 0x33);
-    for (size_t i = 0; i < scratch_len; i++) DEMAND(scratch[i] == 0);
-    /* The image loads, and saves as the same bytes. */
-    memcpy(image, out, length);
-    DEMAND(cellpool_check_image(image, length, n) == 0);
-    Pool other = {lend(OTHER, pool->len * sizeof *pool->words, at_end), pool->len, n};
-    memset(other.words, 0x44, other.len * sizeof *other.words);
-    DEMAND(cellpool_load(other.words, other.len, image, length, &rest) == 0 && rest == length);
-    DEMAND(sized(&other) && well_formed(&other));
-    DEMAND(cellpool_save(other.words, other.len, scratch, scratch_len, out, length, &again) == 0);
-    DEMAND(again == length && memcmp(out, image, length) == 0);
-    /* Every cut of it is refused. */
-    size_t cut = number_of(input, 60) % length;
-    DEMAND(cellpool_check_image(image, cut, n) == 6);
-}
-
-static void try_load(Input *input, int at_end) {
-    uint8_t kind = byte_of(input);
-    uint32_t n = kind < 0xF0 ? 1 + kind % 20u : kind < 0xF8 ? kind % 3u : 3997u + kind % 8u;
-    size_t length = input->size > input->at ? input->size - input->at : 0, rest = UNSET;
-    if (length > ROOM) length = ROOM;
-    uint8_t *image = lend(IMAGE, length, at_end);
-    memcpy(image, input->data + input->size - length, length);
-    Pool pool = {lend(WORDS, CELLPOOL_WORDS(n) * sizeof(uint32_t), at_end), CELLPOOL_WORDS(n), n};
-    memset(pool.words, 0x66, pool.len * sizeof *pool.words);
-    remember(&pool);
-    uint32_t checked = cellpool_check_image(image, length, n);
-    uint32_t answer = cellpool_load(pool.words, pool.len, image, length, &rest);
-    DEMAND(answer == checked);
-    DEMAND(answer == 0 || answer == 1 || (answer >= 6 && answer <= 9));
-    DEMAND((answer == 1) == (n < 1 || n > 4000));
-    if (answer != 0) {
-        DEMAND(rest == length && unchanged(&pool));
-        return;
-    }
-    DEMAND(rest <= length && rest >= 17 && sized(&pool) && well_formed(&pool));
-    /* The bytes behind the image do not matter. */
-    DEMAND(cellpool_check_image(image, rest, n) == 0);
-    DEMAND(cellpool_check_image(image, rest - 1, n) == 6);
-    Input more = {(const uint8_t *)"", 0, 0};
-    try_collect(&more, &pool, at_end);
-    try_save(&more, &pool, at_end);
+/* An image that was saved fits its bytes and no fewer; it loads, and saves as the same bytes; every cut is refused. */
+static void saved_and_loaded(Input *input) {
+    Results first, other;
+    uint8_t *out = lend_filled(OUT, CELLPOOL_IMAGE_BYTES((size_t)cells), 1, 0x77);
+    lend_filled(STACK, 2 * (size_t)cells, sizeof(uint32_t), 0x5A);
+    if (make_plainly(SAVE, &first) != 0) return;
+    size_t bytes = first.size[1];
+    memcpy(lend(IMAGE, bytes), out, bytes);
+    lend_filled(OUT, bytes - 1, 1, 0x77);
+    DEMAND(make_plainly(SAVE, NULL) == 10);
+    lend_filled(WORDS, CELLPOOL_WORDS((size_t)cells), sizeof(uint32_t), 0x44);
+    DEMAND(make_plainly(LOAD, &other) == 0 && other.size[1] == bytes);
+    out = lend_filled(OUT, bytes, 1, 0x77);
+    DEMAND(make_plainly(SAVE, &other) == 0 && other.size[1] == bytes);
+    DEMAND(memcmp(out, blocks[IMAGE].at[LIBRARY], bytes) == 0);
+    Call check = {CHECK, 0, cells, 0, 0};
+    DEMAND(make(check, NULL) == 0);
+    size_t cut = number_of(input, 60) % bytes;
+    memcpy(lend(IMAGE, cut), out, cut);
+    DEMAND(make(check, NULL) == 6);
 }
 
 int LLVMFuzzerTestOneInput(const uint8_t *data, size_t size) {
     Input input = {data, size, 0};
     uint8_t mode = byte_of(&input);
-    int at_end = mode & 1;
-    if (size == 0) return 0;
-    if (mode % 4 >= 2) {
-        try_load(&input, at_end);
-        return 0;
-    }
-    Pool pool = pool_of(&input, WORDS, at_end);
-    if (mode & 4) {
-        uint32_t cells = UNSET;
-        remember(&pool);
-        uint32_t answer = cellpool_fresh(pool.words, pool.len, &cells);
-        if (answer == 0) DEMAND(cells == pool.n && sized(&pool) && well_formed(&pool));
-        if (answer != 0) DEMAND(answer == 1 && cells == UNSET && unchanged(&pool));
-    }
-    for (int i = 0; i < 24; i++) try_call(&input, &pool);
-    try_collect(&input, &pool, at_end);
-    try_save(&input, &pool, at_end);
-    uint32_t kept = number_of(&input, pool.n), percent = UNSET;
-    if (cellpool_occupancy(kept, pool.n, &percent) == 0) {
-        DEMAND(kept <= pool.n && percent == 100 * kept / pool.n);
-    } else {
-        DEMAND(percent == UNSET && (pool.n < 1 || pool.n > 4000 || kept > pool.n));
-    }
+    at_end = mode & 1;
+    saved_bytes = 0;
+    lend_pool(&input, mode & 2);
+    for (int i = 0; i < 24 && (i == 0 || input.at < input.size); i++) any_call(&input);
+    forms_of_collect(&input);
+    saved_and_loaded(&input);
     return 0;
 }
 
@@ -355,9 +373,9 @@ static uint32_t random_word(void) {
     return (uint32_t)((state * UINT64_C(0x2545F4914F6CDD1D)) >> 32);
 }
 
-/* Random bytes: any, or small ones, which make more well-formed pools and images. */
+/* Random bytes: any, or small ones, which make more well-formed pools and images. The calls are any. */
 static size_t random_input(uint8_t *data, size_t room) {
-    size_t size = random_word() % (random_word() % 8 == 0 ? room : 400);
+    size_t size = random_word() % (random_word() % 8 == 0 ? room : 600);
     uint32_t kind = random_word() % 4;
     for (size_t i = 0; i < size; i++) {
         uint32_t word = random_word();

@@ -42,6 +42,7 @@ pub const SMALL_POOLS: Comparison = Comparison { stream: 11, rounds: 0, run: sma
 pub const LARGEST_POOL: Comparison = Comparison { stream: 12, rounds: 0, run: largest_pool_filled };
 pub const SIZES: Comparison = Comparison { stream: 13, rounds: 0, run: every_size };
 pub const STACK_LENGTHS: Comparison = Comparison { stream: 14, rounds: 0, run: every_stack_length };
+pub const LENT_LENGTHS: Comparison = Comparison { stream: 15, rounds: 0, run: every_lent_length };
 
 fn equal<T: PartialEq + Debug>(what: impl Fn() -> String, found: T, expected: T) -> Outcome {
     if found == expected {
@@ -308,13 +309,17 @@ fn stack_collect(pool: &dyn Interface, words: &[u32], length: usize, random: &mu
     equal_words(what, &found_stack, &expected_stack)
 }
 
-/// A chain with equal links of every length, collected with one stack word less than it needs, with as many, with one more,
-/// and with any number: so every length of a stack is tried where it is just too short and where it is just enough. What
-/// is expected is known without the model.
+/// A chain with equal links of every length, collected by reversal, and with one stack word less than it needs, with as many,
+/// with one more, and with any number: so every length of a stack is tried where it is just too short and where it is just
+/// enough. What is expected is known without the model.
 fn every_stack_length(pool: &dyn Interface, random: &mut Random, _: usize) -> Outcome {
     for used in 1..=MOST_CELLS {
         let n = if random.once_in(2) { used } else { random.between(used, MOST_CELLS) };
         let words = generate::equal_chain(random, used, n);
+        let mut found = words.clone();
+        let what = || format!("collect of {used} cells of {n}");
+        equal(what, pool.collect(&mut found), Ok((used as u32, 3 * used as u32)))?;
+        equal_words(what, &found, &words)?;
         let any = random.below(n + 4);
         for length in [used.saturating_sub(2), used - 1, used, any] {
             let (mut found, mut stack) = (words.clone(), vec![random.word() | 1; length]);
@@ -376,18 +381,15 @@ fn every_save(pool: &dyn Interface, words: &[u32], random: &mut Random) -> Outco
     some_saves(pool, words, random)
 }
 
-/// Save with enough scratch and output and one element less, with any, and with far more; then load what was saved.
+/// Save with enough scratch and output, with any, and with far more; then load what was saved, and more bytes.
 fn some_saves(pool: &dyn Interface, words: &[u32], random: &mut Random) -> Outcome {
+    exact_saves(pool, words, random)?;
     let needed = 2 * (words.len().saturating_sub(HEADER) / CELL);
     let mut longer = image(words, random);
     let bytes = longer.len();
-    for (scratch, out) in [
-        (needed, bytes),
-        (needed.saturating_sub(1), bytes),
-        (needed, bytes - 1),
-        (random.below(needed + 10), bytes + random.below(10)),
-        (needed + random.below(10), random.below(bytes + 10)),
-    ] {
+    for (scratch, out) in
+        [(random.below(needed + 10), bytes + random.below(10)), (needed + random.below(10), random.below(bytes + 10))]
+    {
         save(pool, words, scratch, out, random)?;
     }
     if random.once_in(30) {
@@ -399,6 +401,16 @@ fn some_saves(pool: &dyn Interface, words: &[u32], random: &mut Random) -> Outco
     longer.extend((0..behind).map(|_| random.word() as u8));
     load(pool, words, &longer)?;
     check(pool, &longer, needed as u32 / 2)
+}
+
+/// Save with just enough scratch and output, and with one element less; then load what was saved.
+fn exact_saves(pool: &dyn Interface, words: &[u32], random: &mut Random) -> Outcome {
+    let needed = 2 * (words.len().saturating_sub(HEADER) / CELL);
+    let image = image(words, random);
+    save(pool, words, needed, image.len(), random)?;
+    save(pool, words, needed.saturating_sub(1), image.len(), random)?;
+    save(pool, words, needed, image.len() - 1, random)?;
+    load(pool, words, &image)
 }
 
 fn save(pool: &dyn Interface, words: &[u32], scratch: usize, out: usize, random: &mut Random) -> Outcome {
@@ -503,7 +515,27 @@ fn every_function(pool: &dyn Interface, words: &[u32], random: &mut Random) -> O
     for length in [needed.saturating_sub(1), needed] {
         stack_collect(pool, words, length, random)?;
     }
-    some_saves(pool, words, random)
+    exact_saves(pool, words, random)
+}
+
+/// A small pool with a stack, a scratch, an output and bytes of every length up to beyond what the largest pool needs.
+fn every_lent_length(pool: &dyn Interface, random: &mut Random, _: usize) -> Outcome {
+    let words = Shape::EqualChain.words(3, random);
+    let mut image = image(&words, random);
+    let (bytes, longest) = (image.len(), 5 * (1 + REGISTERS + 3 * MOST_CELLS) + 10);
+    image.resize(longest, random.word() as u8);
+    for length in 0..=2 * MOST_CELLS + 10 {
+        stack_collect(pool, &words, length, random)?;
+        save(pool, &words, length, bytes, random)?;
+    }
+    for length in 0..=longest {
+        load(pool, &words, &image[..length])?;
+        check(pool, &image[..length], 3)?;
+        if length <= 34 + 9 * MOST_CELLS + 10 {
+            save(pool, &words, 6, length, random)?;
+        }
+    }
+    Ok(())
 }
 
 /// Every function on a pool of every size, up to beyond the largest. The last cell is read by calls, taken by `new`, found
@@ -522,6 +554,9 @@ fn every_size(pool: &dyn Interface, random: &mut Random, _: usize) -> Outcome {
         if n == 0 {
             continue;
         }
+        let mut changed = words.clone();
+        changed[0] = random.pick(&[last - 1, last + 1]);
+        one_call(pool, &mut changed, Call::Clear { r: 0 })?;
         // At fault is one link of the last cell, or its state alone, where nothing leads to it.
         let cell = cell_at(last);
         for link in [cell + 1, cell + 2] {
@@ -566,7 +601,12 @@ fn lengths(pool: &dyn Interface, random: &mut Random, _: usize) -> Outcome {
 /// The percentage of kept cells.
 fn percentages(pool: &dyn Interface, random: &mut Random, _: usize) -> Outcome {
     for n in (0..=MOST_CELLS as u32 + 10).chain([1 << 16, (1 << 16) + 100, u32::MAX - 1, u32::MAX]) {
-        let every = if !(130..=3_990).contains(&n) { n.min(200) } else { 0 };
+        let every = match n {
+            0..130 => n,
+            4_000 => n,
+            3_990..4_010 => 200,
+            _ => 0,
+        };
         let ends = [0, n / 2, n.wrapping_sub(1), n, n.wrapping_add(1), n.wrapping_add(1 << 16), u32::MAX];
         let any = [(); 3].map(|()| random.below(n as usize + 1) as u32);
         let more = [(); 3].map(|()| random.word());

@@ -2,11 +2,12 @@
 //! stay, and all implementations must answer and leave the same.
 
 use crate::{Interface, Tally};
-use std::cell::Cell;
+use std::cell::{Cell, RefCell};
 
 pub struct Guarded {
     list: Vec<(&'static str, Box<dyn Interface>)>,
     odd: Cell<Option<&'static str>>,
+    spare: RefCell<Vec<Blocks>>,
 }
 
 const MARGIN: usize = 64;
@@ -21,12 +22,15 @@ struct Block<E> {
 }
 
 impl<E: Copy + PartialEq> Block<E> {
-    fn new(lent: &[E], guard: E) -> Block<E> {
-        let mut all = Vec::with_capacity(lent.len() + 2 * MARGIN);
-        all.resize(MARGIN, guard);
-        all.extend_from_slice(lent);
-        all.resize(lent.len() + 2 * MARGIN, guard);
-        Block { all, guard }
+    fn new(guard: E) -> Block<E> {
+        Block { all: Vec::new(), guard }
+    }
+
+    fn fill(&mut self, content: &[E]) {
+        self.all.clear();
+        self.all.resize(MARGIN, self.guard);
+        self.all.extend_from_slice(content);
+        self.all.resize(content.len() + 2 * MARGIN, self.guard);
     }
 
     fn lent(&mut self) -> &mut [E] {
@@ -34,8 +38,8 @@ impl<E: Copy + PartialEq> Block<E> {
         &mut self.all[MARGIN..end]
     }
 
-    /// Give the slice back to its owner.
-    fn give_back(mut self, name: &str, owner: &mut [E]) {
+    /// Give the content back to its owner.
+    fn give_back(&mut self, name: &str, owner: &mut [E]) {
         let end = self.all.len() - MARGIN;
         let kept = self.all[..MARGIN].iter().chain(&self.all[end..]).all(|&element| element == self.guard);
         assert!(kept, "{name}: a word outside the lent slice was changed");
@@ -43,9 +47,12 @@ impl<E: Copy + PartialEq> Block<E> {
     }
 }
 
+/// What a call may be lent: the words, a stack or a scratch, and an output.
+type Blocks = (Block<u32>, Block<u32>, Block<u8>);
+
 impl Guarded {
     pub fn new(list: Vec<(&'static str, Box<dyn Interface>)>) -> Guarded {
-        Guarded { list, odd: Cell::new(None) }
+        Guarded { list, odd: Cell::new(None), spare: RefCell::default() }
     }
 
     /// The first implementation that did not do as the one before it, if there was one.
@@ -61,22 +68,30 @@ impl Guarded {
         bytes: &mut [u8],
         call: impl Fn(&dyn Interface, &mut [u32], &mut [u32], &mut [u8]) -> T,
     ) -> T {
-        let mut outcome = None;
+        let mut spare = self.spare.borrow_mut();
+        let mut outcome: Option<(&str, T, Blocks)> = None;
         for (name, pool) in &self.list {
-            let mut blocks =
-                (Block::new(words, GUARD_WORD), Block::new(more, GUARD_WORD), Block::new(bytes, GUARD_BYTE));
+            let new = || (Block::new(GUARD_WORD), Block::new(GUARD_WORD), Block::new(GUARD_BYTE));
+            let mut blocks = spare.pop().unwrap_or_else(new);
+            blocks.0.fill(words);
+            blocks.1.fill(more);
+            blocks.2.fill(bytes);
             let answer = call(pool.as_ref(), blocks.0.lent(), blocks.1.lent(), blocks.2.lent());
-            let differs = outcome.as_ref().is_some_and(|(_, before, left)| (before, left) != (&answer, &blocks));
-            outcome = Some((name, answer, blocks));
-            if differs {
-                self.odd.set(self.odd.get().or(Some(name)));
-                break;
+            let before = outcome.replace((name, answer, blocks));
+            if let (Some(before), Some(now)) = (before, &outcome) {
+                let differs = (&before.1, &before.2) != (&now.1, &now.2);
+                spare.push(before.2);
+                if differs {
+                    self.odd.set(self.odd.get().or(Some(name)));
+                    break;
+                }
             }
         }
-        let (name, answer, blocks) = outcome.expect("there is an implementation");
+        let (name, answer, mut blocks) = outcome.expect("there is an implementation");
         blocks.0.give_back(name, words);
         blocks.1.give_back(name, more);
         blocks.2.give_back(name, bytes);
+        spare.push(blocks);
         answer
     }
 

@@ -86,3 +86,8 @@ fn every_function_at_every_size() {
 fn every_stack_length_just_too_short_and_just_enough() {
     on_all(checks::STACK_LENGTHS);
 }
+
+#[test]
+fn every_length_of_a_lent_block() {
+    on_all(checks::LENT_LENGTHS);
+}

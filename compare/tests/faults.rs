@@ -1,5 +1,7 @@
 //! The comparisons find faults: each fault below is put into a correct implementation and must be noticed.
 
+mod common;
+
 use cellpool_compare::baseline::PlainRust;
 use cellpool_compare::checks::{self, Comparison};
 use cellpool_compare::random::Random;
@@ -31,6 +33,7 @@ enum Fault {
     SetLeftChecksNilFirst,
     SetValueCutsValue,
     ClearDoesNothing,
+    ClearIgnoresWordZeroAtOneSize,
     CopyReadsItsTarget,
     SameDistinguishesNils,
     ValueOfNilIsZero,
@@ -56,14 +59,17 @@ enum Fault {
     SaveClearsScratchTooEarly,
     SaveNeedsOneScratchWordMore,
     SaveScratchLengthCut,
+    SaveRefusesOneScratchLength,
     SaveWritesWhereRefused,
     SaveNeedsOneByteMore,
     SaveOutputLengthCut,
+    SaveRefusesOneOutputLength,
     SaveTouchesFarOutput,
     LoadConfusesCutAndLarge,
     LoadAnswersRestOfRefused,
     LoadCutsRest,
     LoadLengthCut,
+    LoadRefusesOneLength,
     LoadDropsBytesBehind,
     LoadLeavesHead,
     LoadChecksLinksBeforeCells,
@@ -73,6 +79,7 @@ enum Fault {
     CheckLimitOneLess,
     CheckAcceptsInWindow,
     CheckLengthCut,
+    CheckRefusesOneLength,
     OccupancyRoundsUp,
     OccupancyWrongInWindow,
     OccupancyCutsProduct,
@@ -84,7 +91,7 @@ use Fault::*;
 
 /// The faults that each comparison finds. Those of the first one show in the answers to a list of calls, without a look at
 /// the words, and no others do.
-const FOUND_BY: [(Comparison, &[Fault]); 9] = [
+const FOUND_BY: [(Comparison, &[Fault]); 10] = [
     (
         checks::REFERENCE,
         &[
@@ -137,6 +144,10 @@ const FOUND_BY: [(Comparison, &[Fault]); 9] = [
         ],
     ),
     (checks::STACK_LENGTHS, &[StackEnoughAtOneLength, StackTooShortAtOneLength]),
+    (
+        checks::LENT_LENGTHS,
+        &[SaveRefusesOneScratchLength, SaveRefusesOneOutputLength, LoadRefusesOneLength, CheckRefusesOneLength],
+    ),
     (
         checks::SAVES,
         &[
@@ -204,25 +215,26 @@ const FOUND_BY: [(Comparison, &[Fault]); 9] = [
         checks::SIZES,
         &[
             CollectIgnoresHighStates,
+            ClearIgnoresWordZeroAtOneSize,
             ValueCutInOneCell,
             LoadRefusesFullImage,
-            At("fresh", 531),
-            At("copy", 531),
-            At("clear", 531),
-            At("new", 531),
-            At("left", 531),
-            At("right", 531),
-            At("setleft", 531),
-            At("setright", 531),
-            At("setvalue", 531),
-            At("value", 531),
-            At("same", 531),
-            At("collect", 531),
-            At("tally", 531),
-            At("stack", 531),
-            At("save", 531),
-            At("load", 531),
-            At("check", 531),
+            At("fresh", 301),
+            At("copy", 301),
+            At("clear", 301),
+            At("new", 301),
+            At("left", 301),
+            At("right", 301),
+            At("setleft", 301),
+            At("setright", 301),
+            At("setvalue", 301),
+            At("value", 301),
+            At("same", 301),
+            At("collect", 301),
+            At("tally", 301),
+            At("stack", 301),
+            At("save", 301),
+            At("load", 301),
+            At("check", 301),
         ],
     ),
 ];
@@ -280,10 +292,14 @@ impl Interface for Faulty {
 
     fn clear(&self, words: &mut [u32], r: u32) -> Result<(), u32> {
         self.refuses("clear", words)?;
-        if self.0 == ClearDoesNothing {
-            return PlainRust.clear(&mut words.to_vec(), r);
+        match self.0 {
+            ClearDoesNothing => PlainRust.clear(&mut words.to_vec(), r),
+            ClearIgnoresWordZeroAtOneSize if cells(words) == 301 => {
+                words[0] = 301;
+                PlainRust.clear(words, r)
+            }
+            _ => PlainRust.clear(words, r),
         }
-        PlainRust.clear(words, r)
     }
 
     fn new_cell(&self, words: &mut [u32], r: u32, a: u32, b: u32, v: u32) -> Result<u32, u32> {
@@ -367,7 +383,7 @@ impl Interface for Faulty {
         self.refuses("value", words)?;
         match PlainRust.value(words, a) {
             Err(4) if self.0 == ValueOfNilIsZero => Ok(0),
-            Ok(value) if self.0 == ValueCutInOneCell && register(words, a) == 999 => Ok(value & 0xFFFF),
+            Ok(value) if self.0 == ValueCutInOneCell && register(words, a) == 399 => Ok(value & 0xFFFF),
             answer => answer,
         }
     }
@@ -387,7 +403,7 @@ impl Interface for Faulty {
         match (self.0, PlainRust.collect(&mut before.clone())) {
             (CollectForgetsLastRegister, Ok(_)) => words[17] = 0,
             (CollectIgnoresLastLeft, Err(3)) => words[cell_at(n) + 1] = 0,
-            (CollectIgnoresHighStates, Err(3)) if n > 1_000 => words[cell_at(n)] = FREE,
+            (CollectIgnoresHighStates, Err(3)) if n > 400 => words[cell_at(n)] = FREE,
             _ => {}
         }
         let answer = PlainRust.collect(words);
@@ -447,7 +463,7 @@ impl Interface for Faulty {
         stack.fill(0);
         match self.0 {
             StackEnoughAtOneLength if length == 1_000 => return Ok((kept, 1)),
-            StackTooShortAtOneLength if length == 2_345 => return Ok((kept, 0)),
+            StackTooShortAtOneLength if length == 1_234 => return Ok((kept, 0)),
             StackNotCleared if length > 2 => stack[length - 1] = 1,
             StackLeavesFarWord if length > 6_000 => stack[6_000] = lent[6_000],
             StackFallbackSwapsLinks if enough == 0 => {
@@ -487,7 +503,9 @@ impl Interface for Faulty {
                 let shorter = out.len() - 1;
                 PlainRust.save(words, scratch, &mut out[..shorter])
             }
-            SaveNeedsOneScratchWordMore if scratch.len() == used => PlainRust.save(words, &mut [], out),
+            SaveNeedsOneScratchWordMore if lent.len() == used => PlainRust.save(words, &mut [], out),
+            SaveRefusesOneScratchLength if lent.len() == 3_001 => PlainRust.save(words, &mut [], out),
+            SaveRefusesOneOutputLength if out.len() == 12_345 => PlainRust.save(words, scratch, &mut []),
             _ => {
                 let (words_cut, bytes_cut) =
                     (self.cut(SaveScratchLengthCut, lent.len()), self.cut(SaveOutputLengthCut, out.len()));
@@ -527,7 +545,8 @@ impl Interface for Faulty {
                 (answer, rest)
             }
             (LoadChecksLinksBeforeCells, Err(9)) if bytes.len() > 1 && bytes[1] > bytes[0] => (Err(8), rest),
-            (LoadRefusesFullImage, Ok(())) if cells(words) >= 1_000 && words[1] == 0 => (Err(9), bytes.len()),
+            (LoadRefusesOneLength, Ok(())) if bytes.len() == 23_456 => (Err(6), bytes.len()),
+            (LoadRefusesFullImage, Ok(())) if cells(words) >= 400 && words[1] == 0 => (Err(9), bytes.len()),
             (LoadAcceptsOneCellMore, Err(9)) if PlainRust.check_image(bytes, cells(words) + 1).is_ok() => {
                 (Ok(()), rest)
             }
@@ -540,6 +559,7 @@ impl Interface for Faulty {
             At("check", size) if n as usize == size => Err(3),
             CheckIgnoresLimit if n == 4_001 => PlainRust.check_image(bytes, 4_000),
             CheckLimitOneLess if n == 4_000 => Err(1),
+            CheckRefusesOneLength if bytes.len() == 23_456 => Err(6),
             CheckAcceptsInWindow if (1_000..2_000).contains(&n) => Ok(()),
             _ => PlainRust.check_image(&bytes[..self.cut(CheckLengthCut, bytes.len())], n),
         }
@@ -582,5 +602,85 @@ fn the_reference_model_finds_the_faults_that_answers_show() {
     for fault in FOUND_BY.iter().flat_map(|(_, faults)| *faults) {
         let found = checks::against_reference(&Faulty(*fault), &mut Random::new(42), 300).is_err();
         assert_eq!(found, shown.contains(fault), "{fault:?}");
+    }
+}
+
+/// Faults put into the plain C version as a change of its text, each of which a program in C must find: those of lengths and of
+/// the memory that is touched, which no comparison of slices shows, and some that show the fuzz target at work.
+#[cfg(all(feature = "archive", c_baseline))]
+mod in_c {
+    use crate::common::c::{cc, compile, file, made, output};
+    use cellpool_compare::random::seed;
+
+    /// What finds the fault, the text, and what stands in its place.
+    const CHANGES: [(&str, &str, &str); 33] = [
+        // Lengths cut to 32 or 16 bits.
+        ("lengths", "cells_of(size_t len)", "cells_of(uint32_t len)"),
+        ("lengths", "size_of(const uint32_t *words, size_t len)", "size_of(const uint32_t *words, uint32_t len)"),
+        ("lengths", "size_t n = (len - HEADER) / CELL;", "uint16_t n = (uint16_t)((len - HEADER) / CELL);"),
+        ("lengths", "memset(stack, 0, stack_len *", "memset(stack, 0, (uint32_t)stack_len *"),
+        ("stack", "height == stack_len", "height == (uint32_t)stack_len"),
+        ("lengths", "scratch_len < 2 *", "(uint32_t)scratch_len < 2 *"),
+        ("lengths", "memset(scratch, 0, scratch_len *", "memset(scratch, 0, (uint32_t)scratch_len *"),
+        ("lengths", "size <= out_len", "size <= (uint32_t)out_len"),
+        ("lengths", "validate(const uint8_t *bytes, size_t len,", "validate(const uint8_t *bytes, uint32_t len,"),
+        ("lengths", "return validate(bytes, bytes_len,", "return validate(bytes, (uint32_t)bytes_len,"),
+        ("lengths", "*rest = bytes_len;", "*rest = (uint32_t)bytes_len;"),
+        // Words and bytes touched that no answer depends on.
+        ("lengths", "return n != 0 && words[0] == n", "return words[0] == n"),
+        ("lengths", "if (size <= out_len) {", "if (size <= out_len) {\nout[out_len - 1] |= 0;"),
+        ("lengths", "*rest = bytes_len;", "*rest = bytes_len;\n(void)*(volatile const uint8_t *)bytes;"),
+        // Results of refused calls touched.
+        ("results", "uint32_t *cells) {", "uint32_t *cells) {\n*cells += 0;"),
+        ("results", "uint32_t v, uint32_t *visits) {", "uint32_t v, uint32_t *visits) {\n*visits += 0;"),
+        ("results", "uint32_t *value) {", "uint32_t *value) {\n*value += 0;"),
+        ("results", "uint32_t *same) {", "uint32_t *same) {\n*same += 0;"),
+        (
+            "results",
+            "(collect)(uint32_t *words, size_t len, uint32_t *kept, uint32_t *visits) {",
+            "(collect)(uint32_t *words, size_t len, uint32_t *kept, uint32_t *visits) {\n*visits += 0;",
+        ),
+        ("results", "uint32_t answer = NAME(collect)", "*total_visits += 0;\nuint32_t answer = NAME(collect)"),
+        ("results", "uint32_t *enough) {", "uint32_t *enough) {\n*enough += 0;"),
+        ("results", "if (n > CELLPOOL_MOST_RECURSIVE)", "*kept = 0;\nif (n > CELLPOOL_MOST_RECURSIVE)"),
+        ("results", "if (size <= out_len) {", "*bytes = size;\nif (size <= out_len) {"),
+        ("results", "uint32_t *percent) {", "uint32_t *percent) {\n*percent += 0;"),
+        // Found by the fuzz target: words outside the blocks, near and far, a result that is too wide, and wrong answers.
+        ("fuzz", "words[0] == n ? n : 0", "words[0] == n && words[len] != 0x12345678 ? n : 0"),
+        ("fuzz", "words[1] = next;", "words[1] = next;\nwords[HEADER + CELL * n + 5000] |= 0;"),
+        ("fuzz", "words[1] = next;", "words[1] = next;\nwords[-3000] |= 0;"),
+        ("fuzz", "memset(scratch, 0, 2 * (size_t)n *", "memset(scratch, 0, (2 * (size_t)n + 1) *"),
+        ("fuzz", "*same = REGISTER(a)", "*(uint64_t *)same = REGISTER(a)"),
+        ("fuzz", "words[1] = next;", "words[1] = n == 37 ? 0 : next;"),
+        ("fuzz", "(height == stack_len) return 0;", "(height == stack_len) return stack_len == 5;"),
+        ("fuzz", "byte > 0x0F", "byte > 0x1F"),
+        ("fuzz", "link > k ?", "link > k + 1 ?"),
+    ];
+
+    #[test]
+    fn every_change_is_found() {
+        let object = |name: &str, options: &[&str]| {
+            let options = [options, &["-std=c99", "-O1", "-c"]].concat();
+            compile(&format!("{}.o", name.replace('/', "_")), &cc(), &options, &[file(&format!("{name}.c"))])
+        };
+        let plain = object("baseline/baseline", &[]);
+        let lent = object("lent/lent", &[]);
+        let fuzz = object("fuzz/fuzz", &["-DSTANDALONE"]);
+        let text = std::fs::read_to_string(file("baseline/baseline.c")).expect("the plain C version is there");
+        for (place, (program, old, new)) in CHANGES.into_iter().enumerate() {
+            assert_eq!(text.matches(old).count(), 1, "{old}");
+            let source = made("changed.c");
+            std::fs::write(&source, text.replace(old, new)).expect("the source is written");
+            let (objects, arguments) = match program {
+                "fuzz" => (vec![source, plain.clone(), fuzz.clone()], vec!["200000".into(), seed().to_string()]),
+                _ => (vec![source, lent.clone()], vec![program.to_string()]),
+            };
+            let changed = compile("changed", &cc(), &["-std=c99", "-O0", "-DBASELINE_AS_CELLPOOL"], &objects);
+            let arguments: Vec<&str> = arguments.iter().map(String::as_str).collect();
+            let status = output(&changed, &arguments).status;
+            // The fuzz target stops by a signal, the other program counts.
+            let found = if program == "fuzz" { status.code().is_none() } else { status.code() == Some(1) };
+            assert!(found, "change {place} is not found by {program}: {new}");
+        }
     }
 }

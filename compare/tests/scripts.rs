@@ -221,6 +221,13 @@ mod programs {
     }
 
     #[test]
+    fn on_pools_of_every_size() {
+        let lines = (0..=4_003).map(|n| format!("f {n}\nn 0 1 1 {n}\nn 1 0 0 7\nv 0\nl 2 1\ns 0 2\ng\n"));
+        let script = lines.collect::<String>();
+        compare("sizes.txt", script.as_bytes(), &replies(&PlainRust, script.as_bytes()));
+    }
+
+    #[test]
     fn on_scripts_of_the_benchmark() {
         let mut random = random(3);
         for script in [generate::mixed_script, generate::new_script] {

@@ -1,4 +1,8 @@
-//! The implementations that every comparison runs on.
+//! The implementations that every comparison runs on, and programs in C.
+#![allow(dead_code)]
+
+#[cfg(all(feature = "archive", c_baseline))]
+pub mod c;
 
 use cellpool_compare::baseline::PlainRust;
 use cellpool_compare::Interface;

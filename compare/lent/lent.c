@@ -1,0 +1,286 @@
+/*
+ * Which lent memory the functions of cellpool.h touch, and lengths of 2^32 elements and more.
+ *
+ *   lent lengths   Lengths that are right, or too short, without their upper bits. Of a block so long only the front may be
+ *                  touched, and an access behind it is noticed. It must come where all of the block is to end 0, and must
+ *                  not come elsewhere. Blocks of length 0 are not touched.
+ *   lent stack     A stack of 2^32 words that may all be touched: one piece of memory again and again.
+ *   lent results   A refused call neither reads nor writes the numbers lent for its results.
+ *
+ * Every difference is printed, and the program then ends with 1.
+ */
+#define _GNU_SOURCE
+#include "cellpool.h"
+
+#include <setjmp.h>
+#include <signal.h>
+#include <stdio.h>
+#include <stdlib.h>
+#include <string.h>
+#include <sys/mman.h>
+#include <unistd.h>
+
+/* The answer of a call that touches what it must not. */
+#define TOUCHED UINT32_MAX
+
+static sigjmp_buf back;
+static uint8_t *volatile touched;
+static volatile uint32_t answer;
+static int differences;
+
+static void on_fault(int number, siginfo_t *info, void *context) {
+    (void)number;
+    (void)context;
+    touched = info->si_addr;
+    siglongjmp(back, 1);
+}
+
+static void tell(int line, const char *what) {
+    differences++;
+    if (answer == TOUCHED) {
+        printf("lent.c:%d: %s touches %p\n", line, what, (void *)touched);
+    } else {
+        printf("lent.c:%d: %s, the answer is %u\n", line, what, answer);
+    }
+}
+
+#define DEMAND(condition) ((condition) ? (void)0 : tell(__LINE__, #condition))
+
+/* Make a call, and demand this answer. */
+#define EXPECT(expected, call)                           \
+    do {                                                 \
+        if (sigsetjmp(back, 1) == 0) {                   \
+            answer = (call);                             \
+        } else {                                         \
+            answer = TOUCHED;                            \
+        }                                                \
+        if (answer != (expected)) tell(__LINE__, #call); \
+    } while (0)
+
+/* Address space of which only the front may be touched; not reserved in memory. */
+static uint8_t *space(size_t bytes, size_t front) {
+    uint8_t *all = mmap(NULL, bytes, PROT_NONE, MAP_PRIVATE | MAP_ANONYMOUS | MAP_NORESERVE, -1, 0);
+    if (all == MAP_FAILED || (front > 0 && mprotect(all, front, PROT_READ | PROT_WRITE) != 0)) {
+        perror("address space");
+        exit(2);
+    }
+    return all;
+}
+
+/* A pool of two cells: register 0 holds cell 2, whose links both lead to cell 1. It needs one stack word. Register 1 is nil. */
+enum { N = 2, LEN = CELLPOOL_WORDS(N), SCRATCH = CELLPOOL_SCRATCH(N) };
+static uint32_t pool[LEN], scratch[SCRATCH], stack[1], numbers[4];
+static size_t sizes[1];
+
+static void set_up(void) {
+    static const uint32_t cells[] = {0, 0, 0, 7, 0, 1, 1, 8};
+    memset(pool, 0, sizeof pool);
+    pool[0] = N;
+    pool[2] = 2;
+    memcpy(pool + 18, cells, sizeof cells);
+}
+
+/* The same with one word changed. */
+static uint32_t *changed(size_t place, uint32_t content) {
+    set_up();
+    pool[place] = content;
+    return pool;
+}
+
+/* Its image. */
+static const uint8_t image[] = {2, 1, 0, 0, 0, 0, 0, 0, 0, 0, 0, 0, 0, 0, 0, 0, 0, 2, 2, 8, 0, 0, 7};
+enum { IMAGE = sizeof image };
+
+/* Blocks of which nothing may be touched, and blocks with a first page that may. An image has its place at the end of such
+   a page. */
+static uint32_t *none, *front;
+static uint8_t *no_bytes, *saved, *out;
+static size_t page, room;
+
+/* The last call touched what is behind the first page. */
+static int behind(void) { return touched >= (uint8_t *)front + page && touched < (uint8_t *)front + room; }
+
+/* The words have a wrong length, and are not touched. */
+static void refused_words(size_t len) {
+    EXPECT(1, cellpool_fresh(none, len, numbers));
+    EXPECT(1, cellpool_copy(none, len, 0, 0));
+    EXPECT(1, cellpool_clear(none, len, 0));
+    EXPECT(1, cellpool_new(none, len, 0, 0, 0, 7, numbers));
+    EXPECT(1, cellpool_left(none, len, 0, 0));
+    EXPECT(1, cellpool_right(none, len, 0, 0));
+    EXPECT(1, cellpool_setleft(none, len, 0, 0));
+    EXPECT(1, cellpool_setright(none, len, 0, 0));
+    EXPECT(1, cellpool_setvalue(none, len, 0, 7));
+    EXPECT(1, cellpool_value(none, len, 0, numbers));
+    EXPECT(1, cellpool_same(none, len, 0, 0, numbers));
+    EXPECT(1, cellpool_collect(none, len, numbers, numbers + 1));
+    EXPECT(1, cellpool_collect_tally(none, len, numbers, numbers + 1, numbers + 2, numbers + 3));
+    EXPECT(1, cellpool_collect_stack(none, len, none, 1, numbers, numbers + 1));
+    EXPECT(1, cellpool_collect_recursive(none, len, numbers, numbers + 1));
+    EXPECT(1, cellpool_save(none, len, none, CELLPOOL_SCRATCH(4000), no_bytes, IMAGE, sizes));
+    EXPECT(1, cellpool_load(none, len, no_bytes, IMAGE, sizes));
+    DEMAND(sizes[0] == IMAGE);
+}
+
+/* Blocks without elements. */
+static void no_elements(void) {
+    refused_words(0);
+    set_up();
+    EXPECT(0, cellpool_collect_stack(pool, LEN, none, 0, numbers, numbers + 1));
+    DEMAND(numbers[0] == N && numbers[1] == 0);
+    EXPECT(10, cellpool_save(pool, LEN, none, 0, no_bytes, 0, sizes));
+    EXPECT(10, cellpool_save(pool, LEN, scratch, SCRATCH, no_bytes, 0, sizes));
+    EXPECT(6, cellpool_load(pool, LEN, no_bytes, 0, sizes));
+    DEMAND(sizes[0] == 0);
+    EXPECT(6, cellpool_check_image(no_bytes, 0, N));
+}
+
+/* Lengths with these upper bits. */
+static void long_blocks(size_t upper) {
+    refused_words(upper + CELLPOOL_WORDS(1));
+    refused_words(upper + CELLPOOL_WORDS(4000));
+
+    /* Bytes: the image is read, and no byte behind it; refused, the rest is all of the length. */
+    memcpy(saved, image, IMAGE);
+    EXPECT(0, cellpool_load(pool, LEN, saved, upper + IMAGE - 1, sizes));
+    DEMAND(sizes[0] == IMAGE);
+    EXPECT(0, cellpool_check_image(saved, upper + IMAGE - 1, N));
+    saved[0] = 3;
+    EXPECT(9, cellpool_load(pool, LEN, saved, upper + 1, sizes));
+    DEMAND(sizes[0] == upper + 1);
+    EXPECT(9, cellpool_check_image(saved, upper + 1, N));
+    EXPECT(1, cellpool_load(pool, LEN + 1, no_bytes, upper + 3, sizes));
+    DEMAND(sizes[0] == upper + 3);
+    EXPECT(1, cellpool_check_image(no_bytes, upper + 3, 0));
+
+    /* Output: it is long enough, and no byte behind the image is touched. */
+    set_up();
+    sizes[0] = 0;
+    memset(out, 0x55, IMAGE);
+    EXPECT(0, cellpool_save(pool, LEN, scratch, SCRATCH, out, upper + IMAGE - 1, sizes));
+    DEMAND(sizes[0] == IMAGE && memcmp(out, image, IMAGE) == 0);
+    EXPECT(10, cellpool_save(pool, LEN, none, SCRATCH - 1, no_bytes, upper, sizes));
+
+    /* Scratch: it is long enough, and all of it is to end 0 once the pool is well-formed; else it is left. */
+    EXPECT(TOUCHED, cellpool_save(pool, LEN, front, upper + SCRATCH - 1, out, IMAGE, sizes));
+    DEMAND(behind());
+    EXPECT(TOUCHED, cellpool_save(pool, LEN, front, upper + SCRATCH, out, IMAGE, sizes));
+    DEMAND(behind());
+    EXPECT(TOUCHED, cellpool_save(pool, LEN, front, upper + SCRATCH, out, 0, sizes));
+    DEMAND(behind());
+    EXPECT(3, cellpool_save(changed(3, 3), LEN, none, upper + SCRATCH - 1, no_bytes, upper, sizes));
+
+    /* Stack: all of it is to end 0, where the pool is well-formed; else it is left. */
+    EXPECT(3, cellpool_collect_stack(pool, LEN, none, upper, numbers, numbers + 1));
+    set_up();
+    EXPECT(TOUCHED, cellpool_collect_stack(pool, LEN, front, upper, numbers, numbers + 1));
+    DEMAND(behind());
+    set_up();
+    EXPECT(TOUCHED, cellpool_collect_stack(pool, LEN, front, upper + 1, numbers, numbers + 1));
+    DEMAND(behind());
+}
+
+static void lengths(void) {
+    static const unsigned bits[] = {16, 31, 32, 33};
+    page = (size_t)sysconf(_SC_PAGESIZE);
+    room = ((size_t)1 << 35) + ((size_t)1 << 20);
+    none = (uint32_t *)space(room, 0);
+    no_bytes = (uint8_t *)none;
+    front = (uint32_t *)space(room, page);
+    saved = space(room, page) + page - IMAGE;
+    out = space(room, page) + page - IMAGE;
+    no_elements();
+    for (size_t i = 0; i < sizeof bits / sizeof *bits; i++) long_blocks((size_t)1 << bits[i]);
+}
+
+/* A stack of 2^32 words is enough, and ends 0. */
+static void long_stack(void) {
+    size_t length = (size_t)1 << 32, piece = (size_t)1 << 24;
+    uint8_t *all = space(length * sizeof(uint32_t), 0);
+    int file = memfd_create("stack", 0);
+    int made = file >= 0 && ftruncate(file, (off_t)piece) == 0;
+    for (size_t at = 0; made && at < length * sizeof(uint32_t); at += piece)
+        made = mmap(all + at, piece, PROT_READ | PROT_WRITE, MAP_SHARED | MAP_FIXED | MAP_POPULATE, file, 0) == all + at;
+    if (!made) {
+        perror("stack");
+        exit(2);
+    }
+    memset(all, 0x55, piece);
+    set_up();
+    EXPECT(0, cellpool_collect_stack(pool, LEN, (uint32_t *)all, length, numbers, numbers + 1));
+    DEMAND(numbers[0] == N && numbers[1] == 1);
+    DEMAND(all[0] == 0 && memcmp(all, all + 1, piece - 1) == 0);
+}
+
+/* Every refusal of every function that gives numbers, with results that may be neither read nor written. */
+static void results(void) {
+    static uint32_t large[CELLPOOL_WORDS(65)];
+    uint8_t written[IMAGE];
+    uint32_t *lent = (uint32_t *)space(1, 0);
+    size_t *size = (size_t *)lent;
+
+    EXPECT(1, cellpool_fresh(pool, LEN - 1, lent));
+
+    EXPECT(1, cellpool_new(changed(0, 1), LEN, 0, 0, 0, 7, lent));
+    set_up();
+    EXPECT(2, cellpool_new(pool, LEN, 16, 0, 0, 7, lent));
+    EXPECT(2, cellpool_new(pool, LEN, 0, 16, 0, 7, lent));
+    EXPECT(2, cellpool_new(pool, LEN, 0, 0, 16, 7, lent));
+    EXPECT(5, cellpool_new(pool, LEN, 0, 0, 0, 7, lent));
+    EXPECT(3, cellpool_new(changed(3, 3), LEN, 0, 1, 0, 7, lent));
+    EXPECT(3, cellpool_new(pool, LEN, 0, 0, 1, 7, lent));
+    EXPECT(3, cellpool_new(pool, LEN, 0, 0, 0, 7, lent));
+    EXPECT(3, cellpool_new(changed(1, 3), LEN, 0, 0, 0, 7, lent));
+    EXPECT(3, cellpool_new(changed(1, 1), LEN, 0, 0, 0, 7, lent));
+    pool[18] = 4;
+    pool[19] = 3;
+    EXPECT(3, cellpool_new(pool, LEN, 0, 0, 0, 7, lent));
+
+    EXPECT(1, cellpool_value(changed(0, 1), LEN, 0, lent));
+    EXPECT(2, cellpool_value(changed(3, 3), LEN, 16, lent));
+    EXPECT(3, cellpool_value(pool, LEN, 1, lent));
+    EXPECT(4, cellpool_value(pool, LEN, 2, lent));
+
+    EXPECT(1, cellpool_same(changed(0, 1), LEN, 0, 0, lent));
+    EXPECT(2, cellpool_same(changed(3, 3), LEN, 16, 0, lent));
+    EXPECT(2, cellpool_same(pool, LEN, 0, 16, lent));
+    EXPECT(3, cellpool_same(pool, LEN, 1, 0, lent));
+    EXPECT(3, cellpool_same(pool, LEN, 0, 1, lent));
+
+    EXPECT(1, cellpool_collect(changed(0, 1), LEN, lent, lent + 1));
+    EXPECT(3, cellpool_collect(changed(3, 3), LEN, lent, lent + 1));
+    EXPECT(1, cellpool_collect_tally(changed(0, 1), LEN, lent, lent + 1, lent + 2, lent + 3));
+    EXPECT(3, cellpool_collect_tally(changed(3, 3), LEN, lent, lent + 1, lent + 2, lent + 3));
+    EXPECT(1, cellpool_collect_stack(changed(0, 1), LEN, stack, 1, lent, lent + 1));
+    EXPECT(3, cellpool_collect_stack(changed(3, 3), LEN, stack, 1, lent, lent + 1));
+    EXPECT(1, cellpool_collect_recursive(changed(0, 1), LEN, lent, lent + 1));
+    EXPECT(3, cellpool_collect_recursive(changed(3, 3), LEN, lent, lent + 1));
+    large[0] = 65;
+    EXPECT(11, cellpool_collect_recursive(large, CELLPOOL_WORDS(65), lent, lent + 1));
+
+    EXPECT(1, cellpool_save(changed(0, 1), LEN, scratch, SCRATCH, written, IMAGE, size));
+    EXPECT(10, cellpool_save(changed(3, 3), LEN, scratch, SCRATCH - 1, written, IMAGE, size));
+    EXPECT(3, cellpool_save(pool, LEN, scratch, SCRATCH, written, IMAGE, size));
+    set_up();
+    EXPECT(10, cellpool_save(pool, LEN, scratch, SCRATCH, written, IMAGE - 1, size));
+
+    EXPECT(1, cellpool_occupancy(0, 0, lent));
+    EXPECT(1, cellpool_occupancy(1, 4001, lent));
+    EXPECT(1, cellpool_occupancy(3, 2, lent));
+}
+
+int main(int argc, char **argv) {
+    static const struct {
+        const char *name;
+        void (*run)(void);
+    } parts[] = {{"lengths", lengths}, {"stack", long_stack}, {"results", results}};
+    struct sigaction action;
+    memset(&action, 0, sizeof action);
+    action.sa_sigaction = on_fault;
+    action.sa_flags = SA_SIGINFO;
+    if (sizeof(size_t) < 8 || sigaction(SIGSEGV, &action, NULL) != 0) return 2;
+    for (size_t i = 0; i < sizeof parts / sizeof *parts; i++)
+        if (argc < 2 || strcmp(argv[1], parts[i].name) == 0) parts[i].run();
+    printf("%d differences\n", differences);
+    return differences != 0;
+}
