@@ -16,7 +16,7 @@ ghost use lib.ListN.{length};
 ghost use Rattle.answers.specs.Answers.{answerOutcome};
 ghost use Rattle.script.specs.Replies.{replyText, replyRoom};
 ghost use Rattle.interpreter.specs.Execute.{outcomeText, usedOf, sizeOf, executeOf};
-ghost use Rattle.interpreter.specs.Work.{HasRoom, LineRun, Advanced, Worked};
+ghost use Rattle.interpreter.specs.Work.{HasRoom, LineRun, Advanced, Worked, start, handed};
 
 // What a line leaves beside the words: how many of them are the pool's, and what is printed.
 pub struct Turn {
@@ -115,6 +115,33 @@ pub struct Progress {
     pub at: usize,
     // How many bytes of replies wait to be written.
     pub put: usize,
+}
+
+impl Progress {
+    // Nothing is read, there is no pool, and nothing waits.
+    pub fn start() -> Progress
+        ensures { λ r. ⌜ r ≡ start ⌝ }
+    {
+        Progress {
+            used: 0,
+            reader: LineReader::new(),
+            at: 0,
+            put: 0,
+        }
+    }
+
+    // Handed on to the next part: it is read from its first byte on, and nothing waits.
+    pub fn handed(self) -> Progress
+        ensures { λ r. ⌜ r ≡ handed self ⌝ }
+    {
+        let reader = self.reader;
+        Progress {
+            used: self.used,
+            reader,
+            at: 0,
+            put: 0,
+        }
+    }
 }
 
 // Runs the lines of a part of a script, from a place on, up to the part's end or until too little room is left for a reply. What is promised is what the

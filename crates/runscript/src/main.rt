@@ -3,15 +3,16 @@ use interpreter::Progress;
 use libc::STDERR_FILENO;
 use libc::STDIN_FILENO;
 use libc::STDOUT_FILENO;
-use script::LineReader;
+use pool::Pool;
 ghost use mathlib.Core.Path.{_≡_};
 ghost use mathlib.Core.Bool.{true};
 ghost use Prim.Native.Nat.{_<_, _≤_};
 ghost use lib.ListN.{length};
 ghost use Rattle.script.specs.Replies.{replyRoom};
+ghost use Rattle.runscript.specs.Parts.{LinesRun, PartRun, Finished, ReadRun, Continued};
 
 // The words of the largest pool.
-const WORDS: usize = 16018;
+const WORDS: usize = Pool::FIRST_CELL + Pool::CELL_WORDS * Pool::CELLS as usize;
 
 // Where a script stands, and whether it goes on.
 struct Step {
@@ -33,7 +34,7 @@ fn flush(out: &[u8], put: usize) -> bool
 // Runs lines of a part up to its end, or until no more replies fit, and writes the replies.
 fn run_some(words: &mut [u32], bytes: &[u8], out: &mut [u8], p: Progress) -> Step
     requires { ⌜ (p .put ≡ 0) × (replyRoom ≤ length (now out)) ⌝ }
-    ensures { λ r. ⌜ (r .progress .put ≡ 0) × (p .at < length (now (bytes .entry)) → p .at < r .progress .at) ⌝ }
+    ensures { λ r. ⌜ LinesRun (now (bytes .entry)) (now (words .entry)) p (now (words .exit)) (now (out .exit)) (r .progress) ⌝ }
 {
     let q = interpreter::work(words, bytes, out, p);
     let reader = q.reader;
@@ -52,15 +53,9 @@ fn run_some(words: &mut [u32], bytes: &[u8], out: &mut [u8], p: Progress) -> Ste
 // Runs the lines of a part of the script, and writes their replies.
 fn run_part(words: &mut [u32], bytes: &[u8], out: &mut [u8], start: Progress) -> Step
     requires { ⌜ replyRoom ≤ length (now out) ⌝ }
-    ensures { λ r. ⌜ (r .more ≡ true → length (now (bytes .entry)) ≤ r .progress .at) ⌝ }
+    ensures { λ r. ⌜ PartRun (now (bytes .entry)) (now (words .entry)) start (now (words .exit)) (r .progress) (r .more) ⌝ }
 {
-    let reader = start.reader;
-    let mut p = Progress {
-        used: start.used,
-        reader,
-        at: 0,
-        put: 0,
-    };
+    let mut p = start.handed();
     while p.at < bytes.len() {
         let step = run_some(words, bytes, out, p);
         let next = step.progress;
@@ -81,18 +76,36 @@ fn run_part(words: &mut [u32], bytes: &[u8], out: &mut [u8], start: Progress) ->
 // Runs the last line, which has no line feed: the end of the input ends it as a line feed does.
 fn run_last(words: &mut [u32], out: &mut [u8], progress: Progress)
     requires { ⌜ replyRoom ≤ length (now out) ⌝ }
+    ensures { λ _. ⌜ Finished (now (words .entry)) progress (now (out .exit)) ⌝ }
 {
     let reader = progress.reader;
     if reader.begun() {
-        run_part(words, b"\n", out, progress);
+        let p = progress.handed();
+        run_some(words, b"\n", out, p);
     }
 }
 
-// Reads the next part of the script and runs it; at the end of the input, runs the last line.
-fn read_part(words: &mut [u32], progress: Progress) -> Step {
-    let mut buffer = io::large_buffer();
-    let mut out = io::large_buffer();
-    let got = libc::read(STDIN_FILENO, &mut buffer);
+// Runs what was read: a part of the script, or at the end of the input, where that is nothing, the last line.
+fn run_read(words: &mut [u32], bytes: &[u8], out: &mut [u8], progress: Progress) -> Step
+    requires { ⌜ replyRoom ≤ length (now out) ⌝ }
+    ensures { λ r. ⌜ ReadRun (now (bytes .entry)) (now (words .entry)) progress (now (words .exit)) (now (out .exit)) (r .progress) (r .more) ⌝ }
+{
+    if bytes.len() == 0 {
+        run_last(words, out, progress);
+        return Step {
+            progress,
+            more: false,
+        };
+    }
+    run_part(words, bytes, out, progress)
+}
+
+// Reads the next part of the script into the buffer, and runs it.
+fn read_part(words: &mut [u32], buffer: &mut [u8], out: &mut [u8], progress: Progress) -> Step
+    requires { ⌜ replyRoom ≤ length (now out) ⌝ }
+    ensures { λ r. ⌜ (r .more ≡ true → Continued (now (words .entry)) progress (now (words .exit)) (now (buffer .exit)) (r .progress)) ⌝ }
+{
+    let got = libc::read(STDIN_FILENO, buffer);
     if got < 0 {
         io::write_all(STDERR_FILENO, b"runscript: cannot read\n");
         return Step {
@@ -100,29 +113,19 @@ fn read_part(words: &mut [u32], progress: Progress) -> Step {
             more: false,
         };
     }
-    if got == 0 {
-        run_last(words, &mut out, progress);
-        return Step {
-            progress,
-            more: false,
-        };
-    }
-    let n = io::count(got, &buffer);
-    run_part(words, &buffer[..n], &mut out, progress)
+    let n = io::count(got, buffer);
+    run_read(words, &buffer[..n], out, progress)
 }
 
 // A proved loop has to end, and nothing says that the input does: the loop counts down, from a number of reads that no run uses up.
 fn main() {
     let mut words = [0u32; WORDS];
-    let mut p = Progress {
-        used: 0,
-        reader: LineReader::new(),
-        at: 0,
-        put: 0,
-    };
+    let mut buffer = io::large_buffer();
+    let mut out = io::large_buffer();
+    let mut p = Progress::start();
     let mut reads = u64::MAX;
     while 0 < reads {
-        let step = read_part(&mut words, p);
+        let step = read_part(&mut words, &mut buffer, &mut out, p);
         if !step.more {
             return;
         }

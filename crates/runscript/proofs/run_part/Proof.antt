@@ -1,47 +1,53 @@
--- `runscript::run_part` meets its contract. The loop's invariant: nothing waits. The measure is what is left of the part.
+-- `runscript::run_part` meets its contract. The loop's invariant: what was printed, and then what the rest prints, is what the script prints. The
+-- measure is what is left of the part.
 use Prim.Native.Nat.{_-_}
-use mathlib.Core.Path.{_≡_, refl}
+use mathlib.Core.Path.{ap}
 use mathlib.Core.Bool.{false≢true}
 use native.Mathlib.Omega.{arith}
 use lib.ListN.{length}
+use Rattle.interpreter.specs.declared.Progress.{Progress}
+use Rattle.runscript.proofs.Running.{Running, running-start, running-on, part-run}
 use Rattle.runscript.proofs.run_part.Statement.{statement}
 use Rattle.runscript.proofs.run_part.Tie as tie
 
 abbrev Inv-loop : tie.InvT-loop
-Inv-loop words₀ bytes out₀ p₀ words out p = (length words ≡ length words₀) × (length out ≡ length out₀) × (p .put ≡ 0)
+Inv-loop words₀ bytes out₀ p₀ words out p = Running bytes words₀ out₀ p₀ words out p
 
 abbrev μ-loop : tie.MeasureT-loop
 μ-loop words₀ bytes out₀ p₀ words out p = length bytes - p .at
 
+handed-requires : tie.Need-handed-requires Inv-loop μ-loop
+handed-requires c κs = tt
+
 loop-holds : tie.Need-loop-holds Inv-loop μ-loop
-loop-holds c = (refl, refl, refl)
+loop-holds c = running-start _ _ _ _ (ap (λ (p : Progress). p .put) (c .handed .ensures))
 
 run-some-requires : tie.Need-run-some-requires Inv-loop μ-loop
-run-some-requires c κs = omega arith
+run-some-requires c κs = (c .before .before .before .before .loop .inv .none-waits, omega (arith, c .before .before .before .before .loop .inv .room))
 
 same-length : tie.Need-same-length Inv-loop μ-loop
-same-length c = omega (arith, c .before .before .before .before .before .before .before .run-some .kept .0)
+same-length c = omega (arith, c .before .before .before .before .before .before .before .run-some .kept .0, c .before .before .before .before .before .before .before .before .before .before .before .before .loop .inv .words)
 
 same-length-2 : tie.Need-same-length-2 Inv-loop μ-loop
-same-length-2 c = omega (arith, c .before .before .before .before .before .before .before .run-some .kept .1 .1 .0)
+same-length-2 c = omega (arith, c .before .before .before .before .before .before .before .run-some .kept .1 .1 .0, c .before .before .before .before .before .before .before .before .before .before .before .before .loop .inv .room)
 
 returns : tie.Need-returns Inv-loop μ-loop
-returns c = λ more. absurd (false≢true more)
+returns c = part-run _ _ _ _ _ _ _ _ _ (running-on _ _ _ _ _ _ _ _ _ _ (c .before .before .before .before .before .before .before .before .before .before .before .before .loop .inv) (c .before .before .before .before .before .before .before .run-some .ensures) (c .before .before .before .before .before .before .before .run-some .kept .0) (c .before .before .before .before .before .before .before .run-some .kept .1 .1 .0)) (c .before .before .before .before .before .before .before .before .before .before .before .before .before .handed .ensures) (λ written. absurd (false≢true written))
 
 loop-less : tie.Need-loop-less Inv-loop μ-loop
-loop-less c = omega (arith, c .before .before .before .before .before .before .before .run-some .ensures .1 (c .before .before .before .before .before .before .before .before .before .before .if1 .taken))
+loop-less c = omega (arith, c .before .before .before .before .before .before .before .run-some .ensures .forward (c .before .before .before .before .before .before .before .before .before .before .if1 .taken))
 
 loop-again : tie.Need-loop-again Inv-loop μ-loop
-loop-again c = omega (arith, c .before .before .before .before .before .before .before .run-some .kept .0, c .before .before .before .before .before .before .before .run-some .kept .1 .1 .0, c .before .before .before .before .before .before .before .run-some .ensures .0)
+loop-again c = running-on _ _ _ _ _ _ _ _ _ _ (c .before .before .before .before .before .before .before .before .before .before .before .before .loop .inv) (c .before .before .before .before .before .before .before .run-some .ensures) (c .before .before .before .before .before .before .before .run-some .kept .0) (c .before .before .before .before .before .before .before .run-some .kept .1 .1 .0)
 
 same-length-3 : tie.Need-same-length-3 Inv-loop μ-loop
-same-length-3 c = omega arith
+same-length-3 c = c .before .before .loop .inv .words
 
 same-length-4 : tie.Need-same-length-4 Inv-loop μ-loop
-same-length-4 c = omega arith
+same-length-4 c = c .before .before .loop .inv .room
 
 returns-2 : tie.Need-returns-2 Inv-loop μ-loop
-returns-2 c = λ _. c .if1 .left
+returns-2 c = part-run _ _ _ _ _ _ _ _ _ (c .before .before .loop .inv) (c .before .before .before .handed .ensures) (λ _. c .if1 .left)
 
 pub run-part-spec : {M : Type 1} → statement M
 run-part-spec =
@@ -49,6 +55,7 @@ run-part-spec =
     (tie.spec
     Inv-loop
     μ-loop
+    handed-requires
     loop-holds
     run-some-requires
     same-length
