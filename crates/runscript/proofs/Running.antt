@@ -7,15 +7,14 @@ use mathlib.Core.Bool.{Bool, true, false, false≢true}
 use native.Mathlib.Omega.{arith}
 use lib.ListN.{length, take, length-append}
 use lib.Seq.{length-take-le}
-use Rattle.pool.specs.Layout.{cellLimit, registerCount, poolLength}
 use Rattle.script.specs.Reader.{endOf, begunOf}
 use Rattle.script.specs.Scripts.{readScript}
 use Rattle.script.specs.Replies.{replyRoom}
-use Rattle.interpreter.specs.Execute.{transcript}
-use Rattle.interpreter.specs.Work.{remaining, handed, start, Worked}
+use Rattle.interpreter.specs.Execute.{transcript, printed}
+use Rattle.interpreter.specs.Work.{remaining, handed, Worked}
 use Rattle.interpreter.specs.declared.Progress.{Progress}
 use Rattle.interpreter.proofs.Whole.{starts-whole, parts-join, last-line-ends}
-use Rattle.runscript.specs.Parts.{StandsIn, rest, LinesRun, PartRun, Finished, ReadRun, Continued, RunSoFar}
+use Rattle.runscript.specs.Parts.{StandsIn, rest, LinesRun, PartRun, Finished, ReadRun, Continued, StartsRun, ContinuesRun, EndsRun}
 
 -- the first bytes stand at the start
 front-stands : (n : ℕ) (bytes : List ℕ) → n ≤ length bytes → StandsIn bytes (take n bytes)
@@ -135,13 +134,16 @@ continued n buffer w p w′ out′ q goesOn inside read-run more = go (take n bu
         }
 
 -- the script so far
-pub so-far-start : (w : List ℕ) → length w ≡ poolLength registerCount cellLimit → RunSoFar w start
+pub so-far-start : StartsRun
 so-far-start w long = record { script = []; text = []; follows = λ more. starts-whole w [] more long }
 
-pub so-far-on : (w : List ℕ) (p : Progress) (w′ buffer : List ℕ) (q : Progress) → RunSoFar w p → Continued w p w′ buffer q → RunSoFar w′ q
+pub so-far-on : ContinuesRun
 so-far-on w p w′ buffer q before on =
     record {
       script = before .script ++ on .part;
       text = before .text ++ on .text;
       follows = λ more. simp append-assoc (ap (λ (t : List ℕ). before .text ++ t) (on .follows more) ∙ before .follows (on .part ++ more));
     }
+
+pub so-far-ends : EndsRun
+so-far-ends w p out run finished = ap (λ (t : List ℕ). run .text ++ t) finished ∙ run .follows [] ∙ ap printed (append-nil (run .script))

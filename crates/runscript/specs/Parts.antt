@@ -6,8 +6,9 @@ use mathlib.Core.Path.{_≡_}
 use mathlib.Core.List.{List, [], _++_}
 use mathlib.Core.Bool.{Bool, true, false}
 use lib.ListN.{length, take}
+use Rattle.pool.specs.Layout.{cellLimit, registerCount, poolLength}
 use Rattle.interpreter.specs.Execute.{printed}
-use Rattle.interpreter.specs.Work.{remaining, handed}
+use Rattle.interpreter.specs.Work.{remaining, handed, start}
 use Rattle.interpreter.specs.declared.Progress.{Progress}
 
 -- A text stands at the start of the bytes.
@@ -51,9 +52,22 @@ pub record Continued (w : List ℕ) (p : Progress) (w′ buffer′ : List ℕ) (
   pub text : List ℕ
   pub follows : (more : List ℕ) → text ++ rest w′ q more ≡ rest w p (part ++ more)
 
--- A script is run so far: `script` is read, and `text` is written for it. Whatever follows, the text and then what the rest prints is what the whole
--- script prints.
+-- A script is run so far (what main's loop keeps): `script` is read, and `text` is written for it. Whatever follows, the text and then what the rest
+-- prints is what the whole script prints.
 pub record RunSoFar (w : List ℕ) (p : Progress) : Type 0 where
   pub script : List ℕ
   pub text : List ℕ
   pub follows : (more : List ℕ) → text ++ rest w p more ≡ printed (script ++ more)
+
+-- It is so at the start, with words for the largest pool, and stays so with each part that is read and run.
+abbrev pub StartsRun : Type 0
+StartsRun = (w : List ℕ) → length w ≡ poolLength registerCount cellLimit → RunSoFar w start
+
+abbrev pub ContinuesRun : Type 0
+ContinuesRun = (w : List ℕ) (p : Progress) (w′ buffer : List ℕ) (q : Progress) → RunSoFar w p → Continued w p w′ buffer q → RunSoFar w′ q
+
+-- At the end of the input: the text so far, and then what stands at the start of `out`, is what the script prints.
+abbrev pub EndsRun : Type 0
+EndsRun =
+    (w : List ℕ) (p : Progress) (out : List ℕ) (run : RunSoFar w p) → Finished w p out
+    → run .text ++ take (length (rest w p [])) out ≡ printed (run .script)
