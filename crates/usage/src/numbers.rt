@@ -1,0 +1,60 @@
+// A reader is laid over bytes, and advances in place, number by number.
+use crate::print;
+use leb128::Number;
+ghost use mathlib.Core.Path.{_≡_};
+ghost use Rattle.usage.specs.Numbers.{twoNumbers};
+
+// Two numbers that a reader read, and the place where it stands behind them.
+pub struct Two {
+    pub first: Number,
+    pub second: Number,
+    pub at: usize,
+}
+
+// Reads two numbers by one reader: it advances behind the first, and then behind the second.
+fn read_two(bytes: &[u8], at: usize) -> Two
+    ensures { λ r. ⌜ r ≡ twoNumbers (now (bytes .entry)) at ⌝ }
+{
+    let mut reader = reader::reader_at(bytes, at);
+    let first = reader::next_number(&mut reader);
+    let second = reader::next_number(&mut reader);
+    Two {
+        first,
+        second,
+        at: reader.at,
+    }
+}
+
+fn show(number: Number) {
+    match number {
+        Number::Value { value, next } => {
+            print::label(b"number, and the place behind it:");
+            print::word(value);
+            print::number(next as u64);
+        }
+        Number::Missing => print::label(b"no number: the bytes end"),
+        Number::OutOfRange => print::label(b"no number: 2^32 or more"),
+    }
+    print::line_end();
+}
+
+fn show_two(two: Two) {
+    let first = two.first;
+    let second = two.second;
+    show(first);
+    show(second);
+    print::label(b"the reader stands at");
+    print::number(two.at as u64);
+    print::line_end();
+}
+
+// The numbers of the customer's examples, 127, 128, 300 and 4294967295, and then one whose last byte is missing.
+pub fn read_in_turn() {
+    let bytes = b"\x7f\x80\x01\xac\x02\xff\xff\xff\xff\x0f\xff";
+    let two = read_two(bytes, 0);
+    show_two(two);
+    let four = read_two(bytes, two.at);
+    show_two(four);
+    let end = read_two(bytes, four.at);
+    show_two(end);
+}
