@@ -39,7 +39,6 @@ fn a_stack_of_2_to_the_32_words() {
 }
 
 #[test]
-#[ignore = "the header does not promise yet that a refused call leaves its results unread"]
 fn refused_calls_do_not_touch_their_results() {
     lent("results");
 }
