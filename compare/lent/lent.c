@@ -35,26 +35,26 @@ static void on_fault(int number, siginfo_t *info, void *context) {
     siglongjmp(back, 1);
 }
 
-static void tell(int line, const char *what) {
+static void differs(int line, const char *what) {
     differences++;
-    if (answer == TOUCHED) {
-        printf("lent.c:%d: %s touches %p\n", line, what, (void *)touched);
-    } else {
-        printf("lent.c:%d: %s, the answer is %u\n", line, what, answer);
-    }
+    printf("lent.c:%d: %s", line, what);
 }
 
-#define DEMAND(condition) ((condition) ? (void)0 : tell(__LINE__, #condition))
+#define DEMAND(condition) ((condition) ? (void)0 : differs(__LINE__, "not so: " #condition "\n"))
 
 /* Make a call, and demand this answer. */
-#define EXPECT(expected, call)                           \
-    do {                                                 \
-        if (sigsetjmp(back, 1) == 0) {                   \
-            answer = (call);                             \
-        } else {                                         \
-            answer = TOUCHED;                            \
-        }                                                \
-        if (answer != (expected)) tell(__LINE__, #call); \
+#define EXPECT(expected, call)                                                 \
+    do {                                                                       \
+        if (sigsetjmp(back, 1) == 0) {                                         \
+            answer = (call);                                                   \
+        } else {                                                               \
+            answer = TOUCHED;                                                  \
+        }                                                                      \
+        if (answer != (expected)) {                                            \
+            differs(__LINE__, #call);                                          \
+            if (answer == TOUCHED) printf(" touches %p\n", (void *)touched);   \
+            if (answer != TOUCHED) printf(" answers %u\n", (unsigned)answer);  \
+        }                                                                      \
     } while (0)
 
 /* Address space of which only the front may be touched; not reserved in memory. */

@@ -1,4 +1,4 @@
-//! The comparisons. Each runs one implementation on many inputs and answers the first difference as text.
+//! The comparisons. Each runs an implementation on many inputs and answers the first difference as text.
 
 use crate::generate::{self, Shape, SHAPES};
 use crate::model::{groups, Model, Pool};
@@ -62,7 +62,7 @@ fn equal_words<T: PartialEq + Debug>(what: impl Fn() -> String, found: &[T], exp
 }
 
 /// One call on the words, which are then those of the model.
-pub fn one_call(pool: &dyn Interface, words: &mut [u32], call: Call) -> Outcome {
+fn one_call(pool: &dyn Interface, words: &mut [u32], call: Call) -> Outcome {
     let before = words.to_vec();
     let mut found = before.clone();
     let answer = apply(pool, &mut found, call);
@@ -235,9 +235,15 @@ fn decoded(words: &[u32]) -> Option<Pool> {
     Pool::decode(words).ok().filter(Pool::well_formed)
 }
 
-/// How many cells the length has room for, at least one.
+/// How many cells the length has room for.
 fn room(words: &[u32]) -> usize {
-    (words.len().saturating_sub(HEADER) / CELL).max(1)
+    words.len().saturating_sub(HEADER) / CELL
+}
+
+/// So many words, none of them 0, to be lent.
+fn filled(random: &mut Random, length: usize) -> impl Iterator<Item = u32> {
+    let (first, step) = (random.word(), random.word() | 1);
+    (0..length as u32).map(move |i| first.wrapping_add(i.wrapping_mul(step)) | 1)
 }
 
 /// The words that the stack marker needs, or a small number.
@@ -299,7 +305,7 @@ fn tally_collect(pool: &dyn Interface, words: &[u32], random: &mut Random) -> Ou
 
 /// The stack marker with a stack of this length.
 fn stack_collect(pool: &dyn Interface, words: &[u32], length: usize, random: &mut Random) -> Outcome {
-    let stack: Vec<u32> = (0..length).map(|_| random.word() | 1).collect();
+    let stack: Vec<u32> = filled(random, length).collect();
     let (mut found, mut expected) = (words.to_vec(), words.to_vec());
     let (mut found_stack, mut expected_stack) = (stack.clone(), stack);
     let what = || format!("stack collect with {length} words on {words:?}");
@@ -322,7 +328,7 @@ fn every_stack_length(pool: &dyn Interface, random: &mut Random, _: usize) -> Ou
         equal_words(what, &found, &words)?;
         let any = random.below(n + 4);
         for length in [used.saturating_sub(2), used - 1, used, any] {
-            let (mut found, mut stack) = (words.clone(), vec![random.word() | 1; length]);
+            let (mut found, mut stack) = (words.clone(), filled(random, length).collect::<Vec<u32>>());
             let what = || format!("stack collect of {used} cells of {n} with {length} words");
             let answer = pool.collect_stack(&mut found, &mut stack);
             equal(what, answer, Ok((used as u32, u32::from(length >= used - 1))))?;
@@ -356,7 +362,7 @@ fn graphs(pool: &dyn Interface, random: &mut Random, _: usize) -> Outcome {
 fn saves(pool: &dyn Interface, random: &mut Random, rounds: usize) -> Outcome {
     for _ in 0..rounds {
         let words = generate::words(random);
-        if words.len() < words_for(200) {
+        if room(&words) < 200 {
             every_save(pool, &words, random)?;
         } else {
             some_saves(pool, &words, random)?;
@@ -371,7 +377,7 @@ fn image(words: &[u32], random: &mut Random) -> Vec<u8> {
 }
 
 fn every_save(pool: &dyn Interface, words: &[u32], random: &mut Random) -> Outcome {
-    let n = words.len().saturating_sub(HEADER) / CELL;
+    let n = room(words);
     let bytes = image(words, random).len();
     for scratch in [0, n, (2 * n).saturating_sub(1), 2 * n, 2 * n + 1, 2 * n + 9] {
         for out in [0, 1, 16, 17, bytes - 1, bytes, bytes + 1, bytes + 11] {
@@ -384,7 +390,7 @@ fn every_save(pool: &dyn Interface, words: &[u32], random: &mut Random) -> Outco
 /// Save with enough scratch and output, with any, and with far more; then load what was saved, and more bytes.
 fn some_saves(pool: &dyn Interface, words: &[u32], random: &mut Random) -> Outcome {
     exact_saves(pool, words, random)?;
-    let needed = 2 * (words.len().saturating_sub(HEADER) / CELL);
+    let needed = 2 * room(words);
     let mut longer = image(words, random);
     let bytes = longer.len();
     for (scratch, out) in
@@ -405,7 +411,7 @@ fn some_saves(pool: &dyn Interface, words: &[u32], random: &mut Random) -> Outco
 
 /// Save with just enough scratch and output, and with one element less; then load what was saved.
 fn exact_saves(pool: &dyn Interface, words: &[u32], random: &mut Random) -> Outcome {
-    let needed = 2 * (words.len().saturating_sub(HEADER) / CELL);
+    let needed = 2 * room(words);
     let image = image(words, random);
     save(pool, words, needed, image.len(), random)?;
     save(pool, words, needed.saturating_sub(1), image.len(), random)?;
@@ -414,8 +420,8 @@ fn exact_saves(pool: &dyn Interface, words: &[u32], random: &mut Random) -> Outc
 }
 
 fn save(pool: &dyn Interface, words: &[u32], scratch: usize, out: usize, random: &mut Random) -> Outcome {
-    let scratch: Vec<u32> = (0..scratch).map(|_| random.word() | 1).collect();
-    let out: Vec<u8> = (0..out).map(|_| random.word() as u8).collect();
+    let scratch: Vec<u32> = filled(random, scratch).collect();
+    let out: Vec<u8> = filled(random, out).map(|word| (word >> 24) as u8).collect();
     let what = || format!("save with scratch {} and output {} of {words:?}", scratch.len(), out.len());
     let (mut found, mut expected) = (words.to_vec(), words.to_vec());
     let (mut found_scratch, mut expected_scratch) = (scratch.clone(), scratch.clone());
@@ -602,8 +608,7 @@ fn lengths(pool: &dyn Interface, random: &mut Random, _: usize) -> Outcome {
 fn percentages(pool: &dyn Interface, random: &mut Random, _: usize) -> Outcome {
     for n in (0..=MOST_CELLS as u32 + 10).chain([1 << 16, (1 << 16) + 100, u32::MAX - 1, u32::MAX]) {
         let every = match n {
-            0..130 => n,
-            4_000 => n,
+            0..130 | 4_000 => n,
             3_990..4_010 => 200,
             _ => 0,
         };
