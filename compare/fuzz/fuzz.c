@@ -375,7 +375,7 @@ static uint32_t random_word(void) {
 
 /* Random bytes: any, or small ones, which make more well-formed pools and images. The calls are any. */
 static size_t random_input(uint8_t *data, size_t room) {
-    size_t size = random_word() % (random_word() % 8 == 0 ? room : 600);
+    size_t size = random_word() % (random_word() % 32 == 0 ? room : 600);
     uint32_t kind = random_word() % 4;
     for (size_t i = 0; i < size; i++) {
         uint32_t word = random_word();

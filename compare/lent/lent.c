@@ -1,15 +1,14 @@
 /*
  * Which lent memory the functions of cellpool.h touch, and lengths of 2^32 elements and more.
  *
- *   lent lengths   Lengths that are right, or too short, without their upper bits. Of a block so long only the front may be
- *                  touched, and an access behind it is noticed. It must come where all of the block is to end 0, and must
- *                  not come elsewhere. Blocks of length 0 are not touched.
- *   lent stack     A stack of 2^32 words that may all be touched: one piece of memory again and again.
+ *   lent lengths   Lengths that are right, or too short, without their upper bits. Of a block so long only the first page may
+ *                  be touched, and an access behind it is noticed. It must come where the stack needs more words, and where
+ *                  all of a block is to end 0, and must not come elsewhere. Blocks of length 0 are not touched.
  *   lent results   A refused call neither reads nor writes the numbers lent for its results.
  *
  * Every difference is printed, and the program then ends with 1.
  */
-#define _GNU_SOURCE
+#define _DEFAULT_SOURCE
 #include "cellpool.h"
 
 #include <setjmp.h>
@@ -87,7 +86,17 @@ static uint32_t *changed(size_t place, uint32_t content) {
     return pool;
 }
 
-/* Its image. */
+/* The largest pool as a chain with equal links: the stack marker pushes cells 2, 3, 4 and so on. */
+static uint32_t chain[CELLPOOL_WORDS(4000)];
+
+static void set_up_chain(void) {
+    memset(chain, 0, sizeof chain);
+    chain[0] = 4000;
+    chain[2] = 1;
+    for (uint32_t i = 1; i < 4000; i++) chain[18 + 4 * (i - 1) + 1] = chain[18 + 4 * (i - 1) + 2] = i + 1;
+}
+
+/* The image of the small one. */
 static const uint8_t image[] = {2, 1, 0, 0, 0, 0, 0, 0, 0, 0, 0, 0, 0, 0, 0, 0, 0, 2, 2, 8, 0, 0, 7};
 enum { IMAGE = sizeof image };
 
@@ -97,8 +106,15 @@ static uint32_t *none, *front;
 static uint8_t *no_bytes, *saved, *out;
 static size_t page, room;
 
-/* The last call touched what is behind the first page. */
+/* The last call touched what is behind the first page of this block. */
 static int behind(void) { return touched >= (uint8_t *)front + page && touched < (uint8_t *)front + room; }
+
+/* That page is full of what the stack marker pushes for the chain. */
+static int pending(void) {
+    for (uint32_t i = 0; i < page / sizeof *front; i++)
+        if (front[i] != i + 2) return 0;
+    return 1;
+}
 
 /* The words have a wrong length, and are not touched. */
 static void refused_words(size_t len) {
@@ -170,7 +186,13 @@ static void long_blocks(size_t upper) {
     DEMAND(behind());
     EXPECT(3, cellpool_save(changed(3, 3), LEN, none, upper + SCRATCH - 1, no_bytes, upper, sizes));
 
-    /* Stack: all of it is to end 0, where the pool is well-formed; else it is left. */
+    /* Stack: it is long enough. The access behind its first page comes when that is full. */
+    set_up_chain();
+    memset(front, 0x55, page);
+    EXPECT(TOUCHED, cellpool_collect_stack(chain, CELLPOOL_WORDS(4000), front, upper, numbers, numbers + 1));
+    DEMAND(behind() && pending());
+
+    /* All of it is to end 0, where the pool is well-formed; else it is left. */
     EXPECT(3, cellpool_collect_stack(pool, LEN, none, upper, numbers, numbers + 1));
     set_up();
     EXPECT(TOUCHED, cellpool_collect_stack(pool, LEN, front, upper, numbers, numbers + 1));
@@ -191,25 +213,6 @@ static void lengths(void) {
     out = space(room, page) + page - IMAGE;
     no_elements();
     for (size_t i = 0; i < sizeof bits / sizeof *bits; i++) long_blocks((size_t)1 << bits[i]);
-}
-
-/* A stack of 2^32 words is enough, and ends 0. */
-static void long_stack(void) {
-    size_t length = (size_t)1 << 32, piece = (size_t)1 << 24;
-    uint8_t *all = space(length * sizeof(uint32_t), 0);
-    int file = memfd_create("stack", 0);
-    int made = file >= 0 && ftruncate(file, (off_t)piece) == 0;
-    for (size_t at = 0; made && at < length * sizeof(uint32_t); at += piece)
-        made = mmap(all + at, piece, PROT_READ | PROT_WRITE, MAP_SHARED | MAP_FIXED | MAP_POPULATE, file, 0) == all + at;
-    if (!made) {
-        perror("stack");
-        exit(2);
-    }
-    memset(all, 0x55, piece);
-    set_up();
-    EXPECT(0, cellpool_collect_stack(pool, LEN, (uint32_t *)all, length, numbers, numbers + 1));
-    DEMAND(numbers[0] == N && numbers[1] == 1);
-    DEMAND(all[0] == 0 && memcmp(all, all + 1, piece - 1) == 0);
 }
 
 /* Every refusal of every function that gives numbers, with results that may be neither read nor written. */
@@ -273,7 +276,7 @@ int main(int argc, char **argv) {
     static const struct {
         const char *name;
         void (*run)(void);
-    } parts[] = {{"lengths", lengths}, {"stack", long_stack}, {"results", results}};
+    } parts[] = {{"lengths", lengths}, {"results", results}};
     struct sigaction action;
     memset(&action, 0, sizeof action);
     action.sa_sigaction = on_fault;

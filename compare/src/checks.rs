@@ -517,10 +517,8 @@ fn every_function(pool: &dyn Interface, words: &[u32], random: &mut Random) -> O
     fresh(pool, &mut words.to_vec())?;
     recursive_collect(pool, words)?;
     tally_collect(pool, words, random)?;
-    let needed = stack_needed(words, random);
-    for length in [needed.saturating_sub(1), needed] {
-        stack_collect(pool, words, length, random)?;
-    }
+    let length = stack_needed(words, random).saturating_sub(random.below(2));
+    stack_collect(pool, words, length, random)?;
     exact_saves(pool, words, random)
 }
 

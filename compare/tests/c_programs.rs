@@ -34,11 +34,6 @@ fn lengths_of_2_to_the_32_and_more() {
 }
 
 #[test]
-fn a_stack_of_2_to_the_32_words() {
-    lent("stack");
-}
-
-#[test]
 fn refused_calls_do_not_touch_their_results() {
     lent("results");
 }

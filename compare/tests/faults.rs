@@ -619,7 +619,7 @@ mod in_c {
         ("lengths", "size_of(const uint32_t *words, size_t len)", "size_of(const uint32_t *words, uint32_t len)"),
         ("lengths", "size_t n = (len - HEADER) / CELL;", "uint16_t n = (uint16_t)((len - HEADER) / CELL);"),
         ("lengths", "memset(stack, 0, stack_len *", "memset(stack, 0, (uint32_t)stack_len *"),
-        ("stack", "height == stack_len", "height == (uint32_t)stack_len"),
+        ("lengths", "height == stack_len", "height == (uint32_t)stack_len"),
         ("lengths", "scratch_len < 2 *", "(uint32_t)scratch_len < 2 *"),
         ("lengths", "memset(scratch, 0, scratch_len *", "memset(scratch, 0, (uint32_t)scratch_len *"),
         ("lengths", "size <= out_len", "size <= (uint32_t)out_len"),

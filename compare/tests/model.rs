@@ -1,7 +1,7 @@
 //! The model against itself, against the reference model, and what the generated inputs reach.
 
 use cellpool_compare::cause::{Cause, Link, Name, Place};
-use cellpool_compare::checks;
+use cellpool_compare::checks::{self, Comparison};
 use cellpool_compare::generate::{self, Shape, SHAPES};
 use cellpool_compare::model::{Model, Pool};
 use cellpool_compare::random::{rounds, seed, Random};
@@ -274,14 +274,14 @@ fn the_random_inputs_reach_every_answer_and_every_cause_of_every_function() {
     for comparison in
         [checks::CALL_LISTS, checks::ANY_WORDS, checks::COLLECTIONS, checks::SAVES, checks::IMAGES, checks::PERCENTAGES]
     {
-        comparison.on(&counting).unwrap();
+        Comparison { rounds: comparison.rounds / 2, ..comparison }.on(&counting).unwrap();
     }
     let mut counts = counting.0.into_inner();
     let mut seldom = BTreeMap::new();
     for (name, kinds, causes) in answers() {
         for reached in kinds.into_iter().map(Ok).chain(causes.into_iter().map(Err)) {
             let count = counts.remove(&(name, reached)).unwrap_or(0);
-            if count < 12 {
+            if count < 6 {
                 seldom.insert((name, reached), count);
             }
         }
