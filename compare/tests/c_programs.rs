@@ -4,11 +4,11 @@
 mod common;
 
 use cellpool_compare::random::{rounds, seed};
-use common::c::{archive, cc, compile, file, made, root, run};
+use common::c::{archive, cc, compile, file, made, run};
 
 #[test]
 fn the_example_ends_as_expected() {
-    let sources = [root().join("examples/firmware.c"), archive()];
+    let sources = [file("../examples/firmware.c"), archive()];
     let text = run(&compile("firmware", &cc(), &["-std=c99", "-O2"], &sources), &[]);
     assert_eq!(text.lines().last(), Some("all as expected"), "{text}");
 }

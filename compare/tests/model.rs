@@ -274,6 +274,7 @@ fn the_random_inputs_reach_every_answer_and_every_cause_of_every_function() {
     for comparison in
         [checks::CALL_LISTS, checks::ANY_WORDS, checks::COLLECTIONS, checks::SAVES, checks::IMAGES, checks::PERCENTAGES]
     {
+        // Half of the rounds are enough for that.
         Comparison { rounds: comparison.rounds / 2, ..comparison }.on(&counting).unwrap();
     }
     let mut counts = counting.0.into_inner();

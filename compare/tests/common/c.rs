@@ -3,17 +3,13 @@
 use std::path::{Path, PathBuf};
 use std::process::{Command, Output};
 
-pub fn root() -> PathBuf {
-    Path::new(env!("CARGO_MANIFEST_DIR")).join("..")
-}
-
 pub fn archive() -> PathBuf {
     env!("CELLPOOL_ARCHIVE").into()
 }
 
-/// A file of this crate.
-pub fn file(name: &str) -> PathBuf {
-    root().join("compare").join(name)
+/// A file, by its path from this crate.
+pub fn file(path: &str) -> PathBuf {
+    Path::new(env!("CARGO_MANIFEST_DIR")).join(path)
 }
 
 /// A file that the tests make.
@@ -31,7 +27,7 @@ pub fn compile(name: &str, compiler: &str, options: &[&str], sources: &[PathBuf]
         .args(["-Wall", "-Wextra", "-Wpedantic", "-Werror"])
         .args(options)
         .arg("-I")
-        .arg(root().join("include"))
+        .arg(file("../include"))
         .arg("-I")
         .arg(file("baseline"))
         .args(sources)
