@@ -204,9 +204,11 @@ static uint32_t number_of(Input *input, uint32_t n) {
     return number;
 }
 
-/* A link, or nil where it is not valid. */
+/* The first used cell from this link on; nil where there is none, and for nil. */
 static uint32_t valid(const uint32_t *words, uint32_t link) {
-    return link >= 1 && link <= cells && words[CELLPOOL_WORDS((size_t)link - 1)] == 0 ? link : 0;
+    if (link == 0) return 0;
+    while (link <= cells && words[CELLPOOL_WORDS((size_t)link - 1)] != 0) link++;
+    return link <= cells ? link : 0;
 }
 
 /* Make the words a well-formed pool. */
@@ -300,13 +302,27 @@ static void any_call(Input *input) {
     }
 }
 
+/* The least length of a stack that is enough, by the plain C version; at most as many words as cells are kept. */
+static size_t stack_needed(const uint8_t *start, uint32_t kept) {
+    size_t least = 0, most = kept;
+    while (least < most) {
+        size_t length = (least + most) / 2;
+        uint32_t *words = words_of(PLAIN), *stack = (uint32_t *)blocks[STACK].room[PLAIN], same_kept, enough = 0;
+        memcpy(words, start, blocks[WORDS].bytes);
+        baseline_collect_stack(words, blocks[WORDS].bytes / sizeof *words, stack, length, &same_kept, &enough);
+        if (enough) most = length;
+        else least = length + 1;
+    }
+    return least;
+}
+
 /* Every form of collect on the same words: the same words and cells kept, and the same visits where there are some. */
 static void forms_of_collect(Input *input) {
     static uint8_t start[ROOM], collected[ROOM];
     size_t bytes = blocks[WORDS].bytes;
     Results first, other;
     memcpy(start, words_of(LIBRARY), bytes);
-    uint32_t answer = make_plainly(COLLECT, &first), kept = answer == 0 ? first.number[1] : 0, was_enough = 0;
+    uint32_t answer = make_plainly(COLLECT, &first), kept = answer == 0 ? first.number[1] : 0;
     DEMAND(answer != 0 || first.number[3] == 3 * kept);
     memcpy(collected, words_of(LIBRARY), bytes);
 
@@ -316,15 +332,14 @@ static void forms_of_collect(Input *input) {
          memcmp(words_of(LIBRARY), collected, bytes) == 0 && other.number[1] == first.number[1])
     DEMAND(AGAIN(TALLY) && other.number[3] == first.number[3]);
     if (cells <= CELLPOOL_MOST_RECURSIVE) DEMAND(AGAIN(RECURSIVE) && other.number[3] == first.number[3]);
-    /* A stack that is enough stays enough when it is longer, and one of as many words as cells are kept is always. */
-    size_t lengths[] = {0, 1, input->size % (kept / 2 + 1), kept, cells + (size_t)1};
+    /* The stack is enough from one length on, which is at most the number of cells kept. */
+    lend_filled(STACK, kept, sizeof(uint32_t), 0x5A);
+    size_t needed = answer == 0 ? stack_needed(start, kept) : 1;
+    size_t lengths[] = {needed > 0 ? needed - 1 : 0, needed, needed + 1, input->size % (kept + 1), cells + (size_t)1};
     for (size_t i = 0; i < sizeof lengths / sizeof *lengths; i++) {
         lend_filled(STACK, lengths[i], sizeof(uint32_t), 0x5A);
         DEMAND(AGAIN(STACKED));
-        if (answer != 0) continue;
-        DEMAND(other.number[3] <= 1 && (lengths[i] < kept || other.number[3] == 1));
-        if (i > 0 && lengths[i] >= lengths[i - 1]) DEMAND(other.number[3] >= was_enough);
-        was_enough = other.number[3];
+        DEMAND(answer != 0 || other.number[3] == (lengths[i] >= needed));
     }
     memcpy(words_of(LIBRARY), start, bytes);
 }

@@ -288,9 +288,9 @@ fn recursive_collect(pool: &dyn Interface, words: &[u32]) -> Outcome {
 }
 
 fn tally_collect(pool: &dyn Interface, words: &[u32], random: &mut Random) -> Outcome {
-    let mut near = || match random.below(3) {
-        0 => random.word(),
-        1 => u32::MAX - random.below(3 * room(words) + 2) as u32,
+    let mut near = || match random.below(4) {
+        0 | 1 => random.word(),
+        2 => u32::MAX - random.below(3 * room(words) + 2) as u32,
         _ => random.pick(&[0, 1, 7, u32::MAX - 7, u32::MAX - 3, u32::MAX - 1, u32::MAX]),
     };
     let before = Tally { collections: near(), visits: near() };

@@ -60,10 +60,10 @@ pub fn calls(random: &mut Random, count: usize) -> Vec<Call> {
 /// A number of cells: mostly small, and every one possible.
 pub fn cells(random: &mut Random) -> usize {
     match random.below(40) {
-        0..=23 => random.between(1, 8),
-        24..=35 => random.between(1, 40),
-        36 | 37 => random.between(60, 70),
-        38 => random.between(1, 200),
+        0..=22 => random.between(1, 8),
+        23..=34 => random.between(1, 40),
+        35 | 36 => random.between(60, 70),
+        37 => random.between(1, 200),
         _ => random.between(1, MOST_CELLS),
     }
 }
@@ -217,7 +217,7 @@ pub fn words(random: &mut Random) -> Vec<u32> {
         3 => {
             let mut words = random.pick(&SHAPES).words(n, random);
             words[2 + random.below(REGISTERS)] = random.between(1, n) as u32;
-            words[2] = random.pick(&[0, 0, 1]);
+            words[2] = random.below(2) as u32;
             words
         }
         4 | 5 => well_formed(random, n),
