@@ -11,14 +11,11 @@ use Rattle.pool.specs.Layout.{registerCount, poolLength, head, setHead, setRegi
 use Rattle.pool.specs.Validity.{isFree, wellFormed}
 use Rattle.pool.specs.Retain.{lowestFree}
 use Rattle.pool.specs.Calls.{holdsLink}
-use Rattle.pool.specs.Outcome.{Outcome, answered, allocated, refused}
-use Rattle.pool.specs.declared.Refusal.{Refusal}
+use Rattle.answers.specs.Outcome.{Outcome, answered, allocated, refused, status, given}
 use Rattle.pool.proofs.Questions.{both}
 use Rattle.pool.proofs.WellFormed.{well-formed-read}
 use Rattle.pool.proofs.Retained.{retain-head}
-use Rattle.collector.specs.Collect.{isReached, keptCells, collected, collectionOutcome, collectIn}
-use Rattle.collector.specs.declared.Collection.{Collection}
-use Rattle.collector.specs.declared.Collection.the-variants as collection
+use Rattle.collector.specs.Collect.{isReached, keptCells, collected, collectIn}
 use Rattle.collector.proofs.Collected.{collected-full, head-nil-full}
 use Rattle.allocator.specs.Allocation.{take, takeCollected, goodHead, newIn}
 use Rattle.pool.proofs.RegisterLinks.{Holds}
@@ -46,7 +43,7 @@ pub record Swept (n : ℕ) (w w' : List ℕ) (v : ℕ) : Type 0 where
   pub visits : v ≡ 3 * keptCells registerCount n w
 
 -- what a collection says and leaves, by the test of the pool
-module _ (n : ℕ) (w : List ℕ) {w' : List ℕ} {o : Outcome} (did : (o, w') ≡ collectIn n w) where
+module _ (n : ℕ) (w w' : List ℕ) {o : Outcome} (did : (o, w') ≡ collectIn n w) where
   said : (t : Bool) → wellFormed registerCount n w ≡ t
       → o ≡ cond t (answered (keptCells registerCount n w ∷ 3 * keptCells registerCount n w ∷ [])) (refused 3)
   said true e = simp e at (ap (λ (p : Outcome × List ℕ). p .0) did)
@@ -56,20 +53,19 @@ module _ (n : ℕ) (w : List ℕ) {w' : List ℕ} {o : Outcome} (did : (o, w') �
   left-words true e = simp e at (ap (λ (p : Outcome × List ℕ). p .1) did)
   left-words false e = simp e at (ap (λ (p : Outcome × List ℕ). p .1) did)
 
-module _ (n : ℕ) (w w' : List ℕ) {q : Collection} (did : (collectionOutcome q, w') ≡ collectIn n w) where
-  pub swept : {kept visits : ℕ} → q ≡ collection.Kept kept visits → Swept n w w' visits
-  swept {kept} {visits} told = go (wellFormed registerCount n w) refl
+  pub swept : {q : ℕ} → q ≡ status o → q ≡ 0 → Swept n w w' (given o 1 0)
+  swept told accepted = go (wellFormed registerCount n w) refl
     where
-      go : (t : Bool) → wellFormed registerCount n w ≡ t → Swept n w w' visits
-      go true e = record { well = e; words = left-words n w did true e; visits = cc (said n w did true e) }
-      go false e = let z : _≡_ {A = ℕ} 0 1 = cc (said n w did false e) in absurd (omega arith)
+      go : (t : Bool) → wellFormed registerCount n w ≡ t → Swept n w w' (given o 1 0)
+      go true e = record { well = e; words = left-words true e; visits = ap (λ (p : Outcome). given p 1 0) (said true e) }
+      go false e = absurd (omega (arith, ap status (said false e)))
 
-  pub take-refused : (r x y v : ℕ) {k : Refusal} → q ≡ collection.Refused k → (refused 3, w') ≡ takeCollected n w r x y v
-  take-refused r x y v told = go (wellFormed registerCount n w) refl
+  pub take-refused : (r x y v : ℕ) {q : ℕ} → q ≡ status o → (q ≡ 0 → ⊥) → (o, w') ≡ takeCollected n w r x y v
+  take-refused r x y v told refusing = go (wellFormed registerCount n w) refl
     where
-      go : (t : Bool) → wellFormed registerCount n w ≡ t → (refused 3, w') ≡ takeCollected n w r x y v
-      go true e = let z : _≡_ {A = ℕ} 0 1 = cc (said n w did true e) in absurd (omega arith)
-      go false e = simp (e, left-words n w did false e)
+      go : (t : Bool) → wellFormed registerCount n w ≡ t → (o, w') ≡ takeCollected n w r x y v
+      go true e = absurd (refusing (told ∙ ap status (said true e)))
+      go false e = simp (e, said false e, left-words false e)
 
 module _ (n : ℕ) (w : List ℕ) {w' : List ℕ} {visits : ℕ} (s : Swept n w w' visits) where
   -- the head after it is one of the cells, or nil where every cell is kept; and then nothing has changed
@@ -86,9 +82,9 @@ module _ (n : ℕ) (w : List ℕ) {w' : List ℕ} {visits : ℕ} (s : Swept n w 
       simp (s .well, h, s .words) (simp (collected-full registerCount n w well room (head-nil-full registerCount n w well room some h) nil))
 
   pub take-done : (r x y v : ℕ) {i : ℕ} {w'' : List ℕ} → i ≡ head w' → (i ≡ 0 → ⊥) → w'' ≡ take w' r x y v
-      → (allocated visits, w'') ≡ takeCollected n w r x y v
-  take-done r x y v read free e =
-      simp (s .well, ne-eqb (head (collected registerCount n w)) 0 λ z. free (read ∙ ap head (s .words) ∙ z), e, s .words, s .visits)
+      → {u : ℕ} → u ≡ visits → (allocated u, w'') ≡ takeCollected n w r x y v
+  take-done r x y v read free e is =
+      simp (is, s .well, ne-eqb (head (collected registerCount n w)) 0 λ z. free (read ∙ ap head (s .words) ∙ z), e, s .words, s .visits)
 
 -- a head that may be taken is one of the cells
 pub good-bound : (n : ℕ) (w : List ℕ) → goodHead n w ≡ true → head w ≤ n

@@ -7,7 +7,7 @@ use lib.Dec.{eqb, leb}
 use Rattle.pool.specs.Layout.{registerCount, head, setHead, register, setRegister, setCell, state, left}
 use Rattle.pool.specs.Validity.{isFree, wellFormed}
 use Rattle.pool.specs.Calls.{holdsLink}
-use Rattle.pool.specs.Outcome.{Outcome, allocated, refused}
+use Rattle.answers.specs.Outcome.{Outcome, allocated, refused}
 use Rattle.collector.specs.Collect.{keptCells, collected}
 
 -- "a used cell with left from a, right from b, value v; r gets it. It takes the head cell, and the head becomes that cell's left."

@@ -1,14 +1,13 @@
 // The allocation of a cell: "new" behind its first two questions. A function takes the number of cells, n, of words that hold them, and registers that there are.
 use answers::Answer;
-use collector::Collection;
+use answers::Refusal;
 use pool::Held;
 use pool::Pool;
-use pool::Refusal;
 ghost use mathlib.Core.Path.{_≡_};
 ghost use Prim.Native.Nat.{_<_, _≤_};
 ghost use lib.ListN.{length};
 ghost use Rattle.pool.specs.Layout.{cellLimit, registerCount, poolLength, head};
-ghost use Rattle.answers.specs.Answers.{answerOutcome};
+ghost use Rattle.answers.specs.Outcome.{answerOutcome};
 ghost use Rattle.allocator.specs.Allocation.{take, goodHead, takeCollected, newIn};
 
 // Takes the head cell: it becomes a used cell with these links and this value, its left becomes the head, and r gets it, last of all.
@@ -47,14 +46,16 @@ fn take_collected(words: &mut [u32], n: u32, r: u32, x: u32, y: u32, v: u32) -> 
     requires { ⌜ (poolLength registerCount n ≤ length (now words)) × (0 < n) × (n ≤ cellLimit) × (r < registerCount) × (head (now words) ≡ 0) ⌝ }
     ensures { λ q. ⌜ (answerOutcome q, now (words .exit)) ≡ takeCollected n (now (words .entry)) r x y v ⌝ }
 {
-    let Collection::Kept { kept: _, visits } = collector::collect_in(words, n) else {
-        return Answer::Refused(Refusal::Malformed);
-    };
+    let collected = collector::collect_in(words, n);
+    if collected.status() != 0 {
+        return collected;
+    }
     let free = pool::read_head(words);
     if free == 0 {
         return Answer::Refused(Refusal::Full);
     }
     take_head(words, r, x, y, v);
+    let visits = collected.second();
     Answer::Allocated { visits }
 }
 

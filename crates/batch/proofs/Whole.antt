@@ -6,7 +6,7 @@ use mathlib.Core.Path.{_≡_, refl, ap}
 use mathlib.Core.List.{List, [], _∷_, _++_, append-assoc}
 use lib.ListN.{length, set, drop, length-append}
 use borrow.Author.Tests.{le-leb}
-use Rattle.pool.specs.Outcome.{Outcome, status, given}
+use Rattle.answers.specs.Outcome.{Outcome, status, given}
 use Rattle.calls.specs.declared.Call.{Call}
 use Rattle.calls.specs.declared.Call.the-variants as call
 use Rattle.calls.specs.Calls.{callOf}

@@ -5,7 +5,7 @@ use mathlib.Core.List.{List, [], _∷_, _++_}
 use mathlib.Core.Bool.{true, false}
 use lib.ListN.{length, set, drop}
 use lib.Dec.{leb}
-use Rattle.pool.specs.Outcome.{Outcome, status, given}
+use Rattle.answers.specs.Outcome.{Outcome, status, given}
 use Rattle.calls.specs.declared.Call.{Call}
 use Rattle.calls.specs.Calls.{callOf}
 use Rattle.batch.specs.declared.Ran.{Ran}

@@ -4,7 +4,7 @@ use calls::Call;
 ghost use mathlib.Core.Path.{_≡_};
 ghost use Prim.Native.Nat.{_+_, _*_, _≤_};
 ghost use lib.ListN.{length};
-ghost use Rattle.answers.specs.Answers.{answerOutcome};
+ghost use Rattle.answers.specs.Outcome.{answerOutcome};
 ghost use Rattle.batch.specs.Program.{callNumbered, entryAt};
 ghost use Rattle.batch.specs.Run.{written, runOf};
 

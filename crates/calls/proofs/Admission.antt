@@ -8,10 +8,10 @@ use lib.ListN.{length}
 use lib.Dec.{ltb}
 use borrow.Author.Tests.{ltb-true}
 use Rattle.pool.specs.Layout.{registerCount, cellsOf}
-use Rattle.pool.specs.Outcome.{Outcome, refused, refusalNumber}
+use Rattle.answers.specs.Outcome.{Outcome, refused, refusalNumber}
 use Rattle.pool.specs.Calls.{admitOf}
-use Rattle.pool.specs.declared.Refusal.{Refusal}
-use Rattle.pool.specs.declared.Refusal.the-variants as refusal
+use Rattle.answers.specs.declared.Refusal.{Refusal}
+use Rattle.answers.specs.declared.Refusal.the-variants as refusal
 use Rattle.pool.specs.declared.Admitted.{Admitted}
 use Rattle.pool.specs.declared.Admitted.the-variants as admitted
 use Rattle.pool.proofs.Questions.{both, Sized, cells-sized}

@@ -7,7 +7,7 @@ use borrow.Author.Tests.{eq-eqb, ne-eqb}
 use Rattle.pool.specs.Layout.{registerCount, setRegister, cell, setCell}
 use Rattle.pool.specs.Validity.{validLink}
 use Rattle.pool.specs.Calls.{holdsLink}
-use Rattle.pool.specs.Outcome.{answered, refused}
+use Rattle.answers.specs.Outcome.{answered, refused}
 use Rattle.calls.specs.Calls.{copyIn, followIn, linkIn, setValueIn, valueIn, sameIn}
 use Rattle.pool.proofs.RegisterLinks.{Holds}
 

@@ -6,7 +6,7 @@ use lib.Dec.{eqb}
 use Rattle.pool.specs.Layout.{registerCount, register, setRegister, cell, setCell, value}
 use Rattle.pool.specs.Validity.{validLink}
 use Rattle.pool.specs.Calls.{admitOf, holdsLink}
-use Rattle.pool.specs.Outcome.{Outcome, answered, refused, refusalNumber}
+use Rattle.answers.specs.Outcome.{Outcome, answered, refused, refusalNumber}
 use Rattle.pool.specs.declared.Admitted.{Admitted}
 use Rattle.pool.specs.declared.Admitted.the-variants as admitted
 use Rattle.collector.specs.Collect.{collectOf}

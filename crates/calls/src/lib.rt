@@ -1,16 +1,15 @@
 // The eleven calls on a pool. A function whose name ends in `_in` is a call behind its first two questions: it takes the number of cells, n, of words
 // that hold them, and registers that there are. The others ask these questions first, and run on any words and any numbers.
 use answers::Answer;
-use collector::Collection;
+use answers::Refusal;
 use pool::Admitted;
 use pool::Held;
 use pool::Pool;
-use pool::Refusal;
 ghost use mathlib.Core.Path.{_≡_};
 ghost use Prim.Native.Nat.{_<_, _≤_};
 ghost use lib.ListN.{length};
 ghost use Rattle.pool.specs.Layout.{registerCount, poolLength};
-ghost use Rattle.answers.specs.Answers.{answerOutcome};
+ghost use Rattle.answers.specs.Outcome.{answerOutcome};
 ghost use Rattle.calls.specs.Calls.{copyIn, clearIn, followIn, linkIn, setValueIn, valueIn, sameIn, asked, callOf};
 
 // A call: r, a and b are register numbers, v is a value.
@@ -254,10 +253,7 @@ pub fn same(words: &[u32], a: u32, b: u32) -> Answer
 pub fn collect(words: &mut [u32]) -> Answer
     ensures { λ q. ⌜ (answerOutcome q, now (words .exit)) ≡ callOf Call.Collect (now (words .entry)) ⌝ }
 {
-    match collector::collect(words) {
-        Collection::Kept { kept, visits } => Answer::Collected { kept, visits },
-        Collection::Refused(k) => Answer::Refused(k),
-    }
+    collector::collect(words)
 }
 
 impl Call {

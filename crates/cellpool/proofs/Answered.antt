@@ -1,12 +1,9 @@
 -- From the contract of a call to that of its C function.
 use Prim.Native.Nat.{ℕ}
 use mathlib.Core.Path.{_≡_, ap, _∙_}
-use Rattle.pool.specs.Outcome.{Outcome, status, given, refusalNumber}
-use Rattle.pool.specs.declared.Refusal.{Refusal}
+use Rattle.answers.specs.Outcome.{Outcome, answered, allocated, refused, status, given}
 use mathlib.Core.List.{List}
-use Rattle.collector.specs.declared.Collection.{Collection}
-use Rattle.collector.specs.declared.Collection.the-variants as collection
-use Rattle.collector.specs.Collect.{collectionOutcome, collectOf}
+use Rattle.collector.specs.Collect.{collectOf}
 use Rattle.tally.specs.declared.Tally.{Tally}
 use Rattle.tally.specs.TallyOf.{tallyAfter, tallyOf}
 use Rattle.cellpool.specs.Interface.{givingNone, giving, givingTwo, tallying, withStack, number, numbers, saving}
@@ -23,16 +20,12 @@ module _ {A : Type 0} (o : Outcome) (left : A) (x : Outcome × A) (call : _≡_ 
   giving-two-made v u old₀ old₁ said =
       ap (λ (p : ℕ × ℕ × ℕ). (p .0, left, p .1, p .2)) said ∙ ap (λ (y : Outcome × A). givingTwo y old₀ old₁) call
 
--- an operation that is no call, whose answer is given as a call's
-pub as-answer : {A : Type 0} {o a : Outcome} {left : A} {x : Outcome × A} → a ≡ o → _≡_ {A = Outcome × A} (o, left) x → _≡_ {A = Outcome × A} (a, left) x
-as-answer {left = left} same call = ap (λ (y : Outcome). (y, left)) same ∙ call
-
 -- the same of the collection with a given stack
 pub stack-made : (w stack : List ℕ) (o : Outcome) (x : Outcome × List ℕ × List ℕ) → _≡_ {A = Outcome × List ℕ × List ℕ} (o, w, stack) x
-    → (a : Outcome) → a ≡ o → (q v u old₀ old₁ : ℕ) → _≡_ {A = ℕ × ℕ × ℕ} (q, v, u) (numbers a old₀ old₁)
+    → (q v u old₀ old₁ : ℕ) → _≡_ {A = ℕ × ℕ × ℕ} (q, v, u) (numbers o old₀ old₁)
     → _≡_ {A = ℕ × List ℕ × List ℕ × ℕ × ℕ} (q, w, stack, v, u) (withStack x old₀ old₁)
-stack-made w stack o x call a same q v u old₀ old₁ said =
-    ap (λ (p : ℕ × ℕ × ℕ). (p .0, w, stack, p .1, p .2)) (rw same at said) ∙ ap (λ (y : Outcome × List ℕ × List ℕ). withStack y old₀ old₁) call
+stack-made w stack o x call q v u old₀ old₁ said =
+    ap (λ (p : ℕ × ℕ × ℕ). (p .0, w, stack, p .1, p .2)) said ∙ ap (λ (y : Outcome × List ℕ × List ℕ). withStack y old₀ old₁) call
 
 -- the same of save
 pub saving-made : (w scratch out : List ℕ) (o : Outcome) (x : Outcome × List ℕ × List ℕ)
@@ -41,13 +34,21 @@ pub saving-made : (w scratch out : List ℕ) (o : Outcome) (x : Outcome × List 
 saving-made w scratch out o x save q v old said given = rw (said, given) (ap (λ (y : Outcome × List ℕ × List ℕ). saving w y old) save)
 
 -- the same of the collection with a tally: accepted, and refused
-module _ (w w' : List ℕ) (t : Tally) {c : Collection} (call : _≡_ {A = Outcome × List ℕ} (collectionOutcome c, w') (collectOf w)) (old₀ old₁ : ℕ) where
-  pub tally-advanced : (t' : Tally) {kept visits : ℕ} → c ≡ collection.Kept kept visits → t' ≡ tallyAfter t (collectionOutcome (collection.Kept kept visits))
-      → _≡_ {A = ℕ × List ℕ × ℕ × ℕ × ℕ × ℕ} (0, w', t' .collections, t' .visits, kept, visits) (tallying (tallyOf w t) old₀ old₁)
-  tally-advanced t' is counted =
-      rw counted (rw is at (ap (λ (y : Outcome × List ℕ). tallying (y .0, y .1, tallyAfter t (y .0)) old₀ old₁) call))
+module _ (w w' : List ℕ) (t : Tally) (o : Outcome) (call : _≡_ {A = Outcome × List ℕ} (o, w') (collectOf w)) (q old₀ old₁ : ℕ) where
+  tallied : _≡_ {A = ℕ × List ℕ × ℕ × ℕ × ℕ × ℕ} (tallying (o, w', tallyAfter t o) old₀ old₁) (tallying (tallyOf w t) old₀ old₁)
+  tallied = ap (λ (y : Outcome × List ℕ). tallying (y .0, y .1, tallyAfter t (y .0)) old₀ old₁) call
 
-  pub tally-left : {k : Refusal} (q : ℕ) → c ≡ collection.Refused k → q ≡ refusalNumber k
+  pub tally-advanced : (t' : Tally) → t' ≡ tallyAfter t o → (v u : ℕ) → _≡_ {A = ℕ × ℕ × ℕ} (q, v, u) (numbers o old₀ old₁)
+      → _≡_ {A = ℕ × List ℕ × ℕ × ℕ × ℕ × ℕ} (q, w', t' .collections, t' .visits, v, u) (tallying (tallyOf w t) old₀ old₁)
+  tally-advanced t' counted v u said =
+      ap (λ (p : ℕ × ℕ × ℕ). (p .0, w', t' .collections, t' .visits, p .1, p .2)) said ∙ rw counted tallied
+
+  pub tally-left : q ≡ status o → (q ≡ 0 → ⊥)
       → _≡_ {A = ℕ × List ℕ × ℕ × ℕ × ℕ × ℕ} (q, w', t .collections, t .visits, old₀, old₁) (tallying (tallyOf w t) old₀ old₁)
-  tally-left q is number =
-      rw number (rw is at (ap (λ (y : Outcome × List ℕ). tallying (y .0, y .1, tallyAfter t (y .0)) old₀ old₁) call))
+  tally-left said refusing = leaves o said ∙ tallied
+    where
+      leaves : (p : Outcome) → q ≡ status p
+          → _≡_ {A = ℕ × List ℕ × ℕ × ℕ × ℕ × ℕ} (q, w', t .collections, t .visits, old₀, old₁) (tallying (p, w', tallyAfter t p) old₀ old₁)
+      leaves (answered xs) e = absurd (refusing e)
+      leaves (allocated visits) e = absurd (refusing e)
+      leaves (refused k) e = rw e

@@ -2,7 +2,7 @@
 -- leaves as they were.
 use Prim.Native.Nat.{ℕ}
 use mathlib.Core.List.{List}
-use Rattle.pool.specs.Outcome.{Outcome, status, given}
+use Rattle.answers.specs.Outcome.{Outcome, status, given}
 use Rattle.tally.specs.declared.Tally.{Tally}
 use Rattle.image.specs.declared.Loaded.{Loaded}
 

@@ -1,69 +1,20 @@
 // The pool as the firmware calls it: every operation as a C function. Each answers 0 or the number of its refusal, asks nothing of its arguments, and
 // stores the numbers that it gives in lent places; a refusal neither reads nor writes these.
 use answers::Answer;
-use collector::Collection;
-use pool::Fresh;
-use pool::Occupied;
 use pool::Pool;
 use save::Saved;
-use stack_marker::StackCollection;
 use tally::Tally;
 ghost use mathlib.Core.Path.{_≡_};
-ghost use Rattle.pool.specs.Outcome.{freshOutcome, occupiedOutcome};
+ghost use Rattle.answers.specs.Outcome.{answerOutcome};
 ghost use Rattle.pool.specs.Calls.{freshOf, occupancyOf};
 ghost use Rattle.calls.specs.declared.Call.{Call};
-ghost use Rattle.answers.specs.Answers.{answerOutcome};
 ghost use Rattle.calls.specs.Calls.{callOf};
-ghost use Rattle.collector.specs.Collect.{collectionOutcome};
 ghost use Rattle.recursive_marker.specs.Recursive.{recursiveOf};
-ghost use Rattle.stack_marker.specs.StackCollect.{stackOutcome, stackOf};
+ghost use Rattle.stack_marker.specs.StackCollect.{stackOf};
 ghost use Rattle.tally.specs.TallyOf.{tallyOf};
 ghost use Rattle.image.specs.Load.{loadOf, checkOf};
 ghost use Rattle.save.specs.Save.{saveOf};
 ghost use Rattle.cellpool.specs.Interface.{givingNone, giving, givingTwo, tallying, withStack, number, numbers, saving, loading};
-
-// The answers of the operations that are no calls, as a call would answer.
-fn of_fresh(fresh: Fresh) -> Answer
-    ensures { λ r. ⌜ answerOutcome r ≡ freshOutcome fresh ⌝ }
-{
-    match fresh {
-        Fresh::Made(n) => Answer::Number(n),
-        Fresh::Refused(refusal) => Answer::Refused(refusal),
-    }
-}
-
-fn of_collection(collection: Collection) -> Answer
-    ensures { λ r. ⌜ answerOutcome r ≡ collectionOutcome collection ⌝ }
-{
-    match collection {
-        Collection::Kept { kept, visits } => Answer::Collected { kept, visits },
-        Collection::Refused(refusal) => Answer::Refused(refusal),
-    }
-}
-
-fn of_stack(collection: StackCollection) -> Answer
-    ensures { λ r. ⌜ answerOutcome r ≡ stackOutcome collection ⌝ }
-{
-    match collection {
-        StackCollection::Kept { kept, enough } => {
-            if enough {
-                Answer::Collected { kept, visits: 1 }
-            } else {
-                Answer::Collected { kept, visits: 0 }
-            }
-        }
-        StackCollection::Refused(refusal) => Answer::Refused(refusal),
-    }
-}
-
-fn of_occupied(occupied: Occupied) -> Answer
-    ensures { λ r. ⌜ answerOutcome r ≡ occupiedOutcome occupied ⌝ }
-{
-    match occupied {
-        Occupied::Percent(percent) => Answer::Number(percent),
-        Occupied::Refused(refusal) => Answer::Refused(refusal),
-    }
-}
 
 // Stores the number that an answer gives, and answers its status. A refusal stores nothing.
 fn store(answer: Answer, place: &mut u32) -> u32
@@ -79,8 +30,8 @@ fn store(answer: Answer, place: &mut u32) -> u32
             *place = x;
             0
         }
-        Answer::Collected { kept, visits: _ } => {
-            *place = kept;
+        Answer::Pair(x, _) => {
+            *place = x;
             0
         }
         Answer::Refused(refusal) => refusal.number(),
@@ -101,9 +52,9 @@ fn store_two(answer: Answer, first: &mut u32, second: &mut u32) -> u32
             *first = x;
             0
         }
-        Answer::Collected { kept, visits } => {
-            *first = kept;
-            *second = visits;
+        Answer::Pair(x, y) => {
+            *first = x;
+            *second = y;
             0
         }
         Answer::Refused(refusal) => refusal.number(),
@@ -114,7 +65,7 @@ fn store_two(answer: Answer, first: &mut u32, second: &mut u32) -> u32
 pub extern "C" fn cellpool_fresh(words: &mut [u32], cells: &mut u32) -> u32
     ensures { λ q. ⌜ (q, now (words .exit), now (cells .exit)) ≡ giving (freshOf (now (words .entry))) (now (cells .entry)) ⌝ }
 {
-    store(of_fresh(Pool::fresh(words)), cells)
+    store(Pool::fresh(words), cells)
 }
 
 #[no_mangle]
@@ -212,25 +163,19 @@ pub extern "C" fn cellpool_collect_tally(
 ) -> u32
     ensures { λ q. ⌜ (q, now (words .exit), now (collections .exit), now («total_visits» .exit), now (kept .exit), now (visits .exit)) ≡ tallying (tallyOf (now (words .entry)) (record { collections = now (collections .entry); visits = now («total_visits» .entry) })) (now (kept .entry)) (now (visits .entry)) ⌝ }
 {
-    let collection = collector::collect(words);
-    match collection {
-        Collection::Kept {
-            kept: count,
-            visits: made,
-        } => {
-            let before = Tally {
-                collections: *collections,
-                visits: *total_visits,
-            };
-            let after = before.after(collection);
-            *collections = after.collections;
-            *total_visits = after.visits;
-            *kept = count;
-            *visits = made;
-            0
-        }
-        Collection::Refused(refusal) => refusal.number(),
+    let answer = collector::collect(words);
+    let status = answer.status();
+    if status != 0 {
+        return status;
     }
+    let before = Tally {
+        collections: *collections,
+        visits: *total_visits,
+    };
+    let after = before.after(answer);
+    *collections = after.collections;
+    *total_visits = after.visits;
+    store_two(answer, kept, visits)
 }
 
 // Kept, and 1 where the stack was enough, 0 where it was not.
@@ -243,11 +188,7 @@ pub extern "C" fn cellpool_collect_stack(
 ) -> u32
     ensures { λ q. ⌜ (q, now (words .exit), now (stack .exit), now (kept .exit), now (enough .exit)) ≡ withStack (stackOf (now (words .entry)) (now (stack .entry))) (now (kept .entry)) (now (enough .entry)) ⌝ }
 {
-    store_two(
-        of_stack(stack_marker::collect_stack(words, stack)),
-        kept,
-        enough,
-    )
+    store_two(stack_marker::collect_stack(words, stack), kept, enough)
 }
 
 #[no_mangle]
@@ -258,11 +199,7 @@ pub extern "C" fn cellpool_collect_recursive(
 ) -> u32
     ensures { λ q. ⌜ (q, now (words .exit), now (kept .exit), now (visits .exit)) ≡ givingTwo (recursiveOf (now (words .entry))) (now (kept .entry)) (now (visits .entry)) ⌝ }
 {
-    store_two(
-        of_collection(recursive_marker::collect_recursive(words)),
-        kept,
-        visits,
-    )
+    store_two(recursive_marker::collect_recursive(words), kept, visits)
 }
 
 #[no_mangle]
@@ -304,5 +241,5 @@ pub extern "C" fn cellpool_check_image(bytes: &[u8], n: u32) -> u32
 pub extern "C" fn cellpool_occupancy(kept: u32, n: u32, percent: &mut u32) -> u32
     ensures { λ q. ⌜ (q, now (percent .exit)) ≡ number (occupancyOf kept n) (now (percent .entry)) ⌝ }
 {
-    store(of_occupied(pool::occupancy(kept, n)), percent)
+    store(pool::occupancy(kept, n), percent)
 }

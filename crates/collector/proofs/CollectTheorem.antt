@@ -11,7 +11,7 @@ use Rattle.graph.proofs.Reached.{reach-above, reach-within}
 use Rattle.pool.specs.Layout.{registerCount, poolLength, cellsOf, count, graphOf, rootsOf}
 use Rattle.pool.specs.Validity.{wellFormed}
 use Rattle.pool.specs.Retain.{sweepOf}
-use Rattle.pool.specs.Outcome.{Outcome, answered}
+use Rattle.answers.specs.Outcome.{Outcome, answered}
 use Rattle.pool.proofs.Questions.{cells-sized, cells-same}
 use Rattle.pool.proofs.WellFormed.{WellFormed, well-formed-read, well-formed-made}
 use Rattle.pool.proofs.PoolGraph.{pool-within}

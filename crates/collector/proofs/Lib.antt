@@ -11,4 +11,3 @@ pub mod VisitStep
 pub mod RootLoop
 pub mod MarkSweep
 pub mod CollectTheorem
-pub mod Determined

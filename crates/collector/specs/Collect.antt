@@ -8,9 +8,7 @@ use Rattle.graph.specs.Order.{has, order}
 use Rattle.pool.specs.Layout.{registerCount, cellsOf, graphOf, rootsOf}
 use Rattle.pool.specs.Validity.{wellFormed}
 use Rattle.pool.specs.Retain.{retain}
-use Rattle.pool.specs.Outcome.{Outcome, answered, refused, refusalNumber, Determined}
-use Rattle.collector.specs.declared.Collection.{Collection}
-use Rattle.collector.specs.declared.Collection.the-variants as collection
+use Rattle.answers.specs.Outcome.{Outcome, answered, refused}
 
 -- The cells that the registers reach, in depth-first order.
 abbrev pub reachedCells : ℕ → ℕ → List ℕ → List ℕ
@@ -27,15 +25,6 @@ keptCells R n w = length (reachedCells R n w)
 -- The words after a collection: every reached cell is used, its links and its value as before, and every other cell is on the ascending chain.
 abbrev pub collected : ℕ → ℕ → List ℕ → List ℕ
 collected R n w = retain R n (isReached R n w) w
-
--- What a collection says: kept and visits, or the refusal.
-abbrev pub collectionOutcome : Collection → Outcome
-collectionOutcome (collection.Kept kept visits) = answered (kept ∷ visits ∷ [])
-collectionOutcome (collection.Refused k) = refused (refusalNumber k)
-
--- What is said determines the answer, its case too.
-abbrev pub CollectionDetermined : Type 0
-CollectionDetermined = Determined Collection collectionOutcome
 
 -- A collection of a pool of n cells: "is the pool whole? .. No: 3"; then kept, and three visits for each kept cell.
 abbrev pub collectIn : ℕ → List ℕ → Outcome × List ℕ

@@ -10,7 +10,7 @@ use Rattle.graph.specs.Theorems.{Distinct}
 use Rattle.pool.specs.Layout.{registerCount, cellsOf, count, head, register, state, left, right, value, graphOf, rootsOf}
 use Rattle.pool.specs.Validity.{wellFormed}
 use Rattle.pool.specs.Retain.{freeList, freeCells, sweepOf}
-use Rattle.pool.specs.Outcome.{answered}
+use Rattle.answers.specs.Outcome.{answered}
 use Rattle.collector.specs.Collect.{isReached, collectOf}
 use Rattle.collector.specs.ReversalTheorem.{MarkRoots}
 

@@ -1,6 +1,7 @@
 // Marking by link reversal, and the collection that marks and sweeps.
+use answers::Answer;
+use answers::Refusal;
 use pool::Pool;
-use pool::Refusal;
 ghost use mathlib.Core.Path.{_≡_};
 ghost use Prim.Native.Nat.{ℕ, _+_, _^_, _<_, _≤_};
 ghost use mathlib.Core.List.{List};
@@ -11,19 +12,14 @@ ghost use Rattle.pool.specs.Layout.{registerCount, cellLimit, poolLength};
 ghost use Rattle.pool.specs.Validity.{wellFormed};
 ghost use Rattle.collector.specs.Reversal.{unmarked, visitOf, Visitable, marker, Run, Ends};
 ghost use Rattle.collector.specs.ReversalTheorem.{markedOf};
-ghost use Rattle.collector.specs.Collect.{collectIn, collectOf, collectionOutcome};
+ghost use Rattle.answers.specs.Outcome.{answerOutcome};
+ghost use Rattle.collector.specs.Collect.{collectIn, collectOf};
 
 // The cell in hand, its predecessor, and how many visits were made.
 pub struct Marker {
     pub cell: u32,
     pub previous: u32,
     pub visits: u32,
-}
-
-// What a collection answers.
-pub enum Collection {
-    Kept { kept: u32, visits: u32 },
-    Refused(Refusal),
 }
 
 // Is the link a cell that no visit was made to? Nil counts as marked.
@@ -120,26 +116,26 @@ pub fn mark(words: &mut [u32], n: u32) -> u32
 }
 
 // Marks and sweeps a pool of n cells.
-pub fn collect_in(words: &mut [u32], n: u32) -> Collection
+pub fn collect_in(words: &mut [u32], n: u32) -> Answer
     requires { ⌜ (poolLength registerCount n ≤ length (now words)) × (n ≤ cellLimit) ⌝ }
-    ensures { λ r. ⌜ (collectionOutcome r, now (words .exit)) ≡ collectIn n (now (words .entry)) ⌝ }
+    ensures { λ r. ⌜ (answerOutcome r, now (words .exit)) ≡ collectIn n (now (words .entry)) ⌝ }
 {
     if pool::well_formed(words, n) {
         let visits = mark(words, n);
         let kept = pool::sweep(words, n);
-        Collection::Kept { kept, visits }
+        Answer::Pair(kept, visits)
     } else {
-        Collection::Refused(Refusal::Malformed)
+        Answer::Refused(Refusal::Malformed)
     }
 }
 
 // Keeps exactly the cells that the registers reach, and frees all others.
-pub fn collect(words: &mut [u32]) -> Collection
-    ensures { λ r. ⌜ (collectionOutcome r, now (words .exit)) ≡ collectOf (now (words .entry)) ⌝ }
+pub fn collect(words: &mut [u32]) -> Answer
+    ensures { λ r. ⌜ (answerOutcome r, now (words .exit)) ≡ collectOf (now (words .entry)) ⌝ }
 {
     let n = pool::cells(words);
     if n == 0 {
-        return Collection::Refused(Refusal::Size);
+        return Answer::Refused(Refusal::Size);
     }
     collect_in(words, n)
 }

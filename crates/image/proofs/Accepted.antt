@@ -9,9 +9,9 @@ use lib.Dec.{ltb}
 use borrow.Author.Tests.{ltb-true}
 use Rattle.pool.specs.Layout.{registerCount, cellsOfLength, cellsOf}
 use Rattle.pool.specs.Validity.{wellFormed}
-use Rattle.pool.specs.Outcome.{refusalNumber}
-use Rattle.pool.specs.declared.Refusal.{Refusal}
-use Rattle.pool.specs.declared.Refusal.the-variants as refusal
+use Rattle.answers.specs.Outcome.{refusalNumber}
+use Rattle.answers.specs.declared.Refusal.{Refusal}
+use Rattle.answers.specs.declared.Refusal.the-variants as refusal
 use Rattle.pool.proofs.Questions.{length-sized}
 use Rattle.pool.proofs.WellFormed.{well-formed-made}
 use Rattle.image.specs.Image.{fieldCount, Image, readImage}

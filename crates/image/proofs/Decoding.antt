@@ -10,7 +10,7 @@ use borrow.Author.Tests.{le-leb}
 use Rattle.leb128.specs.Leb128.{encode, readAt}
 use Rattle.leb128.specs.declared.Number.the-variants as number
 use Rattle.leb128.proofs.Theorems.{round-trip}
-use Rattle.pool.specs.declared.Refusal.the-variants as refusal
+use Rattle.answers.specs.declared.Refusal.the-variants as refusal
 use Rattle.image.specs.declared.Field.the-variants as field
 use Rattle.image.specs.Image.{isValue, fieldCount, encodeAll, bounded, countAt, fieldAt, Fields, consField, readFields, Image, withFields, readImage}
 use Rattle.image.proofs.Scanning.{fields-first, bounded-value, image-fields}

@@ -9,7 +9,7 @@ use lib.Seq.{getD-drop, drop-drop}
 use lib.Dec.{eqb}
 use mathlib.Core.Bool.{false}
 use borrow.Author.Tests.{lt-leb, le-leb}
-use Rattle.pool.specs.declared.Refusal.{Refusal}
+use Rattle.answers.specs.declared.Refusal.{Refusal}
 use Rattle.image.specs.declared.Field.{Field}
 use Rattle.image.specs.declared.Field.the-variants as field
 use Rattle.image.specs.declared.Scan.{Scan}

@@ -10,7 +10,7 @@ use lib.Seq.{getD-set-same, getD-set-other}
 use lib.Dec.{eqb}
 use borrow.Author.Tests.{lt-ltb, le-ltb}
 use Rattle.pool.specs.Layout.{poolLength, cellAt, setRegister, setCell}
-use Rattle.pool.specs.declared.Refusal.{Refusal}
+use Rattle.answers.specs.declared.Refusal.{Refusal}
 use Rattle.image.specs.declared.Field.{Field}
 use Rattle.image.specs.declared.Field.the-variants as field
 use Rattle.image.specs.Image.{fieldCount, fieldOf, fieldAt, readFields}

@@ -13,8 +13,8 @@ use Rattle.leb128.specs.Leb128.{Bytes}
 use Rattle.pool.specs.Words.{tabulate}
 use Rattle.pool.specs.Layout.{registerCount, poolLength, cellsOfLength, cellAt, count, head, register, cell, state}
 use Rattle.pool.specs.Retain.{lowestFree, freeAbove, keptField, freeField, retainedField, retain, marked, sweepOf}
-use Rattle.pool.specs.Outcome.{refusalNumber}
-use Rattle.pool.specs.declared.Refusal.{Refusal}
+use Rattle.answers.specs.Outcome.{refusalNumber}
+use Rattle.answers.specs.declared.Refusal.{Refusal}
 use Rattle.pool.proofs.Every.{length-tabulate, getD-tabulate}
 use Rattle.pool.proofs.Questions.{Sized, length-sized}
 use Rattle.pool.proofs.Retained.{length-retain, retain-count, retain-head, retain-register, retain-cell}

@@ -12,8 +12,8 @@ use Rattle.leb128.specs.declared.Number.{Number}
 use Rattle.leb128.specs.declared.Number.the-variants as number
 use Rattle.leb128.proofs.Theorems.{reads-within}
 use Rattle.pool.specs.Layout.{cellLimit, registerCount}
-use Rattle.pool.specs.Outcome.{refusalNumber}
-use Rattle.pool.specs.declared.Refusal.{Refusal}
+use Rattle.answers.specs.Outcome.{refusalNumber}
+use Rattle.answers.specs.declared.Refusal.{Refusal}
 use Rattle.image.specs.declared.Field.{Field}
 use Rattle.image.specs.declared.Field.the-variants as field
 use Rattle.image.specs.declared.Scan.{Scan}

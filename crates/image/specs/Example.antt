@@ -2,7 +2,7 @@
 use Prim.Native.Nat.{ℕ}
 use mathlib.Core.Path.{_≡_}
 use mathlib.Core.List.{List, [], _∷_}
-use Rattle.pool.specs.declared.Refusal.the-variants as refusal
+use Rattle.answers.specs.declared.Refusal.the-variants as refusal
 use Rattle.image.specs.Image.{imageOf, Image, readImage}
 
 -- Register 0 holds cell 2, which leads left to itself and right to cell 1 and has the value 300; cell 1 has no links and the value 7.

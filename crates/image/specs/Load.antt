@@ -9,7 +9,7 @@ use Rattle.pool.specs.Words.{tabulate}
 use Rattle.pool.specs.Layout.{registerCount, cellLimit, poolLength, cellsOfLength, cellsOf, cellAt, setCell}
 use Rattle.pool.specs.Validity.{wellFormed}
 use Rattle.pool.specs.Retain.{retain}
-use Rattle.pool.specs.Outcome.{refusalNumber}
+use Rattle.answers.specs.Outcome.{refusalNumber}
 use Rattle.image.specs.declared.Scan.{Scan}
 use Rattle.image.specs.declared.Scan.the-variants as scan
 use Rattle.image.specs.declared.Loaded.{Loaded}

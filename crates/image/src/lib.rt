@@ -1,7 +1,7 @@
 // Saved images of a pool: load, and the check of an image.
+use answers::Refusal;
 use leb128::Number;
 use pool::Pool;
-use pool::Refusal;
 ghost use mathlib.Core.Path.{_≡_};
 ghost use Prim.Native.Nat.{_+_, _<_, _≤_};
 ghost use lib.ListN.{length};

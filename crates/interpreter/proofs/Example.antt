@@ -6,7 +6,7 @@ use Rattle.pool.specs.Layout.{cellsOfLength, count, cellsOf, head, setHead, reg
 use Rattle.pool.specs.Retain.{lowestFree, retain}
 use Rattle.script.specs.Lines.{firstWord, laterWords, all, isNumber, command, lineOf, parseLine}
 use Rattle.script.specs.Scripts.{linesOf}
-use Rattle.script.specs.Replies.{digits, decimal, spaced}
+use Rattle.replies.specs.Replies.{digits, decimal, spaced}
 use Rattle.interpreter.specs.Execute.{transcript}
 use Rattle.interpreter.specs.Example.{bytesOf, TranscriptExample}
 

@@ -9,25 +9,17 @@ use lib.Seq.{length-take-le}
 use lib.Dec.{leb, ltb}
 use borrow.Author.Tests.{lt-ltb, le-leb, ltb-true, leb-true}
 use Rattle.pool.specs.Layout.{cellLimit, registerCount, poolLength}
-use Rattle.pool.specs.Outcome.{Outcome, answered, refused, freshOutcome}
+use Rattle.answers.specs.Outcome.{Outcome, answered, refused}
 use Rattle.pool.specs.Calls.{freshOf}
 use Rattle.pool.specs.Retain.{freshWords}
-use Rattle.pool.specs.declared.Fresh.{Fresh}
-use Rattle.pool.specs.declared.Fresh.the-variants as fresh
 use Rattle.pool.proofs.Questions.{both, sized-length}
 use Rattle.calls.specs.declared.Call.{Call}
 use Rattle.calls.specs.Calls.{callOf}
 use Rattle.script.specs.declared.Line.{Line}
 use Rattle.script.specs.declared.Line.the-variants as line
-use Rattle.script.specs.declared.Reply.{Reply}
-use Rattle.script.specs.declared.Reply.the-variants as reply
-use Rattle.script.specs.Replies.{replyText, freshReply}
-use Rattle.interpreter.specs.Execute.{outcomeText, fits, sizeOf, usedOf, executeOf}
-
--- the reply to a new pool: its number of cells is not printed
-fresh-text : (f : Fresh) (n : ℕ) → freshOutcome f ≡ answered (n ∷ []) → replyText (freshReply f) ≡ outcomeText (answered [])
-fresh-text (fresh.Made m) n e = refl
-fresh-text (fresh.Refused k) n e = let z : _≡_ {A = ℕ} 0 1 = cc in absurd (omega arith)
+use Rattle.replies.specs.declared.Reply.the-variants as reply
+use Rattle.replies.specs.Replies.{outcomeText, replyText}
+use Rattle.interpreter.specs.Execute.{fits, sizeOf, usedOf, executeOf}
 
 -- a pool that fits: its bounds
 pub record Fitting (room n : ℕ) : Type 0 where
@@ -116,15 +108,13 @@ module _ (w : List ℕ) (used n size : ℕ) (sized : size ≡ sizeOf (length w) 
   fresh-part = simp (part-long, sized-length registerCount n (size-fitting .least) (size-fitting .most), lt-ltb 0 n (size-fitting .least))
 
   pub fresh-made :
-      (f : Fresh) (r : Reply) (part : List ℕ) → r ≡ freshReply f → (freshOutcome f, part) ≡ freshOf (take size w)
-      → length part ≡ length (take size w) → (replyText r, size, part ++ drop size w) ≡ executeOf (line.Fresh n) used w
+      (f : Outcome) (part : List ℕ) → (f, part) ≡ freshOf (take size w)
+      → length part ≡ length (take size w) → (outcomeText (answered []), size, part ++ drop size w) ≡ executeOf (line.Fresh n) used w
   unfolding executeOf
-  fresh-made f r part is after same =
-      let both-are : _≡_ {A = Outcome × List ℕ} (freshOutcome f, part) (answered (n ∷ []), freshWords registerCount n) = after ∙ fresh-part in
-      let text : replyText r ≡ outcomeText (answered []) = ap replyText is ∙ fresh-text f n (ap (λ (o : Outcome × List ℕ). o .0) both-are) in
-      let words : part ≡ freshWords registerCount n = ap (λ (o : Outcome × List ℕ). o .1) both-are in
+  fresh-made f part after same =
+      let words : part ≡ freshWords registerCount n = ap (λ (o : Outcome × List ℕ). o .1) (after ∙ fresh-part) in
       let long : length part ≡ size = same ∙ part-long ∙ sym size-exact in
-      simp (fitting-fits (length w) n size-fitting, text, ← words, long)
+      simp (fitting-fits (length w) n size-fitting, ← words, long)
 
 -- asked twice, the pool's words are the same
 pub settled : (l : Line) (used pool : ℕ) (w : List ℕ) → pool ≡ usedOf (length w) used → executeOf l pool w ≡ executeOf l used w

@@ -15,11 +15,11 @@ use Rattle.script.specs.declared.Line.{Line}
 use Rattle.script.specs.declared.LineReader.{LineReader}
 use Rattle.script.specs.declared.Found.{Found}
 use Rattle.script.specs.declared.Found.the-variants as found
-use Rattle.script.specs.declared.Written.{Written}
-use Rattle.script.specs.declared.Written.the-variants as written
+use Rattle.replies.specs.declared.Written.{Written}
+use Rattle.replies.specs.declared.Written.the-variants as written
 use Rattle.script.specs.Reader.{newReader, feedOf, endOf}
 use Rattle.script.specs.Scripts.{nextLine}
-use Rattle.script.specs.Replies.{replyRoom, writeAt}
+use Rattle.replies.specs.Replies.{replyRoom, writeAt}
 use Rattle.script.proofs.Scanning.{parts-read}
 use Rattle.interpreter.specs.Execute.{turnOf, poolOf, withPool, executeOf, transcript}
 use Rattle.interpreter.specs.Work.{waiting, remaining, GoesOn, HasRoom, LineRun, Advanced, Worked}

@@ -7,20 +7,14 @@ use lib.ListN.{length, take, drop}
 use lib.Dec.{leb, ltb}
 use Rattle.pool.specs.Layout.{cellLimit, registerCount, poolLength}
 use Rattle.pool.specs.Retain.{freshWords}
-use Rattle.pool.specs.Outcome.{Outcome, answered, allocated, refused}
+use Rattle.answers.specs.Outcome.{answered, refused}
 use Rattle.calls.specs.Calls.{callOf}
 use Rattle.script.specs.declared.Line.{Line}
 use Rattle.script.specs.declared.Line.the-variants as line
-use Rattle.script.specs.declared.Reply.the-variants as reply
+use Rattle.replies.specs.declared.Reply.the-variants as reply
 use Rattle.script.specs.Lines.{parseLine}
 use Rattle.script.specs.Scripts.{linesOf}
-use Rattle.script.specs.Replies.{spaced, replyText}
-
--- "It prints "ok" and the answer's numbers (visits only for g), or "no" and the refusal": those of an allocation are not printed.
-abbrev pub outcomeText : Outcome → List ℕ
-outcomeText (answered numbers) = code "o" ∷ code "k" ∷ spaced numbers
-outcomeText (allocated visits) = code "o" ∷ code "k" ∷ spaced []
-outcomeText (refused k) = code "n" ∷ code "o" ∷ spaced (k ∷ [])
+use Rattle.replies.specs.Replies.{outcomeText, replyText}
 
 -- Is there a pool of n cells, and room for its words?
 abbrev pub fits : ℕ → ℕ → Bool

@@ -10,7 +10,7 @@ use Rattle.pool.specs.Layout.{cellLimit, registerCount, poolLength}
 use Rattle.script.specs.declared.Line.{Line}
 use Rattle.script.specs.Reader.{newReader, begunOf}
 use Rattle.script.specs.Scripts.{readScript}
-use Rattle.script.specs.Replies.{replyRoom}
+use Rattle.replies.specs.Replies.{replyRoom}
 use Rattle.interpreter.specs.Execute.{turnOf, poolOf, transcript, printed}
 use Rattle.interpreter.specs.declared.Progress.{Progress}
 

@@ -1,21 +1,20 @@
 // Scripts on a pool: what a line does to the pool, and what is printed for it.
 use answers::Answer;
+use answers::Refusal;
 use calls::Call;
 use pool::Pool;
-use pool::Refusal;
+use replies::Reply;
+use replies::Written;
 use script::Found;
 use script::Line;
 use script::LineReader;
-use script::Reply;
-use script::Written;
 ghost use mathlib.Core.Path.{_≡_};
 ghost use Prim.Native.Nat.{_+_, _≤_};
 ghost use mathlib.Core.Bool.{_&&_};
 ghost use lib.Dec.{leb, ltb};
 ghost use lib.ListN.{length};
-ghost use Rattle.answers.specs.Answers.{answerOutcome};
-ghost use Rattle.script.specs.Replies.{replyText, replyRoom};
-ghost use Rattle.interpreter.specs.Execute.{outcomeText, usedOf, sizeOf, executeOf};
+ghost use Rattle.replies.specs.Replies.{replyText, replyRoom};
+ghost use Rattle.interpreter.specs.Execute.{usedOf, sizeOf, executeOf};
 ghost use Rattle.interpreter.specs.Work.{HasRoom, LineRun, Advanced, Worked, start, handed};
 
 // What a line leaves beside the words: how many of them are the pool's, and what is printed.
@@ -69,13 +68,13 @@ fn make(words: &mut [u32], used: usize, n: u32) -> Turn
     if size == 0 {
         return Turn {
             used,
-            reply: Reply::Refused(Refusal::Size),
+            reply: Reply::Answered(Answer::Refused(Refusal::Size)),
         };
     }
-    let fresh = Pool::fresh(&mut words[..size]);
+    Pool::fresh(&mut words[..size]);
     Turn {
         used: size,
-        reply: Reply::of_fresh(fresh),
+        reply: Reply::Answered(Answer::Done),
     }
 }
 
@@ -88,20 +87,7 @@ fn run(words: &mut [u32], used: usize, call: Call) -> Turn
     let answer = step.answer;
     Turn {
         used,
-        reply: reply_to(answer),
-    }
-}
-
-// The reply to a call: the numbers of its answer, but for the visits of an allocation.
-pub fn reply_to(answer: Answer) -> Reply
-    ensures { λ r. ⌜ replyText r ≡ outcomeText (answerOutcome answer) ⌝ }
-{
-    match answer {
-        Answer::Done => Reply::Done,
-        Answer::Allocated { visits: _ } => Reply::Done,
-        Answer::Number(x) => Reply::Number(x),
-        Answer::Collected { kept, visits } => Reply::Collected { kept, visits },
-        Answer::Refused(refusal) => Reply::Refused(refusal),
+        reply: Reply::Answered(answer),
     }
 }
 
@@ -194,7 +180,7 @@ fn run_line(words: &mut [u32], out: &mut [u8], p: Progress, line: Line, next: us
 {
     let turn = execute(words, p.used, line);
     let reply = turn.reply;
-    match script::write_reply(out, p.put, reply) {
+    match replies::write_reply(out, p.put, reply) {
         Written::Next(put) => Progress {
             used: turn.used,
             reader: LineReader::new(),

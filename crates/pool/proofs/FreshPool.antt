@@ -9,7 +9,7 @@ use borrow.Author.Tests.{lt-ltb}
 use Rattle.pool.specs.Words.{tabulate}
 use Rattle.pool.specs.Layout.{registerCount, poolLength, cellsOfLength, cellAt, cell, register, count}
 use Rattle.pool.specs.Retain.{freeCells, marked, sweepOf, freshWords}
-use Rattle.pool.specs.Outcome.{Outcome, answered}
+use Rattle.answers.specs.Outcome.{Outcome, answered}
 use Rattle.pool.specs.Calls.{freshOf}
 use Rattle.pool.specs.FreshPool.{FreshIsWellFormed, FreshIsFree}
 use Rattle.pool.proofs.Questions.{length-sized, sized-length, same-count}

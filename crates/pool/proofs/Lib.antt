@@ -8,4 +8,3 @@ pub mod RetainedPool
 pub mod AllKept
 pub mod FreshPool
 pub mod RegisterLinks
-pub mod Determined

@@ -4,7 +4,7 @@ use mathlib.Core.List.{List, [], _∷_}
 use mathlib.Core.Bool.{Bool, cond, _&&_}
 use lib.ListN.{length}
 use lib.Dec.{leb, ltb}
-use Rattle.pool.specs.declared.Refusal.the-variants as refusal
+use Rattle.answers.specs.declared.Refusal.the-variants as refusal
 use Rattle.pool.specs.declared.Admitted.{Admitted}
 use Rattle.pool.specs.declared.Admitted.the-variants as admitted
 use Rattle.pool.specs.declared.Held.{Held}
@@ -12,7 +12,7 @@ use Rattle.pool.specs.declared.Held.the-variants as held
 use Rattle.pool.specs.Layout.{cellLimit, registerCount, cellsOfLength, cellsOf, register}
 use Rattle.pool.specs.Validity.{validLink}
 use Rattle.pool.specs.Retain.{freshWords}
-use Rattle.pool.specs.Outcome.{Outcome, answered, refused}
+use Rattle.answers.specs.Outcome.{Outcome, answered, refused}
 
 -- Fresh: "N from the length alone", refusal 1 where there is none; refused, nothing changes.
 abbrev pub freshOf : List ℕ → Outcome × List ℕ

@@ -2,55 +2,19 @@
 // well-formed pool, the sweep that rebuilds the free list, and the occupancy.
 //
 // Functions that take the number of cells, n, ask that the words hold at least n cells; the exported calls find n by themselves.
+use answers::Answer;
+use answers::Refusal;
 ghost use mathlib.Core.Path.{_≡_};
 ghost use Prim.Native.Nat.{_+_, _<_, _≤_};
 ghost use lib.ListN.{length, replicate};
 ghost use Rattle.pool.specs.Layout.{registerCount, poolLength, cellsOfLength, cellsOf, cell, setCell, register, setRegister, head, setHead};
 ghost use Rattle.pool.specs.Validity.{validLink, validCell, registersValid, cellsValid, wellFormed};
 ghost use Rattle.pool.specs.Retain.{sweepOf, freeCell};
-ghost use Rattle.pool.specs.Outcome.{refusalNumber, freshOutcome, occupiedOutcome};
+ghost use Rattle.answers.specs.Outcome.{answerOutcome};
 ghost use Rattle.pool.specs.Calls.{freshOf, occupancyOf, admitOf, heldOf};
 
 // The pool: its limits, and where everything stands in its words.
 pub struct Pool {}
-
-// Why a call is refused.
-pub enum Refusal {
-    // The words are no pool: their length, or their number of cells; or N or the kept cells are out of range.
-    Size,
-    // No such register.
-    Register,
-    // A register that is read, a link, the head or the pool is malformed.
-    Malformed,
-    // The register holds no cell.
-    Nil,
-    // No cell is free, also after a collection.
-    Full,
-    // The bytes end within a number.
-    Truncated,
-    // A number of 2^32 or more.
-    OutOfRange,
-    // A link of an image past its cells.
-    LinkRange,
-    // An image of more cells than the pool has.
-    TooManyCells,
-    // Too little room is lent.
-    NoRoom,
-    // The pool is too large for the recursive marker.
-    TooLarge,
-}
-
-// What `fresh` answers: the number of cells, or the refusal.
-pub enum Fresh {
-    Made(u32),
-    Refused(Refusal),
-}
-
-// What `occupancy` answers: the percent, or the refusal.
-pub enum Occupied {
-    Percent(u32),
-    Refused(Refusal),
-}
 
 // The first two questions of every call: the number of cells, or the refusal.
 pub enum Admitted {
@@ -62,27 +26,6 @@ pub enum Admitted {
 pub enum Held {
     Link(u32),
     Malformed,
-}
-
-impl Refusal {
-    // The number that the interface gives this refusal.
-    pub fn number(self) -> u32
-        ensures { λ r. ⌜ r ≡ refusalNumber self ⌝ }
-    {
-        match self {
-            Refusal::Size => 1,
-            Refusal::Register => 2,
-            Refusal::Malformed => 3,
-            Refusal::Nil => 4,
-            Refusal::Full => 5,
-            Refusal::Truncated => 6,
-            Refusal::OutOfRange => 7,
-            Refusal::LinkRange => 8,
-            Refusal::TooManyCells => 9,
-            Refusal::NoRoom => 10,
-            Refusal::TooLarge => 11,
-        }
-    }
 }
 
 impl Pool {
@@ -119,17 +62,17 @@ impl Pool {
     pub const FREE: u32 = 4;
 
     // Makes the words a pool of as many cells as they hold, all of them free and all registers nil.
-    pub fn fresh(words: &mut [u32]) -> Fresh
-        ensures { λ r. ⌜ (freshOutcome r, now (words .exit)) ≡ freshOf (now (words .entry)) ⌝ }
+    pub fn fresh(words: &mut [u32]) -> Answer
+        ensures { λ r. ⌜ (answerOutcome r, now (words .exit)) ≡ freshOf (now (words .entry)) ⌝ }
     {
         let n = cells_of_length(words.len());
         if n == 0 {
-            return Fresh::Refused(Refusal::Size);
+            return Answer::Refused(Refusal::Size);
         }
         clear(words);
         words[Pool::COUNT] = n;
         sweep(words, n);
-        Fresh::Made(n)
+        Answer::Number(n)
     }
 }
 
@@ -181,19 +124,19 @@ pub fn admit(words: &[u32], r: u32, a: u32, b: u32) -> Admitted
 }
 
 // The percent of the cells that are kept, rounded down.
-pub fn occupancy(kept: u32, n: u32) -> Occupied
-    ensures { λ r. ⌜ occupiedOutcome r ≡ occupancyOf kept n ⌝ }
+pub fn occupancy(kept: u32, n: u32) -> Answer
+    ensures { λ r. ⌜ answerOutcome r ≡ occupancyOf kept n ⌝ }
 {
     if n < 1 {
-        return Occupied::Refused(Refusal::Size);
+        return Answer::Refused(Refusal::Size);
     }
     if Pool::CELLS < n {
-        return Occupied::Refused(Refusal::Size);
+        return Answer::Refused(Refusal::Size);
     }
     if n < kept {
-        return Occupied::Refused(Refusal::Size);
+        return Answer::Refused(Refusal::Size);
     }
-    Occupied::Percent(100 * kept / n)
+    Answer::Number(100 * kept / n)
 }
 
 pub fn read_cell(words: &[u32], i: u32, field: usize) -> u32

@@ -8,7 +8,7 @@ use Rattle.graph.specs.Graph.{Graph}
 use Rattle.graph.specs.Dfs.{Dfs}
 use Rattle.graph.specs.Marking.{marked}
 use Rattle.pool.specs.Layout.{registerCount, cellsOf}
-use Rattle.pool.specs.Outcome.{Outcome, refused}
+use Rattle.answers.specs.Outcome.{Outcome, refused}
 use Rattle.collector.specs.Collect.{collectIn}
 use Rattle.collector.specs.Reversal.{markAll}
 use Rattle.collector.specs.ReversalTheorem.{Agreement}

@@ -1,7 +1,7 @@
 // The recursive procedure of source document 000 as a marker, for pools of at most 64 cells (01: bench marker).
-use collector::Collection;
+use answers::Answer;
+use answers::Refusal;
 use pool::Pool;
-use pool::Refusal;
 ghost use mathlib.Core.Path.{_≡_};
 ghost use Prim.Native.Nat.{ℕ, _≤_};
 ghost use mathlib.Core.List.{List};
@@ -10,7 +10,8 @@ ghost use lib.ListN.{length};
 ghost use Rattle.pool.specs.Layout.{registerCount, poolLength};
 ghost use Rattle.pool.specs.Validity.{wellFormed};
 ghost use Rattle.collector.specs.ReversalTheorem.{markedOf};
-ghost use Rattle.collector.specs.Collect.{collectIn, collectionOutcome};
+ghost use Rattle.answers.specs.Outcome.{answerOutcome};
+ghost use Rattle.collector.specs.Collect.{collectIn};
 ghost use Rattle.recursive_marker.specs.Recursive.{recursionLimit, recursiveOf, Visitable, visited};
 
 // The most cells of a pool that is marked so. In a chain of so many the visit of the first cell has depth 64, that of the last depth 1, and the
@@ -51,29 +52,29 @@ fn mark(words: &mut [u32], n: u32) -> u32
 }
 
 // Marks and sweeps a pool of n cells.
-fn collect_in(words: &mut [u32], n: u32) -> Collection
+fn collect_in(words: &mut [u32], n: u32) -> Answer
     requires { ⌜ (poolLength registerCount n ≤ length (now words)) × (n ≤ recursionLimit) ⌝ }
-    ensures { λ r. ⌜ (collectionOutcome r, now (words .exit)) ≡ collectIn n (now (words .entry)) ⌝ }
+    ensures { λ r. ⌜ (answerOutcome r, now (words .exit)) ≡ collectIn n (now (words .entry)) ⌝ }
 {
     if pool::well_formed(words, n) {
         let visits = mark(words, n);
         let kept = pool::sweep(words, n);
-        Collection::Kept { kept, visits }
+        Answer::Pair(kept, visits)
     } else {
-        Collection::Refused(Refusal::Malformed)
+        Answer::Refused(Refusal::Malformed)
     }
 }
 
 // Collects a pool of at most 64 cells: the answer and the words are those of `collect`.
-pub fn collect_recursive(words: &mut [u32]) -> Collection
-    ensures { λ r. ⌜ (collectionOutcome r, now (words .exit)) ≡ recursiveOf (now (words .entry)) ⌝ }
+pub fn collect_recursive(words: &mut [u32]) -> Answer
+    ensures { λ r. ⌜ (answerOutcome r, now (words .exit)) ≡ recursiveOf (now (words .entry)) ⌝ }
 {
     let n = pool::cells(words);
     if n == 0 {
-        return Collection::Refused(Refusal::Size);
+        return Answer::Refused(Refusal::Size);
     }
     if DEPTH < n {
-        return Collection::Refused(Refusal::TooLarge);
+        return Answer::Refused(Refusal::TooLarge);
     }
     collect_in(words, n)
 }

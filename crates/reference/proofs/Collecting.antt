@@ -7,7 +7,7 @@ use borrow.Author.Tests.{lt-ltb}
 use Rattle.graph.specs.Graph.{Reach}
 use Rattle.graph.proofs.Pairing.{paired-reach}
 use Rattle.pool.specs.Layout.{registerCount, cell, graphOf, rootsOf}
-use Rattle.pool.specs.Outcome.{answered}
+use Rattle.answers.specs.Outcome.{answered}
 use Rattle.pool.proofs.Retained.{length-retain, retain-count, retain-register}
 use Rattle.pool.proofs.WellFormed.{well-formed-made}
 use Rattle.collector.specs.Collect.{isReached, collected, collectOf}

@@ -10,9 +10,9 @@ use lib.Dec.{eqb, leb, ltb}
 use Rattle.pool.specs.Layout.{registerCount, cellsOf, register, setRegister, cell, setCell, value, head}
 use Rattle.pool.specs.Validity.{validLink, wellFormed}
 use Rattle.pool.specs.Calls.{holdsLink}
-use Rattle.pool.specs.Outcome.{Outcome, answered, allocated, refused, status, given}
+use Rattle.answers.specs.Outcome.{Outcome, answered, allocated, refused, status, given}
 use Rattle.pool.specs.declared.Admitted.the-variants as admitted
-use Rattle.pool.specs.declared.Refusal.the-variants as refusal
+use Rattle.answers.specs.declared.Refusal.the-variants as refusal
 use Rattle.collector.specs.Collect.{collected}
 use Rattle.allocator.specs.Allocation.{goodHead, takeCollected, newIn}
 use Rattle.calls.specs.declared.Call.{Call}

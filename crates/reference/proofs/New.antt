@@ -11,7 +11,7 @@ use Rattle.graph.proofs.Lists.{each-cons}
 use Rattle.graph.proofs.Marks.{zero-or-above}
 use Rattle.graph.proofs.Theorems.{order-reached, order-distinct}
 use Rattle.pool.specs.Layout.{registerCount, head, register, state, left, graphOf, rootsOf}
-use Rattle.pool.specs.Outcome.{answered, allocated, refused}
+use Rattle.answers.specs.Outcome.{answered, allocated, refused}
 use Rattle.pool.proofs.PoolGraph.{reached-used, pool-within}
 use Rattle.pool.proofs.Retained.{retain-register}
 use Rattle.pool.proofs.WellFormed.{well-formed-made}

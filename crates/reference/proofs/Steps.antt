@@ -11,7 +11,7 @@ use borrow.Author.Tests.{lt-ltb, ltb-true, eq-eqb, ne-eqb}
 use Rattle.graph.proofs.Marks.{zero-or-above}
 use Rattle.pool.specs.Layout.{registerCount, register, setRegister, cell, setCell, value}
 use Rattle.pool.specs.Calls.{holdsLink}
-use Rattle.pool.specs.Outcome.{Outcome, answered, refused}
+use Rattle.answers.specs.Outcome.{Outcome, answered, refused}
 use Rattle.pool.proofs.Questions.{both}
 use Rattle.pool.proofs.WellFormed.{Link, link-made}
 use Rattle.calls.specs.Calls.{asked, withCell, copyIn, clearIn, followIn, linkIn, setValueIn, valueIn, sameIn}

@@ -9,7 +9,7 @@ use Rattle.graph.specs.Theorems.{Distinct}
 use Rattle.pool.specs.Layout.{registerCount, cellLimit, cellsOf, state}
 use Rattle.pool.specs.Validity.{wellFormed}
 use Rattle.pool.specs.Retain.{freshWords, freeList}
-use Rattle.pool.specs.Outcome.{Outcome, answered, allocated, refused}
+use Rattle.answers.specs.Outcome.{Outcome, answered, allocated, refused}
 use Rattle.calls.specs.declared.Call.{Call}
 use Rattle.calls.specs.declared.Call.the-variants as call
 use Rattle.batch.specs.Run.{afterAll}

@@ -5,7 +5,7 @@ use mathlib.Core.List.{List, [], _∷_}
 use mathlib.Core.Bool.{Bool, true, false}
 use Rattle.pool.specs.Layout.{registerCount}
 use Rattle.pool.specs.Retain.{freshWords}
-use Rattle.pool.specs.Outcome.{Outcome, answered, refused}
+use Rattle.answers.specs.Outcome.{Outcome, answered, refused}
 use Rattle.calls.specs.declared.Call.{Call}
 use Rattle.calls.specs.declared.Call.the-variants as call
 use Rattle.reference.specs.Model.{empty}

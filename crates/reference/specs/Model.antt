@@ -7,7 +7,7 @@ use lib.Dec.{eqb, leb, ltb}
 use Rattle.graph.specs.Graph.{Graph}
 use Rattle.graph.specs.Order.{order}
 use Rattle.pool.specs.Layout.{registerCount}
-use Rattle.pool.specs.Outcome.{Outcome, answered, refused}
+use Rattle.answers.specs.Outcome.{Outcome, answered, refused}
 use Rattle.calls.specs.declared.Call.{Call}
 use Rattle.calls.specs.declared.Call.the-variants as call
 

@@ -9,7 +9,7 @@ use lib.ListN.{length, take, length-append}
 use lib.Seq.{length-take-le}
 use Rattle.script.specs.Reader.{endOf, begunOf}
 use Rattle.script.specs.Scripts.{readScript}
-use Rattle.script.specs.Replies.{replyRoom}
+use Rattle.replies.specs.Replies.{replyRoom}
 use Rattle.interpreter.specs.Execute.{transcript, printed}
 use Rattle.interpreter.specs.Work.{remaining, handed, Worked}
 use Rattle.interpreter.specs.declared.Progress.{Progress}

@@ -8,7 +8,7 @@ ghost use mathlib.Core.Path.{_≡_};
 ghost use mathlib.Core.Bool.{true};
 ghost use Prim.Native.Nat.{_<_, _≤_};
 ghost use lib.ListN.{length};
-ghost use Rattle.script.specs.Replies.{replyRoom};
+ghost use Rattle.replies.specs.Replies.{replyRoom};
 ghost use Rattle.runscript.specs.Parts.{LinesRun, PartRun, Finished, ReadRun, Continued};
 
 // The words of the largest pool.

@@ -14,7 +14,7 @@ use Rattle.leb128.specs.Leb128.{encode}
 use Rattle.pool.specs.Words.{tabulate}
 use Rattle.pool.specs.Layout.{registerCount, cellLimit, cellsOfLength, cellsOf, cell, graphOf, rootsOf}
 use Rattle.pool.specs.Validity.{wellFormed}
-use Rattle.pool.specs.Outcome.{Outcome, answered, status, given}
+use Rattle.answers.specs.Outcome.{Outcome, answered, status, given}
 use Rattle.pool.proofs.Every.{length-tabulate, getD-tabulate, tabulate-list, tabulate-member}
 use Rattle.pool.proofs.Questions.{length-sized, cells-sized}
 use Rattle.pool.proofs.WellFormed.{WellFormed, well-formed-read, well-formed-made}

@@ -10,7 +10,7 @@ use Rattle.graph.proofs.Lists.{getD-member}
 use Rattle.graph.proofs.Theorems.{order-distinct}
 use Rattle.pool.specs.Layout.{registerCount, cellsOf, graphOf, rootsOf}
 use Rattle.pool.specs.Validity.{wellFormed}
-use Rattle.pool.specs.Outcome.{Outcome, answered, refused}
+use Rattle.answers.specs.Outcome.{Outcome, answered, refused}
 use Rattle.pool.proofs.Questions.{cells-sized}
 use Rattle.pool.proofs.WellFormed.{well-formed-read}
 use Rattle.pool.proofs.PoolGraph.{pool-within}

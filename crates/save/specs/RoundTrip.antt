@@ -9,7 +9,7 @@ use Rattle.pool.specs.Words.{tabulate}
 use Rattle.pool.specs.Layout.{registerCount, cellLimit, cellsOfLength, cellsOf, register, left, right, value}
 use Rattle.pool.specs.Validity.{wellFormed}
 use Rattle.pool.specs.Retain.{freeList, freeCells}
-use Rattle.pool.specs.Outcome.{answered}
+use Rattle.answers.specs.Outcome.{answered}
 use Rattle.collector.specs.Collect.{reachedCells, keptCells}
 use Rattle.image.specs.Image.{numberIn, encodeAll, Image, readImage}
 use Rattle.image.specs.Load.{loadedWords, loadOf}

@@ -6,7 +6,7 @@ use lib.ListN.{length, drop, replicate}
 use lib.Dec.{leb, ltb}
 use Rattle.pool.specs.Layout.{registerCount, cellsOf}
 use Rattle.pool.specs.Validity.{wellFormed}
-use Rattle.pool.specs.Outcome.{Outcome, answered, refused, refusalNumber, Determined}
+use Rattle.answers.specs.Outcome.{Outcome, answered, refused, refusalNumber, Determined}
 use Rattle.image.specs.Image.{imageOf}
 use Rattle.save.specs.declared.Saved.{Saved}
 use Rattle.save.specs.declared.Saved.the-variants as saved

@@ -1,7 +1,7 @@
 // The image of a pool, written to lent bytes.
+use answers::Refusal;
 use leb128::Written;
 use pool::Pool;
-use pool::Refusal;
 ghost use mathlib.Core.Path.{_≡_};
 ghost use mathlib.Core.List.{_++_};
 ghost use Prim.Native.Nat.{_+_, _*_, _<_, _≤_};

@@ -1,4 +1,3 @@
 pub mod Lines
 pub mod Reader
-pub mod Replies
 pub mod Scripts

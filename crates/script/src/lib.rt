@@ -1,7 +1,5 @@
-// The text of scripts: what a line says, read a byte at a time, and the text of a reply.
+// The text of scripts: what a line says, read a byte at a time.
 use calls::Call;
-use pool::Fresh;
-use pool::Refusal;
 ghost use Prim.Native.Nat.{_+_, _<_, _≤_};
 ghost use mathlib.Core.Path.{_≡_};
 ghost use mathlib.Core.List.{[], _∷_};
@@ -9,7 +7,6 @@ ghost use lib.ListN.{length, drop};
 ghost use Rattle.script.specs.Lines.{isDigit, command};
 ghost use Rattle.script.specs.Reader.{withoutNumbers, newReader, badReader, spaceOf, letterOf, digitOf, feedOf, endOf, begunOf};
 ghost use Rattle.script.specs.Scripts.{nextLine};
-ghost use Rattle.script.specs.Replies.{decimal, afterSpace, spaced, freshReply, replyText, replyRoom, Put, writeAt};
 
 // What a line says.
 pub enum Line {
@@ -295,133 +292,4 @@ fn four(letter: u8, x: u32, y: u32, z: u32, v: u32) -> Line
         }),
         _ => Line::Bad,
     }
-}
-
-// What is printed for a line.
-pub enum Reply {
-    Bad,
-    Done,
-    Number(u32),
-    Collected { kept: u32, visits: u32 },
-    Refused(Refusal),
-}
-
-// What a writer did.
-pub enum Written {
-    // It wrote the text; the place behind its last byte.
-    Next(usize),
-    // Too little room is left, and nothing was written.
-    NoRoom,
-}
-
-impl Reply {
-    // No text is longer: "ok", two numbers of ten digits, each after a space, and the line end.
-    pub const ROOM: usize = 25;
-
-    pub fn of_fresh(fresh: Fresh) -> Reply
-        ensures { λ r. ⌜ r ≡ freshReply fresh ⌝ }
-    {
-        match fresh {
-            Fresh::Made(_) => Reply::Done,
-            Fresh::Refused(refusal) => Reply::Refused(refusal),
-        }
-    }
-}
-
-// Writes the text of a reply at a place of `out`, if there is room for any.
-pub fn write_reply(out: &mut [u8], at: usize, reply: Reply) -> Written
-    ensures { λ r. ⌜ (r, now (out .exit)) ≡ writeAt (now (out .entry)) at (replyText reply) ⌝ }
-{
-    if out.len() < at {
-        return Written::NoRoom;
-    }
-    if out.len() - at < Reply::ROOM {
-        return Written::NoRoom;
-    }
-    Written::Next(put_reply(out, at, reply))
-}
-
-fn put_reply(out: &mut [u8], at: usize, reply: Reply) -> usize
-    requires { ⌜ at + replyRoom ≤ length (now out) ⌝ }
-    ensures { λ r. ⌜ Put (now (out .entry)) at (replyText reply) r (now (out .exit)) ⌝ }
-    ensures { λ _. ⌜ length (replyText reply) ≤ replyRoom ⌝ }
-{
-    match reply {
-        Reply::Bad => {
-            let next = put_two(out, at, b'b', b'a');
-            put_two(out, next, b'd', b'\n')
-        }
-        Reply::Done => {
-            let next = put_two(out, at, b'o', b'k');
-            put(out, next, b'\n')
-        }
-        Reply::Number(x) => {
-            let next = put_two(out, at, b'o', b'k');
-            put_number(out, next, x)
-        }
-        Reply::Collected { kept, visits } => {
-            let next = put_two(out, at, b'o', b'k');
-            put_numbers(out, next, kept, visits)
-        }
-        Reply::Refused(refusal) => {
-            let next = put_two(out, at, b'n', b'o');
-            put_number(out, next, refusal.number())
-        }
-    }
-}
-
-// Two numbers, each after a space, and the line end.
-fn put_numbers(out: &mut [u8], at: usize, x: u32, y: u32) -> usize
-    requires { ⌜ at + length (spaced (x ∷ y ∷ [])) ≤ length (now out) ⌝ }
-    ensures { λ r. ⌜ Put (now (out .entry)) at (spaced (x ∷ y ∷ [])) r (now (out .exit)) ⌝ }
-{
-    let next = put_spaced(out, at, x);
-    put_number(out, next, y)
-}
-
-// A number after a space, and the line end.
-fn put_number(out: &mut [u8], at: usize, x: u32) -> usize
-    requires { ⌜ at + length (spaced (x ∷ [])) ≤ length (now out) ⌝ }
-    ensures { λ r. ⌜ Put (now (out .entry)) at (spaced (x ∷ [])) r (now (out .exit)) ⌝ }
-{
-    let next = put_spaced(out, at, x);
-    put(out, next, b'\n')
-}
-
-// A number after a space.
-fn put_spaced(out: &mut [u8], at: usize, x: u32) -> usize
-    requires { ⌜ at + length (afterSpace x) ≤ length (now out) ⌝ }
-    ensures { λ r. ⌜ Put (now (out .entry)) at (afterSpace x) r (now (out .exit)) ⌝ }
-{
-    let next = put(out, at, b' ');
-    put_decimal(out, next, x)
-}
-
-// The digits of a number, the highest first.
-fn put_decimal(out: &mut [u8], at: usize, v: u32) -> usize
-    requires { ⌜ at + length (decimal v) ≤ length (now out) ⌝ }
-    ensures { λ r. ⌜ Put (now (out .entry)) at (decimal v) r (now (out .exit)) ⌝ }
-{
-    if v < 10 {
-        return put(out, at, b'0' + v as u8);
-    }
-    let next = put_decimal(out, at, v / 10);
-    put(out, next, b'0' + (v % 10) as u8)
-}
-
-fn put_two(out: &mut [u8], at: usize, a: u8, b: u8) -> usize
-    requires { ⌜ at + 2 ≤ length (now out) ⌝ }
-    ensures { λ r. ⌜ Put (now (out .entry)) at (a ∷ b ∷ []) r (now (out .exit)) ⌝ }
-{
-    out[at] = a;
-    out[at + 1] = b;
-    at + 2
-}
-
-fn put(out: &mut [u8], at: usize, b: u8) -> usize
-    requires { ⌜ at < length (now out) ⌝ }
-    ensures { λ r. ⌜ Put (now (out .entry)) at (b ∷ []) r (now (out .exit)) ⌝ }
-{
-    out[at] = b;
-    at + 1
 }

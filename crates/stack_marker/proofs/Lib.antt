@@ -10,4 +10,3 @@ pub mod RootLoop
 pub mod StackSweep
 pub mod StackCollects
 pub mod StackExample
-pub mod Determined

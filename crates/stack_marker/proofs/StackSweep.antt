@@ -9,7 +9,7 @@ use Rattle.graph.proofs.Reached.{reach-above, reach-within}
 use Rattle.pool.specs.Layout.{registerCount, poolLength, graphOf, rootsOf}
 use Rattle.pool.specs.Validity.{wellFormed}
 use Rattle.pool.specs.Retain.{sweepOf}
-use Rattle.pool.specs.Outcome.{Outcome, answered}
+use Rattle.answers.specs.Outcome.{Outcome, answered}
 use Rattle.pool.proofs.WellFormed.{well-formed-read}
 use Rattle.pool.proofs.PoolGraph.{pool-within}
 use Rattle.collector.specs.ReversalTheorem.{markedOf}
@@ -48,8 +48,8 @@ module _ (n : ℕ) (w stack w' : List ℕ) (well : wellFormed registerCount n w 
 pub stack-made : (n : ℕ) (w stack w₁ stack₁ w₂ stack₂ : List ℕ) (enough : Bool) (kept : ℕ) → wellFormed registerCount n w ≡ true
     → poolLength registerCount n ≤ length w → (enough ≡ isEnough n w stack) × (w₁ ≡ markedOf registerCount n w .1) → length stack₁ ≡ length stack
     → _≡_ {A = ℕ × List ℕ} (kept, w₂) (sweepOf registerCount n w₁) → stack₂ ≡ replicate (length stack₁) 0
-    → _≡_ {A = Outcome × List ℕ × List ℕ} (answered (kept ∷ cond enough 1 0 ∷ []), w₂, stack₂) (stackIn n w stack)
-stack-made n w stack w₁ stack₁ w₂ stack₂ enough kept well room mark lent sweep clear =
+    → {flag : ℕ} → flag ≡ cond enough 1 0 → _≡_ {A = Outcome × List ℕ × List ℕ} (answered (kept ∷ flag ∷ []), w₂, stack₂) (stackIn n w stack)
+stack-made n w stack w₁ stack₁ w₂ stack₂ enough kept well room mark lent sweep clear said =
     let swept : _≡_ {A = ℕ × List ℕ} (kept, w₂) (keptCells registerCount n w, collected registerCount n w) =
     sweep ∙ (ap (sweepOf registerCount n) (mark .1) ∙ swept-reached registerCount n w (well-formed-read registerCount n w well) room) in
-    rw (well, mark .0, clear, lent) (ap (λ (x : ℕ × List ℕ). (answered (x .0 ∷ cond (isEnough n w stack) 1 0 ∷ []), x .1, replicate (length stack) 0)) swept)
+    rw (well, said, mark .0, clear, lent) (ap (λ (x : ℕ × List ℕ). (answered (x .0 ∷ cond (isEnough n w stack) 1 0 ∷ []), x .1, replicate (length stack) 0)) swept)

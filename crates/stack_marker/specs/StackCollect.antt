@@ -7,26 +7,15 @@ use lib.Dec.{leb, ltb}
 use Rattle.pool.specs.Layout.{registerCount, cellsOf, setCell, graphOf, rootsOf}
 use Rattle.pool.specs.Validity.{wellFormed}
 use Rattle.pool.specs.Retain.{marked}
-use Rattle.pool.specs.Outcome.{Outcome, answered, refused, refusalNumber, Determined}
+use Rattle.answers.specs.Outcome.{Outcome, answered, refused}
 use Rattle.collector.specs.Collect.{keptCells, collected}
 use Rattle.stack_marker.specs.Stack.{mostEntries}
-use Rattle.stack_marker.specs.declared.StackCollection.{StackCollection}
-use Rattle.stack_marker.specs.declared.StackCollection.the-variants as collection
 
 -- "whether the stack was enough, yes exactly when Algorithm 2 never holds more entries than there are words"
 abbrev pub isEnough : ℕ → List ℕ → List ℕ → Bool
 isEnough n w stack = leb (mostEntries n (graphOf registerCount w) (rootsOf registerCount w)) (length stack)
 
--- What the call says: kept, and 1 where the stack was enough, 0 where not; or the refusal.
-abbrev pub stackOutcome : StackCollection → Outcome
-stackOutcome (collection.Kept kept enough) = answered (kept ∷ cond enough 1 0 ∷ [])
-stackOutcome (collection.Refused k) = refused (refusalNumber k)
-
--- What is said determines the answer, its case too.
-abbrev pub StackCollectionDetermined : Type 0
-StackCollectionDetermined = Determined StackCollection stackOutcome
-
--- A pool of n cells: "is the pool whole? .. No: 3". "The pool ends as after collect; the stack words end 0."
+-- A pool of n cells: "is the pool whole? .. No: 3". "Answers: kept, and whether the stack was enough", 1 for yes and 0 for no. "The pool ends as after collect; the stack words end 0."
 abbrev pub stackIn : ℕ → List ℕ → List ℕ → Outcome × List ℕ × List ℕ
 stackIn n w stack =
     cond (wellFormed registerCount n w)

@@ -3,7 +3,7 @@ use Prim.Native.Nat.{ℕ}
 use mathlib.Core.Path.{_≡_}
 use mathlib.Core.List.{List, [], _∷_, _++_}
 use lib.ListN.{replicate}
-use Rattle.pool.specs.Outcome.{answered}
+use Rattle.answers.specs.Outcome.{answered}
 use Rattle.stack_marker.specs.StackCollect.{stackOf}
 
 -- Register 0 holds cell 1, both of whose links lead to cell 2, a leaf.

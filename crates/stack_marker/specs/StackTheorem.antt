@@ -9,7 +9,7 @@ use lib.Dec.{ltb}
 use Rattle.graph.specs.Graph.{Graph, Reach, Within}
 use Rattle.pool.specs.Layout.{registerCount, cellsOf, graphOf, rootsOf}
 use Rattle.pool.specs.Validity.{wellFormed}
-use Rattle.pool.specs.Outcome.{answered}
+use Rattle.answers.specs.Outcome.{answered}
 use Rattle.collector.specs.Collect.{collectOf}
 use Rattle.stack_marker.specs.Stack.{isFresh, holding, run, runs, stackRun, stackMarked, mostEntries}
 use Rattle.stack_marker.specs.StackCollect.{stackOf}

@@ -1,21 +1,17 @@
 // Marking with a lent stack, and the collection that marks so.
+use answers::Answer;
+use answers::Refusal;
 use pool::Pool;
-use pool::Refusal;
 ghost use mathlib.Core.Path.{_≡_};
 ghost use Prim.Native.Nat.{_<_, _≤_};
 ghost use lib.ListN.{length};
-ghost use mathlib.Core.Bool.{true};
+ghost use mathlib.Core.Bool.{true, cond};
 ghost use Rattle.pool.specs.Layout.{registerCount, cellLimit, poolLength, left, right};
 ghost use Rattle.pool.specs.Validity.{wellFormed};
 ghost use Rattle.collector.specs.ReversalTheorem.{markedOf};
-ghost use Rattle.stack_marker.specs.StackCollect.{isEnough, stackOutcome, stackIn, stackOf, cleared};
+ghost use Rattle.answers.specs.Outcome.{answerOutcome};
+ghost use Rattle.stack_marker.specs.StackCollect.{isEnough, stackIn, stackOf, cleared};
 ghost use Rattle.stack_marker.specs.StackRun.{linksOf, onwardIn, Started, runFrom, poolRun, Ran};
-
-// What a collection with a lent stack answers.
-pub enum StackCollection {
-    Kept { kept: u32, enough: bool },
-    Refused(Refusal),
-}
 
 // Where the marker goes on to from a cell: with both links unmarked it goes to the left one and pushes the right one.
 enum Onward {
@@ -131,28 +127,35 @@ fn mark(words: &mut [u32], n: u32, stack: &mut [u32]) -> bool
     false
 }
 
-// Marks and sweeps a pool of n cells, and sets the lent words to 0.
-fn collect_in(words: &mut [u32], n: u32, stack: &mut [u32]) -> StackCollection
+// 1 for yes, 0 for no.
+fn flag(yes: bool) -> u32
+    ensures { λ r. ⌜ r ≡ cond yes 1 0 ⌝ }
+{
+    if yes { 1 } else { 0 }
+}
+
+// Marks and sweeps a pool of n cells, and sets the lent words to 0. Answers how many it kept, and 1 where the stack was enough, 0 where not.
+fn collect_in(words: &mut [u32], n: u32, stack: &mut [u32]) -> Answer
     requires { ⌜ (poolLength registerCount n ≤ length (now words)) × (n ≤ cellLimit) ⌝ }
-    ensures { λ r. ⌜ (stackOutcome r, now (words .exit), now (stack .exit)) ≡ stackIn n (now (words .entry)) (now (stack .entry)) ⌝ }
+    ensures { λ r. ⌜ (answerOutcome r, now (words .exit), now (stack .exit)) ≡ stackIn n (now (words .entry)) (now (stack .entry)) ⌝ }
 {
     if pool::well_formed(words, n) {
         let enough = mark(words, n, stack);
         let kept = pool::sweep(words, n);
         pool::clear(stack);
-        StackCollection::Kept { kept, enough }
+        Answer::Pair(kept, flag(enough))
     } else {
-        StackCollection::Refused(Refusal::Malformed)
+        Answer::Refused(Refusal::Malformed)
     }
 }
 
 // Collects with a lent stack: the pool ends as after `collect`, and the lent words end 0.
-pub fn collect_stack(words: &mut [u32], stack: &mut [u32]) -> StackCollection
-    ensures { λ r. ⌜ (stackOutcome r, now (words .exit), now (stack .exit)) ≡ stackOf (now (words .entry)) (now (stack .entry)) ⌝ }
+pub fn collect_stack(words: &mut [u32], stack: &mut [u32]) -> Answer
+    ensures { λ r. ⌜ (answerOutcome r, now (words .exit), now (stack .exit)) ≡ stackOf (now (words .entry)) (now (stack .entry)) ⌝ }
 {
     let n = pool::cells(words);
     if n == 0 {
-        return StackCollection::Refused(Refusal::Size);
+        return Answer::Refused(Refusal::Size);
     }
     collect_in(words, n, stack)
 }

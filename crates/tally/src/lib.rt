@@ -1,7 +1,7 @@
 // Collecting with a tally that the caller lends.
-use collector::Collection;
+use answers::Answer;
 ghost use mathlib.Core.Path.{_≡_};
-ghost use Rattle.collector.specs.Collect.{collectionOutcome};
+ghost use Rattle.answers.specs.Outcome.{answerOutcome};
 ghost use Rattle.tally.specs.TallyOf.{counted, advancedOf, tallyAfter, tallyOf};
 
 // How many collections were made, and the visits of all of them. Each count stops at its limit.
@@ -33,20 +33,23 @@ impl Tally {
         }
     }
 
-    // The tally after a collection with this answer: a refusal leaves it.
-    pub fn after(self, c: Collection) -> Tally
-        ensures { λ r. ⌜ r ≡ tallyAfter self (collectionOutcome c) ⌝ }
+    // The tally after a collection with this answer, kept and visits; a refusal leaves it.
+    pub fn after(self, answer: Answer) -> Tally
+        ensures { λ r. ⌜ r ≡ tallyAfter self (answerOutcome answer) ⌝ }
     {
-        match c {
-            Collection::Kept { kept: _, visits } => self.advanced(visits),
-            Collection::Refused(_) => self,
+        match answer {
+            Answer::Done => self,
+            Answer::Allocated { visits: _ } => self,
+            Answer::Number(_) => self,
+            Answer::Pair(_, visits) => self.advanced(visits),
+            Answer::Refused(_) => self,
         }
     }
 }
 
 // Collects, and advances the lent tally: answer and words are those of `collect`.
-pub fn collect_tally(words: &mut [u32], t: &mut Tally) -> Collection
-    ensures { λ r. ⌜ (collectionOutcome r, now (words .exit), now (t .exit)) ≡ tallyOf (now (words .entry)) (now (t .entry)) ⌝ }
+pub fn collect_tally(words: &mut [u32], t: &mut Tally) -> Answer
+    ensures { λ r. ⌜ (answerOutcome r, now (words .exit), now (t .exit)) ≡ tallyOf (now (words .entry)) (now (t .entry)) ⌝ }
 {
     let c = collector::collect(words);
     let advanced = Tally::after(*t, c);

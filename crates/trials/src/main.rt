@@ -4,8 +4,7 @@ mod generate;
 mod totals;
 mod words;
 
-use collector::Collection;
-use stack_marker::StackCollection;
+use answers::Answer;
 ghost use mathlib.Core.Path.{_≡_};
 ghost use mathlib.Core.Bool.{true};
 ghost use Prim.Native.Nat.{_≤_};
@@ -36,13 +35,6 @@ struct Trial {
     marker: u32,
 }
 
-// What a collection answers: the number of the refusal or 0, the kept cells, and the visits, or with a stack 1 where it was enough.
-struct Answer {
-    refusal: u32,
-    kept: u32,
-    more: u32,
-}
-
 // How a trial went: whether the answer and all words were as expected, the kept cells that were expected, and the answer's last number.
 struct Outcome {
     agreed: bool,
@@ -64,52 +56,12 @@ fn trial_of(number: u32) -> Trial
     }
 }
 
-fn refused(refusal: u32) -> Answer {
-    Answer {
-        refusal,
-        kept: 0,
-        more: 0,
-    }
-}
-
-fn of_collection(collection: Collection) -> Answer {
-    match collection {
-        Collection::Kept { kept, visits } => Answer {
-            refusal: 0,
-            kept,
-            more: visits,
-        },
-        Collection::Refused(refusal) => refused(refusal.number()),
-    }
-}
-
-fn of_stack(collection: StackCollection) -> Answer {
-    match collection {
-        StackCollection::Kept { kept, enough } => {
-            if enough {
-                Answer {
-                    refusal: 0,
-                    kept,
-                    more: 1,
-                }
-            } else {
-                Answer {
-                    refusal: 0,
-                    kept,
-                    more: 0,
-                }
-            }
-        }
-        StackCollection::Refused(refusal) => refused(refusal.number()),
-    }
-}
-
 // Collects with one of the markers.
 fn collect(words: &mut [u32], stack: &mut [u32], marker: u32) -> Answer {
     match marker {
-        REVERSAL => of_collection(collector::collect(words)),
-        RECURSIVE => of_collection(recursive_marker::collect_recursive(words)),
-        _ => of_stack(stack_marker::collect_stack(words, stack)),
+        REVERSAL => collector::collect(words),
+        RECURSIVE => recursive_marker::collect_recursive(words),
+        _ => stack_marker::collect_stack(words, stack),
     }
 }
 
@@ -157,18 +109,18 @@ fn expect(after: &mut [u32], trial: Trial) -> u32
     words::keep_marked(after, trial.n, &marks)
 }
 
-// Is the answer the one that has to come? As many stack words as cells have to be enough.
+// Is the answer the one that has to come: the kept cells, and the visits, or with a stack 1 where it was enough? As many stack words as cells have to be enough.
 fn is_expected(answer: Answer, trial: Trial, kept: u32) -> bool {
-    if answer.refusal != refusal_of(trial) {
+    if answer.status() != refusal_of(trial) {
         return false;
     }
-    if answer.kept != kept {
+    if answer.first() != kept {
         return false;
     }
     let marker = trial.marker;
     match marker {
-        REVERSAL | RECURSIVE => answer.more as u64 == 3 * (kept as u64),
-        N_WORDS => answer.more == 1 || answer.refusal != 0,
+        REVERSAL | RECURSIVE => answer.second() as u64 == 3 * (kept as u64),
+        N_WORDS => answer.second() == 1 || answer.status() != 0,
         _ => true,
     }
 }
@@ -197,7 +149,7 @@ fn run(words: &mut [u32], after: &mut [u32], stack: &mut [u32], trial: Trial) ->
     Outcome {
         agreed: is_answer & is_stack & is_same,
         kept,
-        more: answer.more,
+        more: answer.second(),
     }
 }
 

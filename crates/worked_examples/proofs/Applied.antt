@@ -10,7 +10,7 @@ use Rattle.graph.proofs.Theorems.{order-reached, order-distinct, order-length, 
 use Rattle.graph.proofs.Pairing.{length-paired, order-paired, pairing-kept}
 use Rattle.graph.proofs.Reached.{reach-agree}
 use Rattle.pool.specs.Layout.{registerCount}
-use Rattle.pool.specs.Outcome.{answered}
+use Rattle.answers.specs.Outcome.{answered}
 use Rattle.pool.specs.Retain.{freshWords}
 use Rattle.pool.proofs.RetainedPool.{retained-free-list}
 use Rattle.pool.proofs.FreshPool.{fresh-is-free, fresh-is-well-formed}
@@ -32,7 +32,7 @@ use Rattle.save.proofs.RoundTrip.{load-then-save, save-then-load}
 use Rattle.script.specs.declared.Line.the-variants as line
 use Rattle.script.specs.Reader.{newReader}
 use Rattle.script.proofs.Scanning.{parts-read}
-use Rattle.script.proofs.Decimals.{decimals-read-back, fewest-digits}
+use Rattle.replies.proofs.Decimals.{decimals-read-back, fewest-digits}
 use Rattle.interpreter.specs.Work.{start}
 use Rattle.interpreter.proofs.Whole.{starts-whole, parts-join, last-line-ends}
 use Rattle.worked_examples.specs.Instances.{three, threeCollected, two, graph, roots, Swapped, image, numbers, words, scratch, output, calls, list, out, padded, lines, progress, largest}

@@ -31,7 +31,7 @@ use Rattle.reference.specs.Equivalence.{poolAnswers}
 use Rattle.image.specs.Image.{placeFrom, encodeAll, readFields, readImage}
 use Rattle.script.specs.Lines.{all, command}
 use Rattle.script.specs.Reader.{spaceOf, letterOf, digitOf, feedOf, endOf, begunOf}
-use Rattle.script.specs.Replies.{digits, decimal}
+use Rattle.replies.specs.Replies.{digits, decimal}
 use Rattle.script.specs.Scripts.{nextLine}
 use Rattle.worked_examples.specs.Instances.{three, threeCollected, two, graph, roots, Swapped}
 use Rattle.worked_examples.specs.Instances.{Pool-instance, Reversal-instance, Graph-instance, Number-instance, Image-instance, Batch-instance, Script-instance}

@@ -15,7 +15,7 @@ use Rattle.pool.specs.Words.{tabulate}
 use Rattle.pool.specs.Layout.{registerCount, cellLimit, poolLength, cellsOfLength, cellsOf, graphOf, rootsOf}
 use Rattle.pool.specs.Validity.{wellFormed}
 use Rattle.pool.specs.Retain.{freshWords}
-use Rattle.pool.specs.Outcome.{answered}
+use Rattle.answers.specs.Outcome.{answered}
 use Rattle.collector.specs.Collect.{reachedCells, keptCells, collectOf}
 use Rattle.collector.specs.ReversalTheorem.{Agreement}
 use Rattle.recursive_marker.specs.Recursive.{Visitable}
@@ -35,7 +35,7 @@ use Rattle.script.specs.declared.Line.the-variants as line
 use Rattle.script.specs.declared.Found.the-variants as found
 use Rattle.script.specs.Lines.{isDigit, all, decimalValue}
 use Rattle.script.specs.Reader.{newReader, withoutNumbers, begunOf}
-use Rattle.script.specs.Replies.{decimal}
+use Rattle.replies.specs.Replies.{decimal}
 use Rattle.script.specs.Scripts.{nextLine}
 use Rattle.interpreter.specs.declared.Progress.{Progress}
 use Rattle.interpreter.specs.Work.{start}

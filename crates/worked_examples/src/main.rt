@@ -1,18 +1,16 @@
 // Tries the examples of the customer's scope that are not in the table of theorems, and what its last section warns of, and prints each with its
 // result. (The table is specs/Table.antt.)
-use collector::Collection;
+use answers::Answer;
 use libc::STDOUT_FILENO;
-use pool::Fresh;
 use pool::Pool;
-use script::Reply;
-use script::Written;
-use stack_marker::StackCollection;
+use replies::Reply;
+use replies::Written;
 
-// Prints a label and what a reply says.
-fn show(label: &[u8], reply: Reply) {
+// Prints a label and what an answer says; of a collection with a stack that is kept, and 1 where the stack was enough.
+fn show(label: &[u8], answer: Answer) {
     io::write_all(STDOUT_FILENO, label);
     let mut line = [0u8; 32];
-    let Written::Next(end) = script::write_reply(&mut line, 0, reply) else {
+    let Written::Next(end) = replies::write_reply(&mut line, 0, Reply::Answered(answer)) else {
         return;
     };
     print(&line, end);
@@ -24,53 +22,25 @@ fn print(line: &[u8], end: usize) {
     }
 }
 
-fn of_fresh(fresh: Fresh) -> Reply {
-    match fresh {
-        Fresh::Made(n) => Reply::Number(n),
-        Fresh::Refused(refusal) => Reply::Refused(refusal),
-    }
-}
-
-fn of_collection(collection: Collection) -> Reply {
-    match collection {
-        Collection::Kept { kept, visits } => Reply::Collected { kept, visits },
-        Collection::Refused(refusal) => Reply::Refused(refusal),
-    }
-}
-
-// Kept, and 1 where the stack was enough.
-fn of_stack(collection: StackCollection) -> Reply {
-    match collection {
-        StackCollection::Kept { kept, enough } => {
-            if enough {
-                Reply::Collected { kept, visits: 1 }
-            } else {
-                Reply::Collected { kept, visits: 0 }
-            }
-        }
-        StackCollection::Refused(refusal) => Reply::Refused(refusal),
-    }
-}
-
 // N is taken from the length alone.
 fn fresh_of_18() {
     let mut words = [0u32; 18];
-    show(b"fresh of 18 words: ", of_fresh(Pool::fresh(&mut words)));
+    show(b"fresh of 18 words: ", Pool::fresh(&mut words));
 }
 
 fn fresh_of_22() {
     let mut words = [0u32; 22];
-    show(b"fresh of 22 words: ", of_fresh(Pool::fresh(&mut words)));
+    show(b"fresh of 22 words: ", Pool::fresh(&mut words));
 }
 
 fn fresh_of_16018() {
     let mut words = [0u32; 16018];
-    show(b"fresh of 16018 words: ", of_fresh(Pool::fresh(&mut words)));
+    show(b"fresh of 16018 words: ", Pool::fresh(&mut words));
 }
 
 fn fresh_of_16022() {
     let mut words = [0u32; 16022];
-    show(b"fresh of 16022 words: ", of_fresh(Pool::fresh(&mut words)));
+    show(b"fresh of 16022 words: ", Pool::fresh(&mut words));
 }
 
 // Puts a chain of five cells, each with both links to the next, into a fresh pool of five; register 0 leads to it.
@@ -91,19 +61,16 @@ fn equal_links() {
     chain(&mut words);
     show(
         b"chain of 5 with equal links, 4 stack words: ",
-        of_stack(stack_marker::collect_stack(&mut words, &mut four)),
+        stack_marker::collect_stack(&mut words, &mut four),
     );
     show(
         b"chain of 5 with equal links, 3 stack words: ",
-        of_stack(stack_marker::collect_stack(&mut words, &mut three)),
+        stack_marker::collect_stack(&mut words, &mut three),
     );
-    show(
-        b"and then by reversal: ",
-        of_collection(collector::collect(&mut words)),
-    );
+    show(b"and then by reversal: ", collector::collect(&mut words));
     show(
         b"and then recursively: ",
-        of_collection(recursive_marker::collect_recursive(&mut words)),
+        recursive_marker::collect_recursive(&mut words),
     );
 }
 
@@ -121,18 +88,15 @@ fn both_links_are_read() {
     calls::clear(&mut words, 2);
     show(
         b"a cell with two leaves, and one with a right leaf, 1 stack word: ",
-        of_stack(stack_marker::collect_stack(&mut words, &mut stack)),
+        stack_marker::collect_stack(&mut words, &mut stack),
     );
     calls::right(&mut words, 2, 0);
     show(
         b"the value of the right one of the two leaves: ",
-        interpreter::reply_to(calls::value(&words, 2)),
+        calls::value(&words, 2),
     );
     calls::right(&mut words, 2, 1);
-    show(
-        b"that of the other right leaf: ",
-        interpreter::reply_to(calls::value(&words, 2)),
-    );
+    show(b"that of the other right leaf: ", calls::value(&words, 2));
 }
 
 // "Leaving links rotated when a stack overflow falls back": both links of the first cell still lead to the second, whose value is 4.
@@ -142,18 +106,12 @@ fn links_after_falling_back() {
     chain(&mut words);
     show(
         b"chain of 5 with equal links, no stack word: ",
-        of_stack(stack_marker::collect_stack(&mut words, &mut stack[..0])),
+        stack_marker::collect_stack(&mut words, &mut stack[..0]),
     );
     calls::left(&mut words, 1, 0);
     calls::right(&mut words, 2, 0);
-    show(
-        b"left and right are the same: ",
-        interpreter::reply_to(calls::same(&words, 1, 2)),
-    );
-    show(
-        b"the value there: ",
-        interpreter::reply_to(calls::value(&words, 1)),
-    );
+    show(b"left and right are the same: ", calls::same(&words, 1, 2));
+    show(b"the value there: ", calls::value(&words, 1));
 }
 
 // "Clearing r before "new" collects: r may be a or b, and its old cell is live to the ledger."
@@ -164,16 +122,13 @@ fn old_content_is_a_root() {
     calls::new(&mut words, 0, 0, 0, 2);
     show(
         b"new where r's old content holds every cell: ",
-        interpreter::reply_to(calls::new(&mut words, 0, 1, 1, 3)),
+        calls::new(&mut words, 0, 1, 1, 3),
     );
-    show(
-        b"the value of r's cell: ",
-        interpreter::reply_to(calls::value(&words, 0)),
-    );
+    show(b"the value of r's cell: ", calls::value(&words, 0));
     calls::clear(&mut words, 0);
     show(
         b"new with nothing reached: ",
-        interpreter::reply_to(calls::new(&mut words, 0, 1, 1, 3)),
+        calls::new(&mut words, 0, 1, 1, 3),
     );
 }
 

@@ -2,13 +2,10 @@
 use borrow.Author.Needs.{needs}
 use Rattle.cellpool.proofs.cellpool_collect_recursive.Statement.{statement}
 use Rattle.cellpool.proofs.cellpool_collect_recursive.Tie as tie
-use Rattle.cellpool.proofs.Answered.{giving-two-made, as-answer}
+use Rattle.cellpool.proofs.Answered.{giving-two-made}
 
 collect-recursive-requires : tie.Need-collect-recursive-requires
 collect-recursive-requires c κs = search needs
-
-of-collection-requires : tie.Need-of-collection-requires
-of-collection-requires c κs = search needs
 
 store-two-requires : tie.Need-store-two-requires
 store-two-requires c κs = search needs
@@ -17,14 +14,8 @@ same-length : tie.Need-same-length
 same-length c = search needs
 
 returns : tie.Need-returns
-returns c = giving-two-made _ _ _ (as-answer (c .before .before .before .of-collection .ensures) (c .before .before .before .before .before .before .collect-recursive .ensures)) _ _ _ _ _ (c .store-two .ensures)
+returns c = giving-two-made _ _ _ (c .before .before .before .before .before .collect-recursive .ensures) _ _ _ _ _ (c .store-two .ensures)
 
 pub cellpool-collect-recursive-spec : {M : Type 1} → statement M
 cellpool-collect-recursive-spec =
-    tie.close
-    (tie.spec
-    collect-recursive-requires
-    of-collection-requires
-    store-two-requires
-    same-length
-    returns)
+    tie.close (tie.spec collect-recursive-requires store-two-requires same-length returns)

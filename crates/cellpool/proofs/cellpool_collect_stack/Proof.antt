@@ -7,9 +7,6 @@ use Rattle.cellpool.proofs.Answered.{stack-made}
 collect-stack-requires : tie.Need-collect-stack-requires
 collect-stack-requires c κs = search needs
 
-of-stack-requires : tie.Need-of-stack-requires
-of-stack-requires c κs = search needs
-
 store-two-requires : tie.Need-store-two-requires
 store-two-requires c κs = search needs
 
@@ -20,15 +17,9 @@ same-length-2 : tie.Need-same-length-2
 same-length-2 c = search needs
 
 returns : tie.Need-returns
-returns c = stack-made _ _ _ _ (c .before .before .before .before .before .before .before .before .collect-stack .ensures) _ (c .before .before .before .of-stack .ensures) _ _ _ _ _ (c .store-two .ensures)
+returns c = stack-made _ _ _ _ (c .before .before .before .before .before .before .before .collect-stack .ensures) _ _ _ _ _ (c .store-two .ensures)
 
 pub cellpool-collect-stack-spec : {M : Type 1} → statement M
 cellpool-collect-stack-spec =
     tie.close
-    (tie.spec
-    collect-stack-requires
-    of-stack-requires
-    store-two-requires
-    same-length
-    same-length-2
-    returns)
+    (tie.spec collect-stack-requires store-two-requires same-length same-length-2 returns)

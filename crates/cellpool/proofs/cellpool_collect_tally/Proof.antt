@@ -8,42 +8,39 @@ use Rattle.cellpool.proofs.Answered.{tally-advanced, tally-left}
 collect-requires : tie.Need-collect-requires
 collect-requires c κs = search needs
 
-enum-known-collection : tie.Need-enum-known-collection
-enum-known-collection c = search needs
-
-after-requires : tie.Need-after-requires
-after-requires c κs = search needs
-
-enum-known-collection-2 : tie.Need-enum-known-collection-2
-enum-known-collection-2 c = search needs
-
-number-requires : tie.Need-number-requires
-number-requires c κs = search needs
+status-requires : tie.Need-status-requires
+status-requires c κs = search needs
 
 same-length : tie.Need-same-length
 same-length c = search needs
 
 returns : tie.Need-returns
-returns c =
-    let a = c .before .before .before .before .before .before .before .before .before .before .before .args in
-    tally-advanced _ _ (record { collections = now (a .collections); visits = now (a .total-visits) }) (c .before .before .before .before .before .before .before .before .collect .ensures) _ _ _ (c .before .before .before .before .collection .given .1) (c .after .ensures)
+returns c = tally-left _ _ _ _ (c .before .before .before .before .collect .ensures) _ _ _ (c .before .status .ensures) (c .if1 .taken)
+
+after-requires : tie.Need-after-requires
+after-requires c κs = search needs
+
+store-two-requires : tie.Need-store-two-requires
+store-two-requires c κs = search needs
 
 same-length-2 : tie.Need-same-length-2
 same-length-2 c = search needs
 
 returns-2 : tie.Need-returns-2
-returns-2 c = tally-left _ _ _ (c .before .before .before .before .before .before .collect .ensures) _ _ _ (c .before .before .collection2 .given .1) (c .number .ensures)
+returns-2 c =
+    let at-collect = c .before .before .before .before .before .before .before .before .before .before in
+    let a = at-collect .before .before .before .args in
+    tally-advanced _ _ (record { collections = now (a .collections); visits = now (a .total-visits) }) _ (at-collect .collect .ensures) _ _ _ _ (c .before .before .before .after .ensures) _ _ (c .store-two .ensures)
 
 pub cellpool-collect-tally-spec : {M : Type 1} → statement M
 cellpool-collect-tally-spec =
     tie.close
     (tie.spec
     collect-requires
-    enum-known-collection
-    after-requires
-    enum-known-collection-2
-    number-requires
+    status-requires
     same-length
     returns
+    after-requires
+    store-two-requires
     same-length-2
     returns-2)

@@ -2,13 +2,10 @@
 use borrow.Author.Needs.{needs}
 use Rattle.cellpool.proofs.cellpool_fresh.Statement.{statement}
 use Rattle.cellpool.proofs.cellpool_fresh.Tie as tie
-use Rattle.cellpool.proofs.Answered.{giving-made, as-answer}
+use Rattle.cellpool.proofs.Answered.{giving-made}
 
 fresh-requires : tie.Need-fresh-requires
 fresh-requires c κs = search needs
-
-of-fresh-requires : tie.Need-of-fresh-requires
-of-fresh-requires c κs = search needs
 
 store-requires : tie.Need-store-requires
 store-requires c κs = search needs
@@ -17,8 +14,7 @@ same-length : tie.Need-same-length
 same-length c = search needs
 
 returns : tie.Need-returns
-returns c = giving-made _ _ _ (as-answer (c .before .before .of-fresh .ensures) (c .before .before .before .before .before .fresh .ensures)) _ _ _ (c .store .ensures)
+returns c = giving-made _ _ _ (c .before .before .before .before .fresh .ensures) _ _ _ (c .store .ensures)
 
 pub cellpool-fresh-spec : {M : Type 1} → statement M
-cellpool-fresh-spec =
-    tie.close (tie.spec fresh-requires of-fresh-requires store-requires same-length returns)
+cellpool-fresh-spec = tie.close (tie.spec fresh-requires store-requires same-length returns)

@@ -7,15 +7,11 @@ use mathlib.Core.Path.{_∙_}
 occupancy-requires : tie.Need-occupancy-requires
 occupancy-requires c κs = search needs
 
-of-occupied-requires : tie.Need-of-occupied-requires
-of-occupied-requires c κs = search needs
-
 store-requires : tie.Need-store-requires
 store-requires c κs = search needs
 
 returns : tie.Need-returns
-returns c = c .store .ensures ∙ simp (c .before .before .of-occupied .ensures, c .before .before .before .occupancy .ensures)
+returns c = c .store .ensures ∙ simp (c .before .before .occupancy .ensures)
 
 pub cellpool-occupancy-spec : {M : Type 1} → statement M
-cellpool-occupancy-spec =
-    tie.close (tie.spec occupancy-requires of-occupied-requires store-requires returns)
+cellpool-occupancy-spec = tie.close (tie.spec occupancy-requires store-requires returns)

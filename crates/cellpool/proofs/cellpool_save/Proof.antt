@@ -1,6 +1,6 @@
 -- `cellpool::cellpool_save` meets its contract, case by case.
 use borrow.Author.Needs.{needs}
-use Rattle.pool.specs.Outcome.{status, given}
+use Rattle.answers.specs.Outcome.{status, given}
 use Rattle.cellpool.proofs.cellpool_save.Statement.{statement}
 use Rattle.cellpool.proofs.cellpool_save.Tie as tie
 use Rattle.cellpool.proofs.Answered.{saving-made}

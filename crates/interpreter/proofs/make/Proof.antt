@@ -23,14 +23,11 @@ slice-aggregate-fresh c = sym (length-take-le _ _ (size-inside (length (now (c .
 fresh-requires : tie.Need-fresh-requires
 fresh-requires c κs = search needs
 
-of-fresh-requires : tie.Need-of-fresh-requires
-of-fresh-requires c κs = search needs
-
 same-length : tie.Need-same-length
 same-length c = search needs
 
 returns-2 : tie.Need-returns-2
-returns-2 c = fresh-made _ _ _ _ (c .before .before .before .before .before .before .size .ensures) (c .before .before .before .before .before .if1 .left) (c .before .before .before .fresh .result) _ _ (c .of-fresh .ensures) (c .before .before .before .fresh .ensures) (c .before .before .before .fresh .kept .0)
+returns-2 c = fresh-made _ _ _ _ (c .before .before .before .before .before .size .ensures) (c .before .before .before .before .if1 .left) _ _ (c .before .before .fresh .ensures) (c .before .before .fresh .kept .0)
 
 pub make-spec : {M : Type 1} → statement M
 make-spec =
@@ -41,6 +38,5 @@ make-spec =
     slice-relend-prefix-fresh
     slice-aggregate-fresh
     fresh-requires
-    of-fresh-requires
     same-length
     returns-2)

@@ -1,5 +1,5 @@
 -- `interpreter::run` meets its contract: the call on the pool's part.
-use mathlib.Core.Path.{sym}
+use mathlib.Core.Path.{refl, sym}
 use lib.Seq.{length-take-le}
 use Rattle.interpreter.proofs.Turns.{call-run}
 use borrow.Author.Needs.{needs}
@@ -15,14 +15,11 @@ slice-aggregate-perform c = sym (length-take-le _ _ (c .before .before .pre))
 perform-requires : tie.Need-perform-requires
 perform-requires c κs = search needs
 
-reply-to-requires : tie.Need-reply-to-requires
-reply-to-requires c κs = search needs
-
 same-length : tie.Need-same-length
 same-length c = search needs
 
 returns : tie.Need-returns
-returns c = call-run _ _ (c .before .before .before .before .before .before .pre) _ _ _ _ (c .reply-to .ensures) (c .before .before .before .perform .ensures .1) (c .before .before .before .perform .kept .0)
+returns c = call-run _ _ (c .before .before .before .before .before .pre) _ _ _ _ refl (c .before .before .perform .ensures .1) (c .before .before .perform .kept .0)
 
 pub run-spec : {M : Type 1} → statement M
 run-spec =
@@ -31,6 +28,5 @@ run-spec =
     slice-relend-prefix-perform
     slice-aggregate-perform
     perform-requires
-    reply-to-requires
     same-length
     returns)

@@ -40,11 +40,11 @@ use denote.Triple.Entry.{onEntry}
 use denote.Triple.Spec.{Meets, tripleOf}
 use denote.Triple.Table.{entered, cited}
 use denote.Triple.Walked.{says, Stays, stay-ref, gave-slice, walkOf, AllGo, goes-ref, goes-gave-slice, Walks, ends-at, walked, walk-meets}
-use Rattle.pool.specs.Outcome.{Outcome}
-use Rattle.collector.specs.declared.Collection.{Collection}
-use Rattle.collector.specs.Collect.{collectOf, collectionOutcome}
-use Rattle.collector.proofs.Collection as K
-use Rattle.collector.proofs.Collection.Laws as K′
+use Rattle.answers.specs.Outcome.{Outcome, answerOutcome}
+use Rattle.answers.specs.declared.Answer.{Answer}
+use Rattle.collector.specs.Collect.{collectOf}
+use Rattle.answers.proofs.Answer as K
+use Rattle.answers.proofs.Answer.Laws as K′
 use Rattle.collector.proofs.collect as collect
 use Rattle.collector.proofs.collect.Symbol as collect-def
 use Rattle.collector.proofs.collect.Symbol.{name as #collector·collect}
@@ -66,10 +66,10 @@ abbrev stayed : Stays (this.ended .signature .params) (this.ended .kept)
 stayed = (gave-slice (0 ∷ []) tt (plain (λ _. u32)), (stay-ref (1 ∷ []) tt (plain (λ _. T.the-row)), tt))
 
 -- what the two callees say together is what the function says
-together : (r : Collection) (ys zs : List ℕ) (h t : Tally) → _≡_ {A = Outcome × List ℕ} (collectionOutcome r, zs) (collectOf ys)
-    → t ≡ tallyAfter h (collectionOutcome r) → _≡_ {A = Outcome × List ℕ × Tally} (collectionOutcome r, zs, t) (tallyOf ys h)
+together : (r : Answer) (ys zs : List ℕ) (h t : Tally) → _≡_ {A = Outcome × List ℕ} (answerOutcome r, zs) (collectOf ys)
+    → t ≡ tallyAfter h (answerOutcome r) → _≡_ {A = Outcome × List ℕ × Tally} (answerOutcome r, zs, t) (tallyOf ys h)
 together r ys zs h t e₁ e₂ =
-    ap (λ (s : Tally). (collectionOutcome r, zs, s)) e₂ ∙ ap (λ (c : Outcome × List ℕ). (c .0, c .1, tallyAfter h (c .0))) e₁
+    ap (λ (s : Tally). (answerOutcome r, zs, s)) e₂ ∙ ap (λ (c : Outcome × List ℕ). (c .0, c .1, tallyAfter h (c .0))) e₁
 
 module _ {M : Type 1} (𝓤 : URA M) (H : Heap 𝓤) (A : Atoms 𝓤) (at-mem : Memory → SProp 𝓤) (run : Routine → Fun 𝓤) where
   -- the contracts that the proof cites
@@ -80,9 +80,9 @@ module _ {M : Type 1} (𝓤 : URA M) (H : Heap 𝓤) (A : Atoms 𝓤) (at-mem : 
   After = tripleOf 𝓤 H A after.signature (after.spec 𝓤 H A at-mem run)
 
   -- of what `after` ensures, the clause alone: it has no `&mut`
-  after-of : (h : Tally) (r : Collection) (t : Tally)
-      → ent 𝓤 (ensured 𝓤 H A after.ended (after.clauses 𝓤 H A at-mem run) tt (h, (r, tt)) tt t) (fact 𝓤 (t ≡ tallyAfter h (collectionOutcome r)))
-  after-of h r t = exE 𝓤 _ (λ ws. snd∗ 𝓤 (sem 𝓤 H A (lasts after.ended tt (h, (r, tt)) ws)) (fact 𝓤 (t ≡ tallyAfter h (collectionOutcome r))))
+  after-of : (h : Tally) (r : Answer) (t : Tally)
+      → ent 𝓤 (ensured 𝓤 H A after.ended (after.clauses 𝓤 H A at-mem run) tt (h, (r, tt)) tt t) (fact 𝓤 (t ≡ tallyAfter h (answerOutcome r)))
+  after-of h r t = exE 𝓤 _ (λ ws. snd∗ 𝓤 (sem 𝓤 H A (lasts after.ended tt (h, (r, tt)) ws)) (fact 𝓤 (t ≡ tallyAfter h (answerOutcome r))))
 
 module _ {M : Type 1} (𝓤 : URA M) (H : Heap 𝓤) (A : Atoms 𝓤) (W : Given 𝓤 H A) (at-mem : Memory → SProp 𝓤) (run : Routine → Fun 𝓤) (κ₀ κ₁ : Lft)
     (q₀ q₁ : Share) (x : RefT (List ℕ)) (b o : ℕ) (γ : GName) (h : Tally) where
@@ -116,16 +116,16 @@ module _ {M : Type 1} (𝓤 : URA M) (H : Heap 𝓤) (A : Atoms 𝓤) (W : Given
   goes-collect =
       qed W (‵ (flft κ₀ q₀) ∷ ‵ (MutSlice (named 0) κ₀ u32 .own x (s ∷ [])) ∷ []) ∵ nothing ! $ move ! (2 ∷ 0 ∷ []) $ fjoin ! $ nothing ! $ move ! (2 ∷ 0 ∷ 1 ∷ []) $ join ! $ join ! $ frame ! $ done !
 
-  abbrev to-after : Val → Collection → Val → After 𝓤 H A at-mem run .Ghost
+  abbrev to-after : Val → Answer → Val → After 𝓤 H A at-mem run .Ghost
   to-after v r w = ((tt, tt, tt, (h, (r, tt)), (v ∷ [], (w ∷ [], tt))), tt)
 
-  goes-after : (v : Val) (r : Collection) (w : Val)
+  goes-after : (v : Val) (r : Answer) (w : Val)
       → ent 𝓤 (sep 𝓤 (sem 𝓤 H A (T.the-row .own h (v ∷ []))) (sem 𝓤 H A (K.the-row .own r (w ∷ [])))) (After 𝓤 H A at-mem run .pre (to-after v r w))
   goes-after v r w =
       qed W (‵ (T.the-row .own h (v ∷ [])) ∷ ‵ (K.the-row .own r (w ∷ [])) ∷ []) ∵ nothing ! $ move ! (2 ∷ 0 ∷ []) $ fjoin ! $ move ! (1 ∷ 0 ∷ []) $ fjoin ! $ nothing ! $ join ! $ frame ! $ done !
 
-  exits : (r : Collection) (w : Val) (zs : List ℕ) (t : Tally) → Is K.the-row r (w ∷ []) → length zs ≡ length (x .now)
-      → _≡_ {A = Outcome × List ℕ × Tally} (collectionOutcome r, zs, t) (tallyOf (x .now) h)
+  exits : (r : Answer) (w : Val) (zs : List ℕ) (t : Tally) → Is K.the-row r (w ∷ []) → length zs ≡ length (x .now)
+      → _≡_ {A = Outcome × List ℕ × Tally} (answerOutcome r, zs, t) (tallyOf (x .now) h)
       → ent 𝓤 (sep 𝓤 (A .obs γ (T.the-row .coded .code t)) (sep 𝓤 (A .bor κ₁ (Body (mem T.the-row) b o γ)) (sep 𝓤 (A .lft κ₁ q₁) (sep 𝓤 (A .lft κ₀ q₀) (sem 𝓤 H A (finally u32 (x .name) zs)))))) (Post w)
   exits r w zs t is l e =
       qed W (‵ (fobs γ (T.the-row .coded .code t)) ∷ ‵ (fbor κ₁ (Body (mem T.the-row) b o γ)) ∷ ‵ (flft κ₁ q₁) ∷ ‵ (flft κ₀ q₀) ∷ ‵ (finally u32 (x .name) zs) ∷ []) ∵
@@ -149,9 +149,9 @@ module _ {M : Type 1} (𝓤 : URA M) (H : Heap 𝓤) (A : Atoms 𝓤) (W : Given
         assigns ! (agg ! (and-then ! (load ! (from ! (stop !)) (look ! 4 refl)) (and-then ! (load ! (from ! (fld ! refl (stop !))) (look-in ! 12 (sub ! 1 refl (whole !)))) (no-more !)))) (from ! (stop !)) (init ! 2 refl (tt, (tt, (record { fits = room .0 }, tt)))) $
         move ! (19 ∷ 20 ∷ []) $ use2 W (raw (Collect 𝓤 H A at-mem run .pre to-collect)) goes-collect $
         calls-at ! fm (Collect 𝓤 H A at-mem run) known-collect to-collect (and-then ! (load ! (from ! (stop !)) (look ! 3 refl)) (no-more !)) (λ w.
-        use1 W (later (some (λ (r : Collection). ((‵ (flft κ₀ q₀) ⊛ ‵ ftrue) ⊛ ‵ (K.the-row .own r (w ∷ []))) ⊛ raw (ensured 𝓤 H A collect.ended (collect.clauses 𝓤 H A at-mem run) (κ₀, tt) (x, tt) tt r)))) (id⊢ 𝓤 _) $ await ! tt $ pick ! (λ r.
-        split ! $ move ! (1 ∷ []) $ use1 W (some (λ (zs : List ℕ × Unit {0}). ‵ (lasts collect.ended (κ₀, tt) (x, tt) zs) ⊛ raw (fact 𝓤 (_≡_ {A = Outcome × List ℕ} (collectionOutcome r, zs .0) (collectOf (x .now)))))) (id⊢ 𝓤 _) $ pick ! (λ zs.
-        split ! $ move ! (1 ∷ []) $ heard ! (_≡_ {A = Outcome × List ℕ} (collectionOutcome r, zs .0) (collectOf (x .now))) (λ e₁. fsplit ! $ fsplit ! $ move ! (1 ∷ []) $ feqL ! (λ l.
+        use1 W (later (some (λ (r : Answer). ((‵ (flft κ₀ q₀) ⊛ ‵ ftrue) ⊛ ‵ (K.the-row .own r (w ∷ []))) ⊛ raw (ensured 𝓤 H A collect.ended (collect.clauses 𝓤 H A at-mem run) (κ₀, tt) (x, tt) tt r)))) (id⊢ 𝓤 _) $ await ! tt $ pick ! (λ r.
+        split ! $ move ! (1 ∷ []) $ use1 W (some (λ (zs : List ℕ × Unit {0}). ‵ (lasts collect.ended (κ₀, tt) (x, tt) zs) ⊛ raw (fact 𝓤 (_≡_ {A = Outcome × List ℕ} (answerOutcome r, zs .0) (collectOf (x .now)))))) (id⊢ 𝓤 _) $ pick ! (λ zs.
+        split ! $ move ! (1 ∷ []) $ heard ! (_≡_ {A = Outcome × List ℕ} (answerOutcome r, zs .0) (collectOf (x .now))) (λ e₁. fsplit ! $ fsplit ! $ move ! (1 ∷ []) $ feqL ! (λ l.
         -- [the last words; true; the token and the answer; _7; …]
         move ! (2 ∷ []) $ split ! $ split ! $ move ! (2 ∷ []) $ peeks ! K.the-row (Is K.the-row) (shows 𝓤 H A K.the-row) r (w ∷ []) (λ is.
         -- [what the answer owns; the words' token; true; the last words; true; _7; …; _0; …; obs; borrow; token; …]
@@ -164,7 +164,7 @@ module _ {M : Type 1} (𝓤 : URA M) (H : Heap 𝓤) (A : Atoms 𝓤) (W : Given
         -- [what `after` asks; the tally's cell; the open borrow; obs; auth; token; true; the last words; true; _7; …]
         calls-at ! fm (After 𝓤 H A at-mem run) known-after (to-after (mach h) r w) (and-then ! (load ! (from ! (stop !)) (look ! 9 refl)) (and-then ! (load ! (from ! (stop !)) (look ! 17 refl)) (no-more !))) (λ v.
         use1 W (later (some (λ (t : Tally). (‵ ftrue ⊛ ‵ (T.the-row .own t (v ∷ []))) ⊛ raw (ensured 𝓤 H A after.ended (after.clauses 𝓤 H A at-mem run) tt (h, (r, tt)) tt t)))) (id⊢ 𝓤 _) $ await ! tt $ pick ! (λ t.
-        split ! $ move ! (1 ∷ []) $ use1 W (raw (fact 𝓤 (t ≡ tallyAfter h (collectionOutcome r)))) (after-of 𝓤 H A at-mem run h r t) $ heard ! (t ≡ tallyAfter h (collectionOutcome r)) (λ e₂. split ! $ drop ! $
+        split ! $ move ! (1 ∷ []) $ use1 W (raw (fact 𝓤 (t ≡ tallyAfter h (answerOutcome r)))) (after-of 𝓤 H A at-mem run h r t) $ heard ! (t ≡ tallyAfter h (answerOutcome r)) (λ e₂. split ! $ drop ! $
         peeks ! T.the-row (Is T.the-row) (shows 𝓤 H A T.the-row) t (v ∷ []) (λ is₁.
         land ! (from ! (stop !)) (init ! 15 refl (SL.lawful T.the-type T′.the-laws 𝓤 H A W .typed t _ is₁ .0)) $
         assigns ! (of-opd ! (load ! (from ! (stop !)) (look ! 15 refl))) (from ! (hop ! (look ! 19 refl) (stop !))) (store-raw ! 1 refl (SL.lawful T.the-type T′.the-laws 𝓤 H A W .typed t _ is₁ .0)) $

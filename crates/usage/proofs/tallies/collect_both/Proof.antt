@@ -43,11 +43,10 @@ use denote.Triple.Spec.{Meets, tripleOf}
 use denote.Triple.Table.{entered, cited}
 use denote.Triple.Walked.{says, Stays, stay-none, gave-slice, walkOf, AllGo, goes-none, goes-gave-slice, Walks, ends-at, walked, walk-meets}
 use denote.Exit.{yes}
-use Rattle.pool.specs.Outcome.{Outcome}
-use Rattle.collector.specs.declared.Collection.{Collection}
-use Rattle.collector.specs.Collect.{collectionOutcome}
-use Rattle.collector.proofs.Collection as K
-use Rattle.collector.proofs.Collection.Laws as K′
+use Rattle.answers.specs.Outcome.{Outcome, answerOutcome}
+use Rattle.answers.specs.declared.Answer.{Answer}
+use Rattle.answers.proofs.Answer as K
+use Rattle.answers.proofs.Answer.Laws as K′
 use Rattle.tally.specs.declared.Tally.{Tally}
 use Rattle.tally.specs.TallyOf.{tallyOf}
 use Rattle.tally.proofs.Tally as T
@@ -66,11 +65,11 @@ abbrev stayed : Stays (this.ended .signature .params) (this.ended .kept)
 stayed = (gave-slice (0 ∷ []) tt (plain (λ _. u32)), (gave-slice (1 ∷ []) tt (plain (λ _. u32)), (stay-none (λ _. T.the-row) yes, tt)))
 
 -- what `collect_tally` says
-abbrev Said : List ℕ → Tally → Collection → List ℕ → Tally → Type 0
-Said w t r w′ t′ = _≡_ {A = Outcome × List ℕ × Tally} (collectionOutcome r, w′, t′) (tallyOf w t)
+abbrev Said : List ℕ → Tally → Answer → List ℕ → Tally → Type 0
+Said w t r w′ t′ = _≡_ {A = Outcome × List ℕ × Tally} (answerOutcome r, w′, t′) (tallyOf w t)
 
 -- what both calls say together is what the function says
-together : (a b : List ℕ) (t : Tally) (r₁ r₂ : Collection) (a′ b′ : List ℕ) (t₁ t₂ : Tally) → Said a t r₁ a′ t₁ → Said b t₁ r₂ b′ t₂
+together : (a b : List ℕ) (t : Tally) (r₁ r₂ : Answer) (a′ b′ : List ℕ) (t₁ t₂ : Tally) → Said a t r₁ a′ t₁ → Said b t₁ r₂ b′ t₂
     → _≡_ {A = List ℕ × List ℕ × Tally} (a′, b′, t₂) (bothTallied a b t)
 together a b t r₁ r₂ a′ b′ t₁ t₂ e₁ e₂ =
     let first : a′ ≡ tallyOf a t .1 = ap (λ (o : Outcome × List ℕ × Tally). o .1) e₁ in
@@ -171,7 +170,7 @@ module _ {M : Type 1} (𝓤 : URA M) (H : Heap 𝓤) (A : Atoms 𝓤) (W : Given
         use1 W (later (some (λ (γ : GName). ‵ (MutRef (named 1) (ν₁ ∷ []) T.the-row .own (lent 𝓤 H A W at-mem run 0 κ₀ q₀ x l₄ γ h) (vptr l₄ 0 ∷ [])) ⊛ ‵ (flent (ν₁ ∷ []) (Body (mem T.the-row) l₄ 0 γ))))) (lends-ref 𝓤 H A W T.the-row (named 1) (ν₁ ∷ []) h l₄ 0) $ await ! tt $ pick ! (λ γ₁. split ! $
         move ! (26 ∷ 2 ∷ 27 ∷ 0 ∷ []) $ join ! $ use3 W (raw (CollectTally 𝓤 H A at-mem run .pre (to-tally 𝓤 H A W at-mem run 0 κ₀ q₀ x ν₁ l₄ γ₁ h))) (goes-tally 𝓤 H A W at-mem run 0 κ₀ q₀ x ν₁ l₄ γ₁ h) $
         calls-at ! fm (CollectTally 𝓤 H A at-mem run) known (to-tally 𝓤 H A W at-mem run 0 κ₀ q₀ x ν₁ l₄ γ₁ h) (and-then ! (load ! (from ! (stop !)) (look ! 10 refl)) (and-then ! (load ! (from ! (stop !)) (look ! 8 refl)) (no-more !))) (λ w₁.
-        use1 W (later (some (λ (r : Collection). ((‵ (flft κ₀ q₀) ⊛ (‵ (flft (ν₁ ∷ []) fullShare) ⊛ ‵ ftrue)) ⊛ ‵ (K.the-row .own r (w₁ ∷ []))) ⊛ raw (ensured 𝓤 H A collect-tally.ended (collect-tally.clauses 𝓤 H A at-mem run) (κ₀, (ν₁ ∷ [], tt)) (x, (lent 𝓤 H A W at-mem run 0 κ₀ q₀ x l₄ γ₁ h, tt)) tt r)))) (id⊢ 𝓤 _) $ await ! tt $ pick ! (λ r₁.
+        use1 W (later (some (λ (r : Answer). ((‵ (flft κ₀ q₀) ⊛ (‵ (flft (ν₁ ∷ []) fullShare) ⊛ ‵ ftrue)) ⊛ ‵ (K.the-row .own r (w₁ ∷ []))) ⊛ raw (ensured 𝓤 H A collect-tally.ended (collect-tally.clauses 𝓤 H A at-mem run) (κ₀, (ν₁ ∷ [], tt)) (x, (lent 𝓤 H A W at-mem run 0 κ₀ q₀ x l₄ γ₁ h, tt)) tt r)))) (id⊢ 𝓤 _) $ await ! tt $ pick ! (λ r₁.
         split ! $ move ! (1 ∷ []) $ use1 W (some (λ (zs : List ℕ × (Tally × Unit {0})). ‵ (lasts collect-tally.ended (κ₀, (ν₁ ∷ [], tt)) (x, (lent 𝓤 H A W at-mem run 0 κ₀ q₀ x l₄ γ₁ h, tt)) zs) ⊛ raw (fact 𝓤 (Said (x .now) h r₁ (zs .0) (zs .1 .0))))) (id⊢ 𝓤 _) $ pick ! (λ z₁.
         split ! $ move ! (1 ∷ []) $ heard ! (Said (x .now) h r₁ (z₁ .0) (z₁ .1 .0)) (λ e₁. fsplit ! $ fsplit ! $ move ! (1 ∷ []) $ feqL ! (λ n₁. move ! (1 ∷ []) $ fsplit ! $
         -- [the tally's last value; true; the last words; the tokens and the answer; the lender's part; …]
@@ -192,7 +191,7 @@ module _ {M : Type 1} (𝓤 : URA M) (H : Heap 𝓤) (A : Atoms 𝓤) (W : Given
         use1 W (later (some (λ (γ : GName). ‵ (MutRef (named 1) (ν₂ ∷ []) T.the-row .own (lent 𝓤 H A W at-mem run 1 κ₁ q₁ y l₄ γ (z₁ .1 .0)) (vptr l₄ 0 ∷ [])) ⊛ ‵ (flent (ν₂ ∷ []) (Body (mem T.the-row) l₄ 0 γ))))) (lends-ref 𝓤 H A W T.the-row (named 1) (ν₂ ∷ []) (z₁ .1 .0) l₄ 0) $ await ! tt $ pick ! (λ γ₂. split ! $
         move ! (28 ∷ 2 ∷ 29 ∷ 0 ∷ []) $ join ! $ use3 W (raw (CollectTally 𝓤 H A at-mem run .pre (to-tally 𝓤 H A W at-mem run 1 κ₁ q₁ y ν₂ l₄ γ₂ (z₁ .1 .0)))) (goes-tally 𝓤 H A W at-mem run 1 κ₁ q₁ y ν₂ l₄ γ₂ (z₁ .1 .0)) $
         calls-at ! fm (CollectTally 𝓤 H A at-mem run) known (to-tally 𝓤 H A W at-mem run 1 κ₁ q₁ y ν₂ l₄ γ₂ (z₁ .1 .0)) (and-then ! (load ! (from ! (stop !)) (look ! 6 refl)) (and-then ! (load ! (from ! (stop !)) (look ! 4 refl)) (no-more !))) (λ w₂.
-        use1 W (later (some (λ (r : Collection). ((‵ (flft κ₁ q₁) ⊛ (‵ (flft (ν₂ ∷ []) fullShare) ⊛ ‵ ftrue)) ⊛ ‵ (K.the-row .own r (w₂ ∷ []))) ⊛ raw (ensured 𝓤 H A collect-tally.ended (collect-tally.clauses 𝓤 H A at-mem run) (κ₁, (ν₂ ∷ [], tt)) (y, (lent 𝓤 H A W at-mem run 1 κ₁ q₁ y l₄ γ₂ (z₁ .1 .0), tt)) tt r)))) (id⊢ 𝓤 _) $ await ! tt $ pick ! (λ r₂.
+        use1 W (later (some (λ (r : Answer). ((‵ (flft κ₁ q₁) ⊛ (‵ (flft (ν₂ ∷ []) fullShare) ⊛ ‵ ftrue)) ⊛ ‵ (K.the-row .own r (w₂ ∷ []))) ⊛ raw (ensured 𝓤 H A collect-tally.ended (collect-tally.clauses 𝓤 H A at-mem run) (κ₁, (ν₂ ∷ [], tt)) (y, (lent 𝓤 H A W at-mem run 1 κ₁ q₁ y l₄ γ₂ (z₁ .1 .0), tt)) tt r)))) (id⊢ 𝓤 _) $ await ! tt $ pick ! (λ r₂.
         split ! $ move ! (1 ∷ []) $ use1 W (some (λ (zs : List ℕ × (Tally × Unit {0})). ‵ (lasts collect-tally.ended (κ₁, (ν₂ ∷ [], tt)) (y, (lent 𝓤 H A W at-mem run 1 κ₁ q₁ y l₄ γ₂ (z₁ .1 .0), tt)) zs) ⊛ raw (fact 𝓤 (Said (y .now) (z₁ .1 .0) r₂ (zs .0) (zs .1 .0))))) (id⊢ 𝓤 _) $ pick ! (λ z₂.
         split ! $ move ! (1 ∷ []) $ heard ! (Said (y .now) (z₁ .1 .0) r₂ (z₂ .0) (z₂ .1 .0)) (λ e₂. fsplit ! $ fsplit ! $ move ! (1 ∷ []) $ feqL ! (λ n₂. move ! (1 ∷ []) $ fsplit ! $
         -- [the tally's last value; true; the last words; the tokens and the answer; the lender's part; …]
