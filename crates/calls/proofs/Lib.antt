@@ -1,2 +1,2 @@
 pub mod Simple
-pub mod Admission
+pub mod Asked

@@ -5,24 +5,13 @@ use mathlib.Core.Bool.{Bool, true, false, cond, _&&_}
 use lib.Dec.{eqb}
 use Rattle.pool.specs.Layout.{registerCount, register, setRegister, cell, setCell, value}
 use Rattle.pool.specs.Validity.{validLink}
-use Rattle.pool.specs.Calls.{admitOf, holdsLink}
-use Rattle.answers.specs.Outcome.{Outcome, answered, refused, refusalNumber}
-use Rattle.pool.specs.declared.Admitted.{Admitted}
-use Rattle.pool.specs.declared.Admitted.the-variants as admitted
-use Rattle.collector.specs.Collect.{collectOf}
+use Rattle.pool.specs.Calls.{admitOf, admittedTo, holdsLink}
+use Rattle.answers.specs.Outcome.{Outcome, answered, refused}
+use Rattle.pool.specs.declared.Named.{Named}
+use Rattle.collector.specs.Collect.{collectIn}
 use Rattle.allocator.specs.Allocation.{newIn}
 use Rattle.calls.specs.declared.Call.{Call}
 use Rattle.calls.specs.declared.Call.the-variants as call
-
--- A call on a pool of n cells, or the refusal, by the answer to the first two questions.
-abbrev pub admittedTo : (ℕ → Outcome × List ℕ) → List ℕ → Admitted → Outcome × List ℕ
-admittedTo body w (admitted.Cells n) = body n
-admittedTo body w (admitted.Refused k) = (refused (refusalNumber k), w)
-
--- The first two questions (`admitOf`): the length and word 0 (1), then the register numbers (2); then the call. A call that names fewer than three
--- registers repeats one.
-abbrev pub asked : List ℕ → ℕ → ℕ → ℕ → (ℕ → Outcome × List ℕ) → Outcome × List ℕ
-asked w r a b body = admittedTo body w (admitOf w r a b)
 
 -- "copy r a"
 abbrev pub copyIn : ℕ → List ℕ → ℕ → ℕ → Outcome × List ℕ
@@ -66,19 +55,41 @@ sameIn n w a b =
     (answered (cond (eqb (register w a) (register w b)) 1 0 ∷ []), w)
     (refused 3, w)
 
--- "a call is one of eleven cases"
+-- The registers that a call names: the second question asks about each. One that names fewer than three repeats one; collect names none, and
+-- register 0 is always there.
+abbrev pub names : ℕ → ℕ → ℕ → Named
+names r a b = record { first = r; second = a; third = b }
+
+abbrev pub registersOf : Call → Named
+registersOf (call.Copy r a) = names r a a
+registersOf (call.Clear r) = names r r r
+registersOf (call.New r a b v) = names r a b
+registersOf (call.Left r a) = names r a a
+registersOf (call.Right r a) = names r a a
+registersOf (call.SetLeft a b) = names a b b
+registersOf (call.SetRight a b) = names a b b
+registersOf (call.SetValue a v) = names a a a
+registersOf (call.Value a) = names a a a
+registersOf (call.Same a b) = names a b b
+registersOf call.Collect = names 0 0 0
+
+-- A call behind its first two questions, on a pool of n cells: "a call is one of eleven cases".
+abbrev pub bodyOf : Call → ℕ → List ℕ → Outcome × List ℕ
+bodyOf (call.Copy r a) n w = copyIn n w r a
+bodyOf (call.Clear r) n w = clearIn w r
+bodyOf (call.New r a b v) n w = newIn n w r a b v
+bodyOf (call.Left r a) n w = followIn n w 1 r a
+bodyOf (call.Right r a) n w = followIn n w 2 r a
+bodyOf (call.SetLeft a b) n w = linkIn n w 1 a b
+bodyOf (call.SetRight a b) n w = linkIn n w 2 a b
+bodyOf (call.SetValue a v) n w = setValueIn n w a v
+bodyOf (call.Value a) n w = valueIn n w a
+bodyOf (call.Same a b) n w = sameIn n w a b
+bodyOf call.Collect n w = collectIn n w
+
+-- A call: the first two questions, and then its body; "A refusal gives its number alone .. and changes nothing".
 abbrev pub callOf : Call → List ℕ → Outcome × List ℕ
-callOf (call.Copy r a) w = asked w r a a λ n. copyIn n w r a
-callOf (call.Clear r) w = asked w r r r λ n. clearIn w r
-callOf (call.New r a b v) w = asked w r a b λ n. newIn n w r a b v
-callOf (call.Left r a) w = asked w r a a λ n. followIn n w 1 r a
-callOf (call.Right r a) w = asked w r a a λ n. followIn n w 2 r a
-callOf (call.SetLeft a b) w = asked w a b b λ n. linkIn n w 1 a b
-callOf (call.SetRight a b) w = asked w a b b λ n. linkIn n w 2 a b
-callOf (call.SetValue a v) w = asked w a a a λ n. setValueIn n w a v
-callOf (call.Value a) w = asked w a a a λ n. valueIn n w a
-callOf (call.Same a b) w = asked w a b b λ n. sameIn n w a b
-callOf call.Collect w = collectOf w
+callOf c w = admittedTo (λ n. bodyOf c n w) (λ k. (refused k, w)) (admitOf w (registersOf c))
 
 -- Does the call allocate a cell? "new" does, no other.
 abbrev pub allocates : Call → Bool

@@ -4,13 +4,14 @@ use answers::Answer;
 use answers::Refusal;
 use pool::Admitted;
 use pool::Held;
+use pool::Named;
 use pool::Pool;
 ghost use mathlib.Core.Path.{_≡_};
 ghost use Prim.Native.Nat.{_<_, _≤_};
 ghost use lib.ListN.{length};
 ghost use Rattle.pool.specs.Layout.{registerCount, poolLength};
 ghost use Rattle.answers.specs.Outcome.{answerOutcome};
-ghost use Rattle.calls.specs.Calls.{copyIn, clearIn, followIn, linkIn, setValueIn, valueIn, sameIn, asked, callOf};
+ghost use Rattle.calls.specs.Calls.{copyIn, clearIn, followIn, linkIn, setValueIn, valueIn, sameIn, names, callOf};
 
 // A call: r, a and b are register numbers, v is a value.
 pub enum Call {
@@ -139,11 +140,22 @@ fn same_in(words: &[u32], n: u32, a: u32, b: u32) -> Answer
     }
 }
 
+// The registers r, a and b.
+fn names(r: u32, a: u32, b: u32) -> Named
+    ensures { λ q. ⌜ q ≡ names r a b ⌝ }
+{
+    Named {
+        first: r,
+        second: a,
+        third: b,
+    }
+}
+
 // copy r a: r gets what a holds.
 pub fn copy(words: &mut [u32], r: u32, a: u32) -> Answer
     ensures { λ q. ⌜ (answerOutcome q, now (words .exit)) ≡ callOf (Call.Copy r a) (now (words .entry)) ⌝ }
 {
-    match pool::admit(words, r, a, a) {
+    match pool::admit(words, names(r, a, a)) {
         Admitted::Cells(n) => copy_in(words, n, r, a),
         Admitted::Refused(k) => Answer::Refused(k),
     }
@@ -153,7 +165,7 @@ pub fn copy(words: &mut [u32], r: u32, a: u32) -> Answer
 pub fn clear(words: &mut [u32], r: u32) -> Answer
     ensures { λ q. ⌜ (answerOutcome q, now (words .exit)) ≡ callOf (Call.Clear r) (now (words .entry)) ⌝ }
 {
-    match pool::admit(words, r, r, r) {
+    match pool::admit(words, names(r, r, r)) {
         Admitted::Cells(_) => clear_in(words, r),
         Admitted::Refused(k) => Answer::Refused(k),
     }
@@ -163,19 +175,8 @@ pub fn clear(words: &mut [u32], r: u32) -> Answer
 pub fn new(words: &mut [u32], r: u32, a: u32, b: u32, v: u32) -> Answer
     ensures { λ q. ⌜ (answerOutcome q, now (words .exit)) ≡ callOf (Call.New r a b v) (now (words .entry)) ⌝ }
 {
-    match pool::admit(words, r, a, b) {
+    match pool::admit(words, names(r, a, b)) {
         Admitted::Cells(n) => allocator::new_in(words, n, r, a, b, v),
-        Admitted::Refused(k) => Answer::Refused(k),
-    }
-}
-
-// r gets a link of a's cell, on any words.
-fn follow(words: &mut [u32], field: usize, r: u32, a: u32) -> Answer
-    requires { ⌜ field < 4 ⌝ }
-    ensures { λ q. ⌜ (answerOutcome q, now (words .exit)) ≡ asked (now (words .entry)) r a a (λ n. followIn n (now (words .entry)) field r a) ⌝ }
-{
-    match pool::admit(words, r, a, a) {
-        Admitted::Cells(n) => follow_in(words, n, field, r, a),
         Admitted::Refused(k) => Answer::Refused(k),
     }
 }
@@ -184,23 +185,18 @@ fn follow(words: &mut [u32], field: usize, r: u32, a: u32) -> Answer
 pub fn left(words: &mut [u32], r: u32, a: u32) -> Answer
     ensures { λ q. ⌜ (answerOutcome q, now (words .exit)) ≡ callOf (Call.Left r a) (now (words .entry)) ⌝ }
 {
-    follow(words, Pool::LEFT, r, a)
+    match pool::admit(words, names(r, a, a)) {
+        Admitted::Cells(n) => follow_in(words, n, Pool::LEFT, r, a),
+        Admitted::Refused(k) => Answer::Refused(k),
+    }
 }
 
 // right r a: r gets the right link of a's cell.
 pub fn right(words: &mut [u32], r: u32, a: u32) -> Answer
     ensures { λ q. ⌜ (answerOutcome q, now (words .exit)) ≡ callOf (Call.Right r a) (now (words .entry)) ⌝ }
 {
-    follow(words, Pool::RIGHT, r, a)
-}
-
-// A link of a's cell becomes what b holds, on any words.
-fn link(words: &mut [u32], field: usize, a: u32, b: u32) -> Answer
-    requires { ⌜ field < 4 ⌝ }
-    ensures { λ q. ⌜ (answerOutcome q, now (words .exit)) ≡ asked (now (words .entry)) a b b (λ n. linkIn n (now (words .entry)) field a b) ⌝ }
-{
-    match pool::admit(words, a, b, b) {
-        Admitted::Cells(n) => link_in(words, n, field, a, b),
+    match pool::admit(words, names(r, a, a)) {
+        Admitted::Cells(n) => follow_in(words, n, Pool::RIGHT, r, a),
         Admitted::Refused(k) => Answer::Refused(k),
     }
 }
@@ -209,21 +205,27 @@ fn link(words: &mut [u32], field: usize, a: u32, b: u32) -> Answer
 pub fn set_left(words: &mut [u32], a: u32, b: u32) -> Answer
     ensures { λ q. ⌜ (answerOutcome q, now (words .exit)) ≡ callOf (Call.SetLeft a b) (now (words .entry)) ⌝ }
 {
-    link(words, Pool::LEFT, a, b)
+    match pool::admit(words, names(a, b, b)) {
+        Admitted::Cells(n) => link_in(words, n, Pool::LEFT, a, b),
+        Admitted::Refused(k) => Answer::Refused(k),
+    }
 }
 
 // setright a b: the right link of a's cell becomes what b holds.
 pub fn set_right(words: &mut [u32], a: u32, b: u32) -> Answer
     ensures { λ q. ⌜ (answerOutcome q, now (words .exit)) ≡ callOf (Call.SetRight a b) (now (words .entry)) ⌝ }
 {
-    link(words, Pool::RIGHT, a, b)
+    match pool::admit(words, names(a, b, b)) {
+        Admitted::Cells(n) => link_in(words, n, Pool::RIGHT, a, b),
+        Admitted::Refused(k) => Answer::Refused(k),
+    }
 }
 
 // setvalue a v: the value of a's cell becomes v.
 pub fn set_value(words: &mut [u32], a: u32, v: u32) -> Answer
     ensures { λ q. ⌜ (answerOutcome q, now (words .exit)) ≡ callOf (Call.SetValue a v) (now (words .entry)) ⌝ }
 {
-    match pool::admit(words, a, a, a) {
+    match pool::admit(words, names(a, a, a)) {
         Admitted::Cells(n) => set_value_in(words, n, a, v),
         Admitted::Refused(k) => Answer::Refused(k),
     }
@@ -233,7 +235,7 @@ pub fn set_value(words: &mut [u32], a: u32, v: u32) -> Answer
 pub fn value(words: &[u32], a: u32) -> Answer
     ensures { λ q. ⌜ (answerOutcome q, now (words .entry)) ≡ callOf (Call.Value a) (now (words .entry)) ⌝ }
 {
-    match pool::admit(words, a, a, a) {
+    match pool::admit(words, names(a, a, a)) {
         Admitted::Cells(n) => value_in(words, n, a),
         Admitted::Refused(k) => Answer::Refused(k),
     }
@@ -243,7 +245,7 @@ pub fn value(words: &[u32], a: u32) -> Answer
 pub fn same(words: &[u32], a: u32, b: u32) -> Answer
     ensures { λ q. ⌜ (answerOutcome q, now (words .entry)) ≡ callOf (Call.Same a b) (now (words .entry)) ⌝ }
 {
-    match pool::admit(words, a, b, b) {
+    match pool::admit(words, names(a, b, b)) {
         Admitted::Cells(n) => same_in(words, n, a, b),
         Admitted::Refused(k) => Answer::Refused(k),
     }
@@ -253,12 +255,15 @@ pub fn same(words: &[u32], a: u32, b: u32) -> Answer
 pub fn collect(words: &mut [u32]) -> Answer
     ensures { λ q. ⌜ (answerOutcome q, now (words .exit)) ≡ callOf Call.Collect (now (words .entry)) ⌝ }
 {
-    collector::collect(words)
+    match pool::admit(words, names(0, 0, 0)) {
+        Admitted::Cells(n) => collector::collect_in(words, n),
+        Admitted::Refused(k) => Answer::Refused(k),
+    }
 }
 
 impl Call {
     // Runs the call.
-    fn answer(self, words: &mut [u32]) -> Answer
+    pub fn answer(self, words: &mut [u32]) -> Answer
         ensures { λ q. ⌜ (answerOutcome q, now (words .exit)) ≡ callOf self (now (words .entry)) ⌝ }
     {
         match self {

@@ -3,10 +3,10 @@ use Prim.Native.Nat.{ℕ, _*_}
 use mathlib.Core.List.{List, [], _∷_}
 use mathlib.Core.Bool.{Bool, cond}
 use lib.ListN.{length}
-use lib.Dec.{ltb}
 use Rattle.graph.specs.Order.{has, order}
-use Rattle.pool.specs.Layout.{registerCount, cellsOf, graphOf, rootsOf}
+use Rattle.pool.specs.Layout.{registerCount, graphOf, rootsOf}
 use Rattle.pool.specs.Validity.{wellFormed}
+use Rattle.pool.specs.Calls.{sizedOf, admittedTo}
 use Rattle.pool.specs.Retain.{retain}
 use Rattle.answers.specs.Outcome.{Outcome, answered, refused}
 
@@ -35,4 +35,4 @@ collectIn n w =
 
 -- The call: the first question, then the collection.
 abbrev pub collectOf : List ℕ → Outcome × List ℕ
-collectOf w = let n = cellsOf registerCount w in cond (ltb 0 n) (collectIn n w) (refused 1, w)
+collectOf w = admittedTo (λ n. collectIn n w) (λ k. (refused k, w)) (sizedOf w)

@@ -1,6 +1,7 @@
 // Marking by link reversal, and the collection that marks and sweeps.
 use answers::Answer;
 use answers::Refusal;
+use pool::Admitted;
 use pool::Pool;
 ghost use mathlib.Core.Path.{_≡_};
 ghost use Prim.Native.Nat.{ℕ, _+_, _^_, _<_, _≤_};
@@ -133,9 +134,8 @@ pub fn collect_in(words: &mut [u32], n: u32) -> Answer
 pub fn collect(words: &mut [u32]) -> Answer
     ensures { λ r. ⌜ (answerOutcome r, now (words .exit)) ≡ collectOf (now (words .entry)) ⌝ }
 {
-    let n = pool::cells(words);
-    if n == 0 {
-        return Answer::Refused(Refusal::Size);
+    match pool::sized(words) {
+        Admitted::Cells(n) => collect_in(words, n),
+        Admitted::Refused(k) => Answer::Refused(k),
     }
-    collect_in(words, n)
 }

@@ -8,3 +8,4 @@ pub mod RetainedPool
 pub mod AllKept
 pub mod FreshPool
 pub mod RegisterLinks
+pub mod Admission

@@ -14,6 +14,10 @@ pub both : (a b : Bool) → (a && b) ≡ true → (a ≡ true) × (b ≡ true)
 both true b h = (refl, h)
 both false b h = absurd (false≢true h)
 
+-- two parts of a test hold, and the third decides
+pub third-decides : (a b c : Bool) → a ≡ true → b ≡ true → c ≡ (a && b && c)
+third-decides a b c ha hb = rw (ha, hb)
+
 -- a length that is a pool's is that of its number of cells, which is within the limits
 pub record Sized (R len n : ℕ) : Type 0 where
   pub exact : len ≡ poolLength R n

@@ -7,12 +7,13 @@ use lib.Dec.{leb, ltb}
 use Rattle.answers.specs.declared.Refusal.the-variants as refusal
 use Rattle.pool.specs.declared.Admitted.{Admitted}
 use Rattle.pool.specs.declared.Admitted.the-variants as admitted
+use Rattle.pool.specs.declared.Named.{Named}
 use Rattle.pool.specs.declared.Held.{Held}
 use Rattle.pool.specs.declared.Held.the-variants as held
 use Rattle.pool.specs.Layout.{cellLimit, registerCount, cellsOfLength, cellsOf, register}
 use Rattle.pool.specs.Validity.{validLink}
 use Rattle.pool.specs.Retain.{freshWords}
-use Rattle.answers.specs.Outcome.{Outcome, answered, refused}
+use Rattle.answers.specs.Outcome.{Outcome, answered, refused, refusalNumber}
 
 -- Fresh: "N from the length alone", refusal 1 where there is none; refused, nothing changes.
 abbrev pub freshOf : List ℕ → Outcome × List ℕ
@@ -22,14 +23,27 @@ freshOf w = let n = cellsOfLength registerCount (length w) in cond (ltb 0 n) (an
 abbrev pub occupancyOf : ℕ → ℕ → Outcome
 occupancyOf kept n = cond (leb 1 n && leb n cellLimit && leb kept n) (answered (100 * kept / n ∷ [])) (refused 1)
 
--- The first two questions: the length and word 0 (1), then that every register number is below 16 (2).
-abbrev pub admitOf : List ℕ → ℕ → ℕ → ℕ → Admitted
-admitOf w r a b =
-    cond (ltb 0 (cellsOf registerCount w))
-    (cond (ltb r registerCount && ltb a registerCount && ltb b registerCount)
-    (admitted.Cells (cellsOf registerCount w))
-    (admitted.Refused refusal.Register))
-    (admitted.Refused refusal.Size)
+-- The first question: "Is the length 18 + 4 × N, N within limits, and (in every call but fresh and load) word 0 that N? .. No: 1." It hands on the number
+-- of cells.
+abbrev pub sizedOf : List ℕ → Admitted
+sizedOf w = cond (ltb 0 (cellsOf registerCount w)) (admitted.Cells (cellsOf registerCount w)) (admitted.Refused refusal.Size)
+
+-- The second: "Is every register number below 16? No: 2." A call that names fewer than three registers repeats one.
+abbrev pub areRegisters : Named → Bool
+areRegisters named = ltb (named .first) registerCount && ltb (named .second) registerCount && ltb (named .third) registerCount
+
+abbrev pub askedNext : Bool → Admitted → Admitted
+askedNext there (admitted.Cells n) = cond there (admitted.Cells n) (admitted.Refused refusal.Register)
+askedNext there (admitted.Refused k) = admitted.Refused k
+
+-- The first two questions, in order.
+abbrev pub admitOf : List ℕ → Named → Admitted
+admitOf w named = askedNext (areRegisters named) (sizedOf w)
+
+-- What follows the questions: an operation on a pool of so many cells, or the refusal with its number.
+abbrev pub admittedTo : {A : Type 0} → (ℕ → A) → (ℕ → A) → Admitted → A
+admittedTo body refusing (admitted.Cells n) = body n
+admittedTo body refusing (admitted.Refused k) = refusing (refusalNumber k)
 
 -- "Are the registers read sound? .. No: 3": whether register a holds a valid link, and that link.
 abbrev pub holdsLink : ℕ → List ℕ → ℕ → Bool

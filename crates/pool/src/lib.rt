@@ -7,16 +7,23 @@ use answers::Refusal;
 ghost use mathlib.Core.Path.{_≡_};
 ghost use Prim.Native.Nat.{_+_, _<_, _≤_};
 ghost use lib.ListN.{length, replicate};
-ghost use Rattle.pool.specs.Layout.{registerCount, poolLength, cellsOfLength, cellsOf, cell, setCell, register, setRegister, head, setHead};
+ghost use Rattle.pool.specs.Layout.{registerCount, poolLength, cellsOfLength, cell, setCell, register, setRegister, head, setHead};
 ghost use Rattle.pool.specs.Validity.{validLink, validCell, registersValid, cellsValid, wellFormed};
 ghost use Rattle.pool.specs.Retain.{sweepOf, freeCell};
 ghost use Rattle.answers.specs.Outcome.{answerOutcome};
-ghost use Rattle.pool.specs.Calls.{freshOf, occupancyOf, admitOf, heldOf};
+ghost use Rattle.pool.specs.Calls.{freshOf, occupancyOf, sizedOf, areRegisters, admitOf, heldOf};
 
 // The pool: its limits, and where everything stands in its words.
 pub struct Pool {}
 
-// The first two questions of every call: the number of cells, or the refusal.
+// The registers that a call names. A call that names fewer than three repeats one.
+pub struct Named {
+    pub first: u32,
+    pub second: u32,
+    pub third: u32,
+}
+
+// What the first questions of an operation come to: the number of cells, or the refusal.
 pub enum Admitted {
     Cells(u32),
     Refused(Refusal),
@@ -92,35 +99,48 @@ pub fn cells_of_length(len: usize) -> u32
     ((len - Pool::FIRST_CELL) / Pool::CELL_WORDS) as u32
 }
 
-// The number of cells of the pool, or 0 where the words are no pool: the first question.
-pub fn cells(words: &[u32]) -> u32
-    ensures { λ r. ⌜ r ≡ cellsOf registerCount (now (words .entry)) ⌝ }
+// The first question: are the words a pool? It hands on the number of cells.
+pub fn sized(words: &[u32]) -> Admitted
+    ensures { λ q. ⌜ q ≡ sizedOf (now (words .entry)) ⌝ }
 {
     let n = cells_of_length(words.len());
     if n == 0 {
-        return 0;
-    }
-    if words[Pool::COUNT] == n { n } else { 0 }
-}
-
-// The first two questions: are the words a pool, and are these registers? A call that names fewer registers repeats one.
-pub fn admit(words: &[u32], r: u32, a: u32, b: u32) -> Admitted
-    ensures { λ q. ⌜ q ≡ admitOf (now (words .entry)) r a b ⌝ }
-{
-    let n = cells(words);
-    if n == 0 {
         return Admitted::Refused(Refusal::Size);
     }
-    if Pool::REGISTERS <= r {
-        return Admitted::Refused(Refusal::Register);
+    if words[Pool::COUNT] == n {
+        Admitted::Cells(n)
+    } else {
+        Admitted::Refused(Refusal::Size)
     }
-    if Pool::REGISTERS <= a {
-        return Admitted::Refused(Refusal::Register);
+}
+
+// The second question: are these registers?
+fn are_registers(named: Named) -> bool
+    ensures { λ q. ⌜ q ≡ areRegisters named ⌝ }
+{
+    if Pool::REGISTERS <= named.first {
+        return false;
     }
-    if Pool::REGISTERS <= b {
-        return Admitted::Refused(Refusal::Register);
+    if Pool::REGISTERS <= named.second {
+        return false;
     }
-    Admitted::Cells(n)
+    named.third < Pool::REGISTERS
+}
+
+// The first two questions.
+pub fn admit(words: &[u32], named: Named) -> Admitted
+    ensures { λ q. ⌜ q ≡ admitOf (now (words .entry)) named ⌝ }
+{
+    match sized(words) {
+        Admitted::Cells(n) => {
+            if are_registers(named) {
+                Admitted::Cells(n)
+            } else {
+                Admitted::Refused(Refusal::Register)
+            }
+        }
+        Admitted::Refused(k) => Admitted::Refused(k),
+    }
 }
 
 // The percent of the cells that are kept, rounded down.

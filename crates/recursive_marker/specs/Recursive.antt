@@ -3,11 +3,12 @@ use Prim.Native.Nat.{ℕ, _+_, _*_, _^_, _<_, _≤_}
 use mathlib.Core.List.{List}
 use mathlib.Core.Bool.{cond}
 use lib.ListN.{length}
-use lib.Dec.{ltb, leb}
+use lib.Dec.{leb}
 use Rattle.graph.specs.Graph.{Graph}
 use Rattle.graph.specs.Dfs.{Dfs}
 use Rattle.graph.specs.Marking.{marked}
-use Rattle.pool.specs.Layout.{registerCount, cellsOf}
+use Rattle.pool.specs.Layout.{registerCount}
+use Rattle.pool.specs.Calls.{sizedOf, admittedTo}
 use Rattle.answers.specs.Outcome.{Outcome, refused}
 use Rattle.collector.specs.Collect.{collectIn}
 use Rattle.collector.specs.Reversal.{markAll}
@@ -19,9 +20,7 @@ recursionLimit = 64
 
 -- The call: the first question, "N at most 64? No: 11", and then the same collection as `collect`'s.
 abbrev pub recursiveOf : List ℕ → Outcome × List ℕ
-recursiveOf w =
-    let n = cellsOf registerCount w in
-    cond (ltb 0 n) (cond (leb n recursionLimit) (collectIn n w) (refused 11, w)) (refused 1, w)
+recursiveOf w = admittedTo (λ n. cond (leb n recursionLimit) (collectIn n w) (refused 11, w)) (λ k. (refused k, w)) (sizedOf w)
 
 -- What a visit of the link p may rely on: the words hold the n cells of a graph, of which some are marked; the visit newly marks `cells`; the
 -- depth left is no less than the number of unmarked cells, so it does not run out; and three visits for each cell still fit.

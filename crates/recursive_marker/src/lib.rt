@@ -1,6 +1,7 @@
 // The recursive procedure of source document 000 as a marker, for pools of at most 64 cells (01: bench marker).
 use answers::Answer;
 use answers::Refusal;
+use pool::Admitted;
 use pool::Pool;
 ghost use mathlib.Core.Path.{_≡_};
 ghost use Prim.Native.Nat.{ℕ, _≤_};
@@ -69,12 +70,14 @@ fn collect_in(words: &mut [u32], n: u32) -> Answer
 pub fn collect_recursive(words: &mut [u32]) -> Answer
     ensures { λ r. ⌜ (answerOutcome r, now (words .exit)) ≡ recursiveOf (now (words .entry)) ⌝ }
 {
-    let n = pool::cells(words);
-    if n == 0 {
-        return Answer::Refused(Refusal::Size);
+    match pool::sized(words) {
+        Admitted::Cells(n) => {
+            if DEPTH < n {
+                Answer::Refused(Refusal::TooLarge)
+            } else {
+                collect_in(words, n)
+            }
+        }
+        Admitted::Refused(k) => Answer::Refused(k),
     }
-    if DEPTH < n {
-        return Answer::Refused(Refusal::TooLarge);
-    }
-    collect_in(words, n)
 }

@@ -3,18 +3,17 @@ use Prim.Native.Nat.{ℕ, _*_}
 use native.Mathlib.Omega.{arith}
 use mathlib.Core.Path.{_≡_, refl, _∙_}
 use mathlib.Core.List.{List, [], _∷_}
-use borrow.Author.Tests.{lt-ltb}
 use Rattle.graph.specs.Graph.{Reach}
 use Rattle.graph.proofs.Pairing.{paired-reach}
 use Rattle.pool.specs.Layout.{registerCount, cell, graphOf, rootsOf}
 use Rattle.answers.specs.Outcome.{answered}
 use Rattle.pool.proofs.Retained.{length-retain, retain-count, retain-register}
 use Rattle.pool.proofs.WellFormed.{well-formed-made}
-use Rattle.collector.specs.Collect.{isReached, collected, collectOf}
+use Rattle.collector.specs.Collect.{isReached, collected, collectIn}
 use Rattle.collector.proofs.Collected.{collected-field, collected-well-formed}
 use Rattle.reference.specs.Model.{Model, live}
 use Rattle.reference.proofs.FreeList.{retained-exact}
-use Rattle.reference.proofs.Invariant.{Invariant, inv-cells, inv-room}
+use Rattle.reference.proofs.Invariant.{Invariant, inv-room}
 use Rattle.reference.proofs.Fields.{Field, number}
 use Rattle.reference.proofs.Represents.{Pair, Represents, rep-made, root-pair, field-related, kept-live}
 use Rattle.reference.proofs.Steps.{Step}
@@ -42,7 +41,7 @@ module _ {N : ℕ} {w : List ℕ} (inv : Invariant N w) where
       (λ k low. rw (retain-register registerCount N (isReached registerCount N w) w (inv-room inv) k low) (root-pair rep k low))
       (λ x y pair hx hy f. rw (field-kept f (paired-reach pair hx)) (field-related rep x y pair hx hy f))
 
-  pub collect-step : {m : Model} → Represents w m → Step N (collectOf w) (answered (live m ∷ 3 * live m ∷ []), m)
+  pub collect-step : {m : Model} → Represents w m → Step N (collectIn N w) (answered (live m ∷ 3 * live m ∷ []), m)
   collect-step {m} rep =
-      rw (inv-cells inv, lt-ltb 0 N (inv .sized .least), well-formed-made registerCount N w (inv .well), kept-live rep inv)
+      rw (well-formed-made registerCount N w (inv .well), kept-live rep inv)
       (record { answer = refl; inv = collected-inv; rep = collected-rep rep })

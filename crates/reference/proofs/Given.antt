@@ -9,17 +9,17 @@ use lib.Seq.{ext-getD}
 use lib.Dec.{eqb, leb, ltb}
 use Rattle.pool.specs.Layout.{registerCount, cellsOf, register, setRegister, cell, setCell, value, head}
 use Rattle.pool.specs.Validity.{validLink, wellFormed}
-use Rattle.pool.specs.Calls.{holdsLink}
+use Rattle.pool.specs.Calls.{areRegisters, askedNext, admittedTo, holdsLink}
 use Rattle.answers.specs.Outcome.{Outcome, answered, allocated, refused, status, given}
 use Rattle.pool.specs.declared.Admitted.the-variants as admitted
 use Rattle.answers.specs.declared.Refusal.the-variants as refusal
 use Rattle.collector.specs.Collect.{collected}
-use Rattle.allocator.specs.Allocation.{goodHead, takeCollected, newIn}
+use Rattle.allocator.specs.Allocation.{goodHead}
 use Rattle.calls.specs.declared.Call.{Call}
 use Rattle.calls.specs.declared.Call.the-variants as call
-use Rattle.calls.specs.Calls.{admittedTo, asked, withCell, followIn, linkIn, callOf, allocates}
+use Rattle.calls.specs.Calls.{registersOf, bodyOf, withCell, followIn, linkIn, callOf, allocates}
 use Rattle.batch.specs.Run.{answersOf, answerWords}
-use Rattle.reference.specs.Model.{Model, held, valid, live, named, onCell, modelOf}
+use Rattle.reference.specs.Model.{Model, held, live, onCell, modelBody, modelOf}
 use Rattle.reference.specs.Equivalence.{compared, poolAnswers, modelAnswers}
 use Rattle.reference.specs.RunEquivalence.{comparedWords}
 
@@ -67,88 +67,80 @@ gives-cond : {A : Type 0} (P : Outcome → Type 0) (t : Bool) (p q : Outcome × 
 gives-cond P true p q a b = a
 gives-cond P false p q a b = b
 
-module _ (P : Outcome → Type 0) (w : List ℕ) where
-  gives-asked : (r a b : ℕ) (body : ℕ → Outcome × List ℕ) → P (refused 1) → P (refused 2) → ((n : ℕ) → P (body n .0)) → P (asked w r a b body .0)
-  gives-asked r a b body one two accepted =
-      go (ltb 0 (cellsOf registerCount w)) (ltb r registerCount && ltb a registerCount && ltb b registerCount)
-    where
-      go : (s t : Bool)
-          → P (admittedTo body w (cond s (cond t (admitted.Cells (cellsOf registerCount w)) (admitted.Refused refusal.Register)) (admitted.Refused refusal.Size)) .0)
-      go true true = accepted (cellsOf registerCount w)
-      go true false = two
-      go false t = one
+-- an answer behind the first two questions
+gives-called : (P : Outcome → Type 0) (c : Call) (w : List ℕ) → P (refused 1) → P (refused 2) → ((n : ℕ) → P (bodyOf c n w .0)) → P (callOf c w .0)
+gives-called P c w one two accepted = go (ltb 0 (cellsOf registerCount w)) (areRegisters (registersOf c))
+  where
+    go : (s t : Bool)
+        → P (admittedTo (λ n. bodyOf c n w) (λ k. (refused k, w)) (askedNext t (cond s (admitted.Cells (cellsOf registerCount w)) (admitted.Refused refusal.Size))) .0)
+    go true true = accepted (cellsOf registerCount w)
+    go true false = two
+    go false t = one
 
+module _ (P : Outcome → Type 0) (w : List ℕ) where
   gives-cell : (n a : ℕ) (body : ℕ → Outcome × List ℕ) → P (refused 3) → P (refused 4) → ((x : ℕ) → P (body x .0)) → P (withCell n w a body .0)
   gives-cell n a body three four accepted =
       gives-cond P (holdsLink n w a) _ _ (gives-cond P (eqb (register w a) 0) (refused 4, w) (body (register w a)) four (accepted _)) three
 
-follow-gives : (field r a : ℕ) (w : List ℕ) → Gives Positive false 0 (asked w r a a (λ n. followIn n w field r a) .0)
-follow-gives field r a w =
+follow-gives : (field r a n : ℕ) (w : List ℕ) → Gives Positive false 0 (followIn n w field r a .0)
+follow-gives field r a n w =
     let P = Gives Positive false 0 in
-    gives-asked P w r a a _ (omega arith) (omega arith) λ n.
     gives-cell P w n a
     (λ x. cond (validLink registerCount n w (cell registerCount w x field)) (answered [], setRegister w r (cell registerCount w x field)) (refused 3, w))
     (omega arith) (omega arith) λ x.
     gives-cond P (validLink registerCount n w (cell registerCount w x field)) (answered [], _) (refused 3, w) (refl, refl) (omega arith)
 
-link-gives : (field a b : ℕ) (w : List ℕ) → Gives Positive false 0 (asked w a b b (λ n. linkIn n w field a b) .0)
-link-gives field a b w =
+link-gives : (field a b n : ℕ) (w : List ℕ) → Gives Positive false 0 (linkIn n w field a b .0)
+link-gives field a b n w =
     let P = Gives Positive false 0 in
-    gives-asked P w a b b _ (omega arith) (omega arith) λ n.
     gives-cond P (holdsLink n w b) (withCell n w a λ x. (answered [], setCell registerCount w x field (register w b))) (refused 3, w)
     (gives-cell P w n a (λ x. (answered [], setCell registerCount w x field (register w b))) (omega arith) (omega arith) λ x. (refl, refl)) (omega arith)
 
-pub pool-gives : (c : Call) (w : List ℕ) → Gives Positive (allocates c) (numbersOf c) (callOf c w .0)
-pool-gives (call.Copy r a) w =
-    let P = Gives Positive false 0 in
-    gives-asked P w r a a _ (omega arith) (omega arith) λ n. gives-cond P (holdsLink n w a) _ _ (refl, refl) (omega arith)
-pool-gives (call.Clear r) w = gives-asked (Gives Positive false 0) w r r r _ (omega arith) (omega arith) λ n. (refl, refl)
-pool-gives (call.New r a b v) w =
+body-gives : (c : Call) (n : ℕ) (w : List ℕ) → Gives Positive (allocates c) (numbersOf c) (bodyOf c n w .0)
+body-gives (call.Copy r a) n w = gives-cond (Gives Positive false 0) (holdsLink n w a) _ _ (refl, refl) (omega arith)
+body-gives (call.Clear r) n w = (refl, refl)
+body-gives (call.New r a b v) n w =
     let P = Gives Positive true 0 in
-    gives-asked P w r a b _ (omega arith) (omega arith) λ n.
     gives-cond P (holdsLink n w a && holdsLink n w b) _ _
     (gives-cond P (eqb (head w) 0) _ _
     (gives-cond P (wellFormed registerCount n w) _ _ (gives-cond P (eqb (head (collected registerCount n w)) 0) (refused 5, w) _ (omega arith) (refl, refl)) (omega arith))
     (gives-cond P (goodHead n w) _ _ (refl, refl) (omega arith)))
     (omega arith)
-pool-gives (call.Left r a) w = follow-gives 1 r a w
-pool-gives (call.Right r a) w = follow-gives 2 r a w
-pool-gives (call.SetLeft a b) w = link-gives 1 a b w
-pool-gives (call.SetRight a b) w = link-gives 2 a b w
-pool-gives (call.SetValue a v) w =
-    let P = Gives Positive false 0 in
-    gives-asked P w a a a _ (omega arith) (omega arith) λ n. gives-cell P w n a (λ x. (answered [], setCell registerCount w x 3 v)) (omega arith) (omega arith) λ x. (refl, refl)
-pool-gives (call.Value a) w =
-    let P = Gives Positive false 1 in
-    gives-asked P w a a a _ (omega arith) (omega arith) λ n. gives-cell P w n a (λ x. (answered (value registerCount w x ∷ []), w)) (omega arith) (omega arith) λ x. (refl, refl)
-pool-gives (call.Same a b) w =
-    let P = Gives Positive false 1 in
-    gives-asked P w a b b _ (omega arith) (omega arith) λ n. gives-cond P (holdsLink n w a && holdsLink n w b) _ _ (refl, refl) (omega arith)
-pool-gives call.Collect w =
-    let P = Gives Positive false 2 in
-    gives-cond P (ltb 0 (cellsOf registerCount w)) _ _
-    (gives-cond P (wellFormed registerCount (cellsOf registerCount w) w) _ _ (refl, refl) (omega arith))
-    (omega arith)
+body-gives (call.Left r a) n w = follow-gives 1 r a n w
+body-gives (call.Right r a) n w = follow-gives 2 r a n w
+body-gives (call.SetLeft a b) n w = link-gives 1 a b n w
+body-gives (call.SetRight a b) n w = link-gives 2 a b n w
+body-gives (call.SetValue a v) n w =
+    gives-cell (Gives Positive false 0) w n a (λ x. (answered [], setCell registerCount w x 3 v)) (omega arith) (omega arith) λ x. (refl, refl)
+body-gives (call.Value a) n w =
+    gives-cell (Gives Positive false 1) w n a (λ x. (answered (value registerCount w x ∷ []), w)) (omega arith) (omega arith) λ x. (refl, refl)
+body-gives (call.Same a b) n w =
+    gives-cond (Gives Positive false 1) (holdsLink n w a && holdsLink n w b) _ _ (refl, refl) (omega arith)
+body-gives call.Collect n w = gives-cond (Gives Positive false 2) (wellFormed registerCount n w) _ _ (refl, refl) (omega arith)
+
+pool-gives : (c : Call) (w : List ℕ) → Gives Positive (allocates c) (numbersOf c) (callOf c w .0)
+pool-gives c w = gives-called (Gives Positive (allocates c) (numbersOf c)) c w (omega arith) (omega arith) (λ n. body-gives c n w)
 
 module _ (m : Model) where
-  gives-named : (n r a b : ℕ) (p : Outcome × Model) → Gives Mild false n (p .0) → Gives Mild false n ((named m r a b p) .0)
-  gives-named n r a b p accepted = gives-cond (Gives Mild false n) (valid r a b) p (refused 2, m) accepted (omega arith)
-
   gives-held : (n a : ℕ) (p : Outcome × Model) → Gives Mild false n (p .0) → Gives Mild false n ((onCell m a p) .0)
   gives-held n a p accepted = gives-cond (Gives Mild false n) (eqb (held m a) 0) (refused 4, m) p (omega arith) accepted
 
+  pub model-body-gives : (L : ℕ) (c : Call) → Gives Mild false (numbersOf c) ((modelBody L c m) .0)
+  model-body-gives L (call.Copy r a) = (refl, refl)
+  model-body-gives L (call.Clear r) = (refl, refl)
+  model-body-gives L (call.New r a b v) = gives-cond (Gives Mild false 0) (leb L (live m)) (refused 5, m) _ (omega arith) (refl, refl)
+  model-body-gives L (call.Left r a) = gives-held 0 a _ (refl, refl)
+  model-body-gives L (call.Right r a) = gives-held 0 a _ (refl, refl)
+  model-body-gives L (call.SetLeft a b) = gives-held 0 a _ (refl, refl)
+  model-body-gives L (call.SetRight a b) = gives-held 0 a _ (refl, refl)
+  model-body-gives L (call.SetValue a v) = gives-held 0 a _ (refl, refl)
+  model-body-gives L (call.Value a) = gives-held 1 a _ (refl, refl)
+  model-body-gives L (call.Same a b) = (refl, refl)
+  model-body-gives L call.Collect = (refl, refl)
+
   pub model-gives : (L : ℕ) (c : Call) → Gives Mild false (numbersOf c) ((modelOf L c m) .0)
-  model-gives L (call.Copy r a) = gives-named 0 r a a _ (refl, refl)
-  model-gives L (call.Clear r) = gives-named 0 r r r _ (refl, refl)
-  model-gives L (call.New r a b v) = gives-named 0 r a b _ (gives-cond (Gives Mild false 0) (leb L (live m)) (refused 5, m) _ (omega arith) (refl, refl))
-  model-gives L (call.Left r a) = gives-named 0 r a a _ (gives-held 0 a _ (refl, refl))
-  model-gives L (call.Right r a) = gives-named 0 r a a _ (gives-held 0 a _ (refl, refl))
-  model-gives L (call.SetLeft a b) = gives-named 0 a b b _ (gives-held 0 a _ (refl, refl))
-  model-gives L (call.SetRight a b) = gives-named 0 a b b _ (gives-held 0 a _ (refl, refl))
-  model-gives L (call.SetValue a v) = gives-named 0 a a a _ (gives-held 0 a _ (refl, refl))
-  model-gives L (call.Value a) = gives-named 1 a a a _ (gives-held 1 a _ (refl, refl))
-  model-gives L (call.Same a b) = gives-named 1 a b b _ (refl, refl)
-  model-gives L call.Collect = (refl, refl)
+  model-gives L c =
+      gives-cond (Gives Mild false (numbersOf c)) (areRegisters (registersOf c)) (modelBody L c m) (refused 2, m) (model-body-gives L c) (omega arith)
 
 -- what is compared of an outcome gives as many numbers, and its words are those that are compared
 module _ (new : Bool) (n : ℕ) where

@@ -13,17 +13,19 @@ use Rattle.pool.proofs.Questions.{both}
 use Rattle.calls.specs.declared.Call.{Call}
 use Rattle.calls.specs.declared.Call.the-variants as call
 use Rattle.allocator.specs.Allocation.{newIn}
-use Rattle.calls.specs.Calls.{callOf}
-use Rattle.reference.specs.Model.{Model, live, valid, modelOf}
+use Rattle.pool.specs.Calls.{areRegisters}
+use Rattle.pool.proofs.Admission.{Registers, registers-there}
+use Rattle.calls.specs.Calls.{names, registersOf, bodyOf, allocates, callOf}
+use Rattle.reference.specs.Model.{Model, live, modelBody, modelOf}
 use Rattle.batch.specs.Run.{afterAll}
 use Rattle.reference.specs.Equivalence.{compared, poolAnswers, modelAnswers, tells, noneTells}
 use Rattle.reference.proofs.Invariant.{Invariant}
 use Rattle.reference.proofs.Fields.{Field}
 use Rattle.reference.proofs.Represents.{Represents}
-use Rattle.reference.proofs.Steps.{Step, unchanged, valid-read, asked-cells, copy-step, clear-step, follow-step, link-step, set-value-step, value-step, same-step}
+use Rattle.reference.proofs.Steps.{Step, unchanged, called, copy-step, clear-step, follow-step, link-step, set-value-step, value-step, same-step}
 use Rattle.reference.proofs.Collecting.{collect-step}
 use Rattle.reference.proofs.New.{NewCase, new-case}
-use Rattle.reference.proofs.Given.{numbersOf, model-gives, compared-plain}
+use Rattle.reference.proofs.Given.{numbersOf, model-body-gives, compared-plain}
 
 -- A call that does not tell the pool from the limit is answered alike, and one that does is not.
 pub data Told (N L : ℕ) (c : Call) (w : List ℕ) (m : Model) : Type 0 where
@@ -35,16 +37,16 @@ done-or-refused xs k e = let z : _≡_ {A = ℕ} 0 1 = cc in omega arith
 
 module _ {N : ℕ} (L : ℕ) {w : List ℕ} {m : Model} (inv : Invariant N w) (rep : Represents w m) where
   new-told : (r a b v : ℕ) → Told N L (call.New r a b v) w m
-  new-told r a b v = go (valid r a b) refl
+  new-told r a b v = go (areRegisters (names r a b)) refl
     where
-      asked : callOf (call.New r a b v) w ≡ cond (valid r a b) (newIn N w r a b v) (refused 2, w)
-      asked = asked-cells inv r a b (λ n. newIn n w r a b v)
+      asked : callOf (call.New r a b v) w ≡ cond (areRegisters (names r a b)) (newIn N w r a b v) (refused 2, w)
+      asked = called inv (call.New r a b v)
 
-      tests : (s t u : Bool) → valid r a b ≡ s → leb (min N L) (live m) ≡ t → ltb (live m) (max N L) ≡ u
+      tests : (s t u : Bool) → areRegisters (names r a b) ≡ s → leb (min N L) (live m) ≡ t → ltb (live m) (max N L) ≡ u
           → tells N L (call.New r a b v) m ≡ (s && t && u)
       tests s t u p q k = rw (p, q, k)
 
-      ask : valid r a b ≡ true → NewCase N w m r a b v → Dec (live m < L) → Told N L (call.New r a b v) w m
+      ask : areRegisters (names r a b) ≡ true → NewCase N w m r a b v → Dec (live m < L) → Told N L (call.New r a b v) w m
       ask e (NewCase.accepted few next) (yes below) =
           alike (tests true false _ e (lt-leb (min N L) (live m) (omega arith)) refl)
           (rw (asked, e, lt-leb L (live m) below) next)
@@ -58,35 +60,43 @@ module _ {N : ℕ} (L : ℕ) {w : List ℕ} {m : Model} (inv : Invariant N w) (r
           alike (tests true true false e (le-leb (min N L) (live m) (omega arith)) (le-ltb (live m) (max N L) (omega arith)))
           (rw (asked, e, le-leb L (live m) (omega arith), out) (unchanged inv rep _))
 
-      go : (t : Bool) → valid r a b ≡ t → Told N L (call.New r a b v) w m
+      go : (t : Bool) → areRegisters (names r a b) ≡ t → Told N L (call.New r a b v) w m
       go true e =
-          let low = valid-read r a b e in
-          ask e (new-case inv rep r a b v (low .0) (low .1) (low .2)) (decLt (live m) L)
+          let there = registers-there (names r a b) e in
+          ask e (new-case inv rep r a b v (there .first) (there .second) (there .third)) (decLt (live m) L)
       go false e =
           alike (tests false _ _ e refl refl)
           (rw (asked, e) (unchanged inv rep _))
 
-  -- a step whose answer is the model's, and so no allocation
-  plain : (c : Call) → Step N (callOf c w) (modelOf L c m) → Step N (compared ((callOf c w) .0), (callOf c w) .1) (modelOf L c m)
-  plain c next =
-      record {
-        answer = ap compared (next .answer) ∙ compared-plain (numbersOf c) ((modelOf L c m) .0) (model-gives m L c);
-        inv = next .inv;
-        rep = next .rep;
-      }
+  -- A call that does not allocate: both refuse it with 2, or both run it, and what the model answers is compared as it is.
+  alike-told : (c : Call) → allocates c ≡ false → (Registers (registersOf c) → Step N (bodyOf c N w) (modelBody L c m)) → Told N L c w m
+  alike-told c quiet next = alike (rw quiet) (rw (called inv c) (go (areRegisters (registersOf c)) refl))
+    where
+      plain : Step N (bodyOf c N w) (modelBody L c m) → Step N (compared ((bodyOf c N w) .0), (bodyOf c N w) .1) (modelBody L c m)
+      plain step =
+          record {
+            answer = ap compared (step .answer) ∙ compared-plain (numbersOf c) ((modelBody L c m) .0) (model-body-gives m L c);
+            inv = step .inv;
+            rep = step .rep;
+          }
+
+      go : (t : Bool) → areRegisters (registersOf c) ≡ t
+          → Step N (compared ((cond t (bodyOf c N w) (refused 2, w)) .0), (cond t (bodyOf c N w) (refused 2, w)) .1) (cond t (modelBody L c m) (refused 2, m))
+      go true e = plain (next (registers-there (registersOf c) e))
+      go false e = unchanged inv rep (refused 2)
 
   pub told : (c : Call) → Told N L c w m
-  told (call.Copy r a) = alike refl (plain (call.Copy r a) (copy-step inv rep r a))
-  told (call.Clear r) = alike refl (plain (call.Clear r) (clear-step inv rep r))
+  told (call.Copy r a) = alike-told (call.Copy r a) refl λ h. copy-step inv rep r a (h .first) (h .second)
+  told (call.Clear r) = alike-told (call.Clear r) refl λ h. clear-step inv rep r (h .first)
   told (call.New r a b v) = new-told r a b v
-  told (call.Left r a) = alike refl (plain (call.Left r a) (follow-step inv rep Field.left (omega arith) r a))
-  told (call.Right r a) = alike refl (plain (call.Right r a) (follow-step inv rep Field.right (omega arith) r a))
-  told (call.SetLeft a b) = alike refl (plain (call.SetLeft a b) (link-step inv rep Field.left (omega arith) a b))
-  told (call.SetRight a b) = alike refl (plain (call.SetRight a b) (link-step inv rep Field.right (omega arith) a b))
-  told (call.SetValue a v) = alike refl (plain (call.SetValue a v) (set-value-step inv rep a v))
-  told (call.Value a) = alike refl (plain (call.Value a) (value-step inv rep a))
-  told (call.Same a b) = alike refl (plain (call.Same a b) (same-step inv rep a b))
-  told call.Collect = alike refl (plain call.Collect (collect-step inv rep))
+  told (call.Left r a) = alike-told (call.Left r a) refl λ h. follow-step inv rep Field.left (omega arith) r a (h .first) (h .second)
+  told (call.Right r a) = alike-told (call.Right r a) refl λ h. follow-step inv rep Field.right (omega arith) r a (h .first) (h .second)
+  told (call.SetLeft a b) = alike-told (call.SetLeft a b) refl λ h. link-step inv rep Field.left (omega arith) a b (h .first) (h .second)
+  told (call.SetRight a b) = alike-told (call.SetRight a b) refl λ h. link-step inv rep Field.right (omega arith) a b (h .first) (h .second)
+  told (call.SetValue a v) = alike-told (call.SetValue a v) refl λ h. set-value-step inv rep a v (h .first)
+  told (call.Value a) = alike-told (call.Value a) refl λ h. value-step inv rep a (h .first)
+  told (call.Same a b) = alike-told (call.Same a b) refl λ h. same-step inv rep a b (h .first) (h .second)
+  told call.Collect = alike-told call.Collect refl λ h. collect-step inv rep
 
 -- One answer more on both sides, where the call does not tell, and where it does.
 module _ {o p : Outcome} {os ps : List Outcome} {t : Bool} (s : Bool) where
@@ -113,20 +123,10 @@ equivalent N L (c ∷ cs) {w} {m} inv rep = go (told L inv rep c) (λ inv' rep'.
 
 -- With L = N no call tells.
 never-told : (N : ℕ) (c : Call) (m : Model) → tells N N c m ≡ true → ⊥
-never-told N (call.Copy r a) m e = false≢true e
-never-told N (call.Clear r) m e = false≢true e
-never-told N (call.New r a b v) m e =
-    let outer = both (valid r a b && leb (min N N) (live m)) (ltb (live m) (max N N)) e in
-    let inner = both (valid r a b) (leb (min N N) (live m)) (outer .0) in
+never-told N c m e =
+    let outer = both (allocates c && areRegisters (registersOf c) && leb (min N N) (live m)) (ltb (live m) (max N N)) e in
+    let inner = both (allocates c && areRegisters (registersOf c)) (leb (min N N) (live m)) (outer .0) in
     omega (arith, leb-true (min N N) (live m) (inner .1), ltb-true (live m) (max N N) (outer .1))
-never-told N (call.Left r a) m e = false≢true e
-never-told N (call.Right r a) m e = false≢true e
-never-told N (call.SetLeft a b) m e = false≢true e
-never-told N (call.SetRight a b) m e = false≢true e
-never-told N (call.SetValue a v) m e = false≢true e
-never-told N (call.Value a) m e = false≢true e
-never-told N (call.Same a b) m e = false≢true e
-never-told N call.Collect m e = false≢true e
 
 -- So the answers are equal, and what is left is a pool as before.
 pub along : (N : ℕ) (calls : List Call) {w : List ℕ} {m : Model} → Invariant N w → Represents w m

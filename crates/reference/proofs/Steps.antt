@@ -5,17 +5,17 @@ use native.Mathlib.Decide.{ℕ-discrete}
 use mathlib.Core.Path.{_≡_, refl, subst}
 use mathlib.Core.Logic.{_↔_, inl, inr, ⊎-elim}
 use mathlib.Core.List.{List, [], _∷_}
-use mathlib.Core.Bool.{Bool, true, false, cond, _&&_}
-use lib.Dec.{eqb, ltb}
-use borrow.Author.Tests.{lt-ltb, ltb-true, eq-eqb, ne-eqb}
+use mathlib.Core.Bool.{Bool, true, false, cond}
+use lib.Dec.{eqb}
+use borrow.Author.Tests.{lt-ltb, eq-eqb, ne-eqb}
 use Rattle.graph.proofs.Marks.{zero-or-above}
 use Rattle.pool.specs.Layout.{registerCount, register, setRegister, cell, setCell, value}
-use Rattle.pool.specs.Calls.{holdsLink}
+use Rattle.pool.specs.Calls.{areRegisters, holdsLink}
 use Rattle.answers.specs.Outcome.{Outcome, answered, refused}
-use Rattle.pool.proofs.Questions.{both}
 use Rattle.pool.proofs.WellFormed.{Link, link-made}
-use Rattle.calls.specs.Calls.{asked, withCell, copyIn, clearIn, followIn, linkIn, setValueIn, valueIn, sameIn}
-use Rattle.reference.specs.Model.{Model, entry, held, hold, replace, valid, named, onCell}
+use Rattle.calls.specs.declared.Call.{Call}
+use Rattle.calls.specs.Calls.{registersOf, bodyOf, callOf, withCell, copyIn, clearIn, followIn, linkIn, setValueIn, valueIn, sameIn}
+use Rattle.reference.specs.Model.{Model, entry, held, hold, replace, onCell}
 use Rattle.reference.proofs.Invariant.{Invariant, inv-cells, inv-setRegister, inv-setCell}
 use Rattle.reference.proofs.Fields.{Field, number, number-above, number-below, get, put, Related, link-related}
 use Rattle.reference.proofs.Represents.{Pair, More, Represents, root-pair, field-related, pair-used, pair-link}
@@ -27,19 +27,12 @@ pub record Step (N : ℕ) (p : Outcome × List ℕ) (q : Outcome × Model) : Typ
   pub inv : Invariant N (p .1)
   pub rep : Represents (p .1) (q .1)
 
--- The three tests of register numbers.
-pub valid-read : (r a b : ℕ) → valid r a b ≡ true → (r < registerCount) × (a < registerCount) × (b < registerCount)
-valid-read r a b e =
-    let outer = both (ltb r registerCount && ltb a registerCount) (ltb b registerCount) e in
-    let inner = both (ltb r registerCount) (ltb a registerCount) (outer .0) in
-    (ltb-true r registerCount (inner .0), ltb-true a registerCount (inner .1), ltb-true b registerCount (outer .1))
-
 module _ {N : ℕ} {w : List ℕ} (inv : Invariant N w) where
   -- The first question is answered with yes, and so is whether a register that is read holds a valid link.
-  pub asked-cells : (r a b : ℕ) (body : ℕ → Outcome × List ℕ) → asked w r a b body ≡ cond (valid r a b) (body N) (refused 2, w)
-  asked-cells r a b body = go (valid r a b) refl
+  pub called : (c : Call) → callOf c w ≡ cond (areRegisters (registersOf c)) (bodyOf c N w) (refused 2, w)
+  called c = go (areRegisters (registersOf c)) refl
     where
-      go : (t : Bool) → valid r a b ≡ t → asked w r a b body ≡ cond t (body N) (refused 2, w)
+      go : (t : Bool) → areRegisters (registersOf c) ≡ t → callOf c w ≡ cond t (bodyOf c N w) (refused 2, w)
       go true e = simp (inv-cells inv, lt-ltb 0 N (inv .sized .least), e)
       go false e = simp (inv-cells inv, lt-ltb 0 N (inv .sized .least), e)
 
@@ -49,17 +42,6 @@ module _ {N : ℕ} {w : List ℕ} (inv : Invariant N w) where
   module _ {m : Model} (rep : Represents w m) where
     pub unchanged : (o : Outcome) → Step N (o, w) (o, m)
     unchanged o = record { answer = refl; inv = inv; rep = rep }
-
-    -- The second question.
-    named-step : (r a b : ℕ) (body : ℕ → Outcome × List ℕ) (q : Outcome × Model)
-        → (r < registerCount → a < registerCount → b < registerCount → Step N (body N) q) → Step N (asked w r a b body) (named m r a b q)
-    named-step r a b body q next = rw (asked-cells r a b body) (go (valid r a b) refl)
-      where
-        go : (t : Bool) → valid r a b ≡ t → Step N (cond t (body N) (refused 2, w)) (cond t q (refused 2, m))
-        go true e =
-            let low = valid-read r a b e in
-            next (low .0) (low .1) (low .2)
-        go false e = unchanged (refused 2)
 
     -- Does a hold a cell?
     cell-step : (a : ℕ) → a < registerCount → (p : Outcome × List ℕ) (q : Outcome × Model)
@@ -98,55 +80,46 @@ module _ {N : ℕ} {w : List ℕ} (inv : Invariant N w) where
           rep = rep-put inv rep f x y u v pair hx hy new;
         }
 
-    pub copy-step : (r a : ℕ) → Step N (asked w r a a (λ n. copyIn n w r a)) (named m r a a (answered [], hold m r (held m a)))
-    copy-step r a =
-        named-step r a a (λ n. copyIn n w r a) _
-        (λ hr ha h. rw (holds-link a ha) (hold-step r (register w a) (held m a) hr (inl (root-pair rep a ha))))
+    pub copy-step : (r a : ℕ) → r < registerCount → a < registerCount → Step N (copyIn N w r a) (answered [], hold m r (held m a))
+    copy-step r a hr ha = rw (holds-link a ha) (hold-step r (register w a) (held m a) hr (inl (root-pair rep a ha)))
 
-    pub clear-step : (r : ℕ) → Step N (asked w r r r (λ n. clearIn w r)) (named m r r r (answered [], hold m r 0))
-    clear-step r = named-step r r r (λ n. clearIn w r) _ (λ hr h i. hold-step r 0 0 hr (inr (refl, refl)))
+    pub clear-step : (r : ℕ) → r < registerCount → Step N (clearIn w r) (answered [], hold m r 0)
+    clear-step r hr = hold-step r 0 0 hr (inr (refl, refl))
 
     -- left and right
-    pub follow-step : (f : Field) → number f < 3 → (r a : ℕ)
-        → Step N (asked w r a a (λ n. followIn n w (number f) r a))
-        (named m r a a (onCell m a (answered [], hold m r (get f (entry m (held m a))))))
-    follow-step f link r a =
-        named-step r a a (λ n. followIn n w (number f) r a) _ λ hr ha h.
+    pub follow-step : (f : Field) → number f < 3 → (r a : ℕ) → r < registerCount → a < registerCount
+        → Step N (followIn N w (number f) r a) (onCell m a (answered [], hold m r (get f (entry m (held m a)))))
+    follow-step f link r a hr ha =
         cell-step a ha _ _ λ hx hy.
         let next = link-related (Pair w m) f _ _ link .1 (field-related rep (register w a) (held m a) (root-pair rep a ha) hx hy f) in
         rw (link-made registerCount N w (cell registerCount w (register w a) (number f)) (pair-link rep inv next))
         (hold-step r _ _ hr (inl next))
 
     -- setleft and setright
-    pub link-step : (f : Field) → number f < 3 → (a b : ℕ)
-        → Step N (asked w a b b (λ n. linkIn n w (number f) a b))
-        (named m a b b (onCell m a (answered [], replace m (held m a) (put f (entry m (held m a)) (held m b)))))
-    link-step f link a b =
-        named-step a b b (λ n. linkIn n w (number f) a b) _ λ ha hb h.
+    pub link-step : (f : Field) → number f < 3 → (a b : ℕ) → a < registerCount → b < registerCount
+        → Step N (linkIn N w (number f) a b) (onCell m a (answered [], replace m (held m a) (put f (entry m (held m a)) (held m b))))
+    link-step f link a b ha hb =
         rw (holds-link b hb)
         (cell-step a ha _ _ λ hx hy.
         put-step f (register w a) (held m a) (register w b) (held m b) (root-pair rep a ha) hx hy
         (link-related (Pair w m) f _ _ link .0 (root-pair rep b hb)))
 
-    pub set-value-step : (a v : ℕ) → Step N (asked w a a a (λ n. setValueIn n w a v))
-        (named m a a a (onCell m a (answered [], replace m (held m a) (put Field.value (entry m (held m a)) v))))
-    set-value-step a v =
-        named-step a a a (λ n. setValueIn n w a v) _ λ ha h i.
+    pub set-value-step : (a v : ℕ) → a < registerCount
+        → Step N (setValueIn N w a v) (onCell m a (answered [], replace m (held m a) (put Field.value (entry m (held m a)) v)))
+    set-value-step a v ha =
         cell-step a ha _ _ λ hx hy. put-step Field.value (register w a) (held m a) v v (root-pair rep a ha) hx hy refl
 
-    pub value-step : (a : ℕ) → Step N (asked w a a a (λ n. valueIn n w a))
-        (named m a a a (onCell m a (answered ((entry m (held m a)) .value ∷ []), m)))
-    value-step a =
-        named-step a a a (λ n. valueIn n w a) _ λ ha h i.
+    pub value-step : (a : ℕ) → a < registerCount → Step N (valueIn N w a) (onCell m a (answered ((entry m (held m a)) .value ∷ []), m))
+    value-step a ha =
         cell-step a ha _ _ λ hx hy.
         rw (field-related rep (register w a) (held m a) (root-pair rep a ha) hx hy Field.value) (unchanged _)
 
-    pub same-step : (a b : ℕ) → Step N (asked w a b b (λ n. sameIn n w a b))
-        (named m a b b (answered (cond (eqb (held m a) (held m b)) 1 0 ∷ []), m))
-    same-step a b = named-step a b b (λ n. sameIn n w a b) _ λ ha hb h. rw (holds-link a ha, holds-link b hb, alike ha hb) (unchanged _)
+    pub same-step : (a b : ℕ) → a < registerCount → b < registerCount
+        → Step N (sameIn N w a b) (answered (cond (eqb (held m a) (held m b)) 1 0 ∷ []), m)
+    same-step a b ha hb = rw (holds-link a ha, holds-link b hb, alike) (unchanged _)
       where
-        alike : a < registerCount → b < registerCount → eqb (register w a) (register w b) ≡ eqb (held m a) (held m b)
-        alike ha hb = go (ℕ-discrete (held m a) (held m b))
+        alike : eqb (register w a) (register w b) ≡ eqb (held m a) (held m b)
+        alike = go (ℕ-discrete (held m a) (held m b))
           where
             go : Dec (held m a ≡ held m b) → eqb (register w a) (register w b) ≡ eqb (held m a) (held m b)
             go (yes e) =

@@ -8,13 +8,13 @@ use lib.Dec.{leb, ltb}
 use Rattle.graph.specs.Theorems.{Distinct}
 use Rattle.pool.specs.Layout.{registerCount, cellLimit, cellsOf, state}
 use Rattle.pool.specs.Validity.{wellFormed}
+use Rattle.pool.specs.Calls.{areRegisters}
 use Rattle.pool.specs.Retain.{freshWords, freeList}
 use Rattle.answers.specs.Outcome.{Outcome, answered, allocated, refused}
 use Rattle.calls.specs.declared.Call.{Call}
-use Rattle.calls.specs.declared.Call.the-variants as call
 use Rattle.batch.specs.Run.{afterAll}
-use Rattle.calls.specs.Calls.{callOf}
-use Rattle.reference.specs.Model.{Model, empty, live, valid, modelOf}
+use Rattle.calls.specs.Calls.{registersOf, allocates, callOf}
+use Rattle.reference.specs.Model.{Model, empty, live, modelOf}
 
 -- What of a call's answer is compared with the reference model: "An answer is done (an accepted "new" too, its visits left out), the number or numbers
 -- given, or the refusal."
@@ -36,17 +36,7 @@ modelAnswers L (c ∷ cs) m = (modelOf L c m) .0 ∷ modelAnswers L cs ((modelOf
 -- Does this call tell a pool of N cells from a limit of L? Demand 3: a "new" with valid registers does, where it finds at least the smaller and
 -- fewer than the larger of N and L live cells.
 abbrev pub tells : ℕ → ℕ → Call → Model → Bool
-tells N L (call.Copy r a) m = false
-tells N L (call.Clear r) m = false
-tells N L (call.New r a b v) m = valid r a b && leb (min N L) (live m) && ltb (live m) (max N L)
-tells N L (call.Left r a) m = false
-tells N L (call.Right r a) m = false
-tells N L (call.SetLeft a b) m = false
-tells N L (call.SetRight a b) m = false
-tells N L (call.SetValue a v) m = false
-tells N L (call.Value a) m = false
-tells N L (call.Same a b) m = false
-tells N L call.Collect m = false
+tells N L c m = allocates c && areRegisters (registersOf c) && leb (min N L) (live m) && ltb (live m) (max N L)
 
 -- No call of the list tells them apart, in the run of the reference model.
 unfoldable pub noneTells : ℕ → ℕ → List Call → Model → Bool

@@ -1,15 +1,17 @@
 -- The reference model (01: the ledger): it never collects, and it is fed the calls and nothing from the pool.
 use Prim.Native.Nat.{ℕ, suc, _*_, _-_}
 use mathlib.Core.List.{List, [], _∷_, _++_}
-use mathlib.Core.Bool.{Bool, cond, _&&_}
+use mathlib.Core.Bool.{cond}
 use lib.ListN.{length, getD, set, replicate}
-use lib.Dec.{eqb, leb, ltb}
+use lib.Dec.{eqb, leb}
 use Rattle.graph.specs.Graph.{Graph}
 use Rattle.graph.specs.Order.{order}
 use Rattle.pool.specs.Layout.{registerCount}
+use Rattle.pool.specs.Calls.{areRegisters}
 use Rattle.answers.specs.Outcome.{Outcome, answered, refused}
 use Rattle.calls.specs.declared.Call.{Call}
 use Rattle.calls.specs.declared.Call.the-variants as call
+use Rattle.calls.specs.Calls.{registersOf}
 
 -- "a list of cells (left, right, value) that only grows, and sixteen registers, each nil or a place in that list". Places count from 1; 0 is nil.
 pub record Entry : Type 0 where
@@ -50,13 +52,6 @@ modelGraph m = record { left = λ x. (entry m x) .left; right = λ x. (entry m x
 abbrev pub live : Model → ℕ
 live m = length (order (length (m .cells)) (modelGraph m) (m .registers))
 
--- "A call's registers are valid if all their numbers are below 16." A refused call changes nothing.
-abbrev pub valid : ℕ → ℕ → ℕ → Bool
-valid r a b = ltb r registerCount && ltb a registerCount && ltb b registerCount
-
-abbrev pub named : Model → ℕ → ℕ → ℕ → Outcome × Model → Outcome × Model
-named m r a b x = cond (valid r a b) x (refused 2, m)
-
 -- "does a hold a cell? No: 4."
 abbrev pub onCell : Model → ℕ → Outcome × Model → Outcome × Model
 onCell m a x = cond (eqb (held m a) 0) (refused 4, m) x
@@ -69,23 +64,28 @@ append m r a b v =
       registers = set (m .registers) r (suc (length (m .cells)));
     }
 
--- One call, with the limit L. A "new" "with valid registers finds the live count as it stands before it: it is refused with 5 if that is L or more,
--- L a whole number from 0 up". "collect answers live and 3 × live and changes nothing."
+-- A call with valid registers, with the limit L. A "new" "with valid registers finds the live count as it stands before it: it is refused with 5 if that is
+-- L or more, L a whole number from 0 up". "collect answers live and 3 × live and changes nothing."
+abbrev pub modelBody : ℕ → Call → Model → Outcome × Model
+modelBody L (call.Copy r a) m = (answered [], hold m r (held m a))
+modelBody L (call.Clear r) m = (answered [], hold m r 0)
+modelBody L (call.New r a b v) m = cond (leb L (live m)) (refused 5, m) (answered [], append m r a b v)
+modelBody L (call.Left r a) m = onCell m a (answered [], hold m r ((entry m (held m a)) .left))
+modelBody L (call.Right r a) m = onCell m a (answered [], hold m r ((entry m (held m a)) .right))
+modelBody L (call.SetLeft a b) m =
+    let e = entry m (held m a) in
+    onCell m a (answered [], replace m (held m a) (record { left = held m b; right = e .right; value = e .value }))
+modelBody L (call.SetRight a b) m =
+    let e = entry m (held m a) in
+    onCell m a (answered [], replace m (held m a) (record { left = e .left; right = held m b; value = e .value }))
+modelBody L (call.SetValue a v) m =
+    let e = entry m (held m a) in
+    onCell m a (answered [], replace m (held m a) (record { left = e .left; right = e .right; value = v }))
+modelBody L (call.Value a) m = onCell m a (answered ((entry m (held m a)) .value ∷ []), m)
+modelBody L (call.Same a b) m = (answered (cond (eqb (held m a) (held m b)) 1 0 ∷ []), m)
+modelBody L call.Collect m = (answered (live m ∷ 3 * live m ∷ []), m)
+
+-- One call: "A call's registers are valid if all their numbers are below 16", and where they are not it is refused with 2, by the pool's own test. "A refused
+-- call changes nothing here."
 abbrev pub modelOf : ℕ → Call → Model → Outcome × Model
-modelOf L (call.Copy r a) m = named m r a a (answered [], hold m r (held m a))
-modelOf L (call.Clear r) m = named m r r r (answered [], hold m r 0)
-modelOf L (call.New r a b v) m = named m r a b (cond (leb L (live m)) (refused 5, m) (answered [], append m r a b v))
-modelOf L (call.Left r a) m = named m r a a (onCell m a (answered [], hold m r ((entry m (held m a)) .left)))
-modelOf L (call.Right r a) m = named m r a a (onCell m a (answered [], hold m r ((entry m (held m a)) .right)))
-modelOf L (call.SetLeft a b) m =
-    let e = entry m (held m a) in
-    named m a b b (onCell m a (answered [], replace m (held m a) (record { left = held m b; right = e .right; value = e .value })))
-modelOf L (call.SetRight a b) m =
-    let e = entry m (held m a) in
-    named m a b b (onCell m a (answered [], replace m (held m a) (record { left = e .left; right = held m b; value = e .value })))
-modelOf L (call.SetValue a v) m =
-    let e = entry m (held m a) in
-    named m a a a (onCell m a (answered [], replace m (held m a) (record { left = e .left; right = e .right; value = v })))
-modelOf L (call.Value a) m = named m a a a (onCell m a (answered ((entry m (held m a)) .value ∷ []), m))
-modelOf L (call.Same a b) m = named m a b b (answered (cond (eqb (held m a) (held m b)) 1 0 ∷ []), m)
-modelOf L call.Collect m = (answered (live m ∷ 3 * live m ∷ []), m)
+modelOf L c m = cond (areRegisters (registersOf c)) (modelBody L c m) (refused 2, m)

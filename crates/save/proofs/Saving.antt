@@ -16,7 +16,7 @@ use Rattle.pool.proofs.WellFormed.{well-formed-read}
 use Rattle.pool.proofs.PoolGraph.{pool-within}
 use Rattle.collector.specs.Collect.{reachedCells, keptCells}
 use Rattle.image.specs.Image.{numberIn, imageOf}
-use Rattle.save.specs.Save.{saveImage, saveOf}
+use Rattle.save.specs.Save.{saveImage, saveIn}
 use Rattle.save.specs.Steps.{Savable, Clear, Numbered, NumbersWithin, Listed, Ordered}
 use Rattle.save.proofs.Numbering.{number-placed, number-most, number-at}
 use Rattle.save.proofs.ImageNumber.{few-kept, order-used}
@@ -65,28 +65,17 @@ module _ (image s t out : List ℕ) (size : ℕ) (sized : size ≡ length image)
   save-written after room e = simp (clear, e, sized, le-leb (length image) (length out) (omega arith))
 
 -- The questions of save.
-module _ (w s out : List ℕ) (n : ℕ) (cells : n ≡ cellsOf registerCount w) where
-  pub save-no-pool : n ≡ 0 → _≡_ {A = Outcome × List ℕ × List ℕ} (refused 1, s, out) (saveOf w s out)
-  save-no-pool none = simp (← cells, none)
+-- save of a pool of n cells, by its questions
+module _ (n : ℕ) (w s out : List ℕ) where
+  pub save-no-room : length s < 2 * n → _≡_ {A = Outcome × List ℕ × List ℕ} (refused 10, s, out) (saveIn n w s out)
+  save-no-room short = simp (lt-leb (2 * n) (length s) short)
 
-  module _ (some : n ≡ 0 → ⊥) where
-    positive : 0 < cellsOf registerCount w
-    positive = omega (arith, some)
+  module _ (room : 2 * n ≤ length s) (t : Bool) (whole : t ≡ wellFormed registerCount n w) where
+    pub save-malformed : t ≡ false → _≡_ {A = Outcome × List ℕ × List ℕ} (refused 3, s, out) (saveIn n w s out)
+    save-malformed e = simp (le-leb (2 * n) (length s) room, sym whole ∙ e)
 
-    pub save-no-room : length s < 2 * n → _≡_ {A = Outcome × List ℕ × List ℕ} (refused 10, s, out) (saveOf w s out)
-    save-no-room short = simp (← cells, lt-ltb 0 n (omega (arith, some)), lt-leb (2 * n) (length s) short)
-
-    module _ (room : 2 * n ≤ length s) (t : Bool) (whole : t ≡ wellFormed registerCount n w) where
-      pub save-savable : t ≡ true → Savable registerCount n w (length s)
-      save-savable e =
-          let sized = cells-sized registerCount w positive .0 in
-          record { most = omega (arith, sized .most); room = omega (arith, sized .exact); scratch = room; well-formed = sym whole ∙ e }
-
-      pub save-malformed : t ≡ false → _≡_ {A = Outcome × List ℕ × List ℕ} (refused 3, s, out) (saveOf w s out)
-      save-malformed e = simp (← cells, lt-ltb 0 n (omega (arith, some)), le-leb (2 * n) (length s) room, sym whole ∙ e)
-
-      pub save-whole : (r : Outcome × List ℕ × List ℕ) → t ≡ true → r ≡ saveImage (imageOf registerCount n w) s out → r ≡ saveOf w s out
-      save-whole r e is = is ∙ simp (← cells, lt-ltb 0 n (omega (arith, some)), le-leb (2 * n) (length s) room, sym whole ∙ e)
+    pub save-whole : (r : Outcome × List ℕ × List ℕ) → t ≡ true → r ≡ saveImage (imageOf registerCount n w) s out → r ≡ saveIn n w s out
+    save-whole r e is = is ∙ simp (le-leb (2 * n) (length s) room, sym whole ∙ e)
 
 pub savable-length : {R n : ℕ} {w : List ℕ} {a b : ℕ} → a ≡ b → Savable R n w b → Savable R n w a
 savable-length {R} {n} {w} e = subst (Savable R n w) (sym e)

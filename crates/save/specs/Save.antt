@@ -3,9 +3,10 @@ use Prim.Native.Nat.{ℕ, _*_}
 use mathlib.Core.List.{List, [], _∷_, _++_}
 use mathlib.Core.Bool.{cond}
 use lib.ListN.{length, drop, replicate}
-use lib.Dec.{leb, ltb}
-use Rattle.pool.specs.Layout.{registerCount, cellsOf}
+use lib.Dec.{leb}
+use Rattle.pool.specs.Layout.{registerCount}
 use Rattle.pool.specs.Validity.{wellFormed}
+use Rattle.pool.specs.Calls.{sizedOf, admittedTo}
 use Rattle.answers.specs.Outcome.{Outcome, answered, refused, refusalNumber, Determined}
 use Rattle.image.specs.Image.{imageOf}
 use Rattle.save.specs.declared.Saved.{Saved}
@@ -27,13 +28,14 @@ saveImage image s out =
     cond (leb (length image) (length out)) (answered (length image ∷ []), replicate (length s) 0, image ++ drop (length image) out)
     (refused 10, replicate (length s) 0, out)
 
--- Save of the pool w: "Is the length 18 + 4 × N, N within limits, and .. word 0 that N? .. No: 1."; "scratch 2 × N words or more? No: 10."; "is the
--- pool whole? .. No: 3."; then the output. The pool is only read: "Save changes no pool word".
-abbrev pub saveOf : List ℕ → List ℕ → List ℕ → Outcome × List ℕ × List ℕ
-saveOf w s out =
-    let n = cellsOf registerCount w in
-    cond (ltb 0 n)
-    (cond (leb (2 * n) (length s))
+-- Save of a pool w of n cells: "scratch 2 × N words or more? No: 10."; "is the pool whole? .. No: 3."; then the output. The pool is only read: "Save
+-- changes no pool word".
+abbrev pub saveIn : ℕ → List ℕ → List ℕ → List ℕ → Outcome × List ℕ × List ℕ
+saveIn n w s out =
+    cond (leb (2 * n) (length s))
     (cond (wellFormed registerCount n w) (saveImage (imageOf registerCount n w) s out) (refused 3, s, out))
-    (refused 10, s, out))
-    (refused 1, s, out)
+    (refused 10, s, out)
+
+-- Save: the first question (1), then the others.
+abbrev pub saveOf : List ℕ → List ℕ → List ℕ → Outcome × List ℕ × List ℕ
+saveOf w s out = admittedTo (λ n. saveIn n w s out) (λ k. (refused k, s, out)) (sizedOf w)

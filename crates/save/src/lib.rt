@@ -1,16 +1,17 @@
 // The image of a pool, written to lent bytes.
 use answers::Refusal;
 use leb128::Written;
+use pool::Admitted;
 use pool::Pool;
 ghost use mathlib.Core.Path.{_≡_};
 ghost use mathlib.Core.List.{_++_};
 ghost use Prim.Native.Nat.{_+_, _*_, _<_, _≤_};
 ghost use lib.ListN.{length, take, drop};
 ghost use Rattle.leb128.specs.Leb128.{encode};
-ghost use Rattle.pool.specs.Layout.{registerCount};
+ghost use Rattle.pool.specs.Layout.{registerCount, cellLimit, poolLength};
 ghost use Rattle.collector.specs.Collect.{reachedCells, keptCells};
 ghost use Rattle.image.specs.Image.{savedField, imageOf};
-ghost use Rattle.save.specs.Save.{savedOutcome, saveImage, saveOf};
+ghost use Rattle.save.specs.Save.{savedOutcome, saveImage, saveIn, saveOf};
 ghost use Rattle.save.specs.Steps.{numberAt, isNew, Savable, Clear, Numbered, NumbersWithin, Listed, Ordered};
 
 // What `save` answers.
@@ -185,14 +186,11 @@ fn save_pool(words: &[u32], scratch: &mut [u32], out: &mut [u8], n: u32) -> Save
     Saved::Bytes(size)
 }
 
-// Writes the image of the pool to the start of the output, if it has room for the whole of it. Gives the number of bytes.
-pub fn save(words: &[u32], scratch: &mut [u32], out: &mut [u8]) -> Saved
-    ensures { λ r. ⌜ (savedOutcome r, now (scratch .exit), now (out .exit)) ≡ saveOf (now (words .entry)) (now (scratch .entry)) (now (out .entry)) ⌝ }
+// Save of a pool of n cells.
+fn save_in(words: &[u32], scratch: &mut [u32], out: &mut [u8], n: u32) -> Saved
+    requires { ⌜ (poolLength registerCount n ≤ length (now words)) × (n ≤ cellLimit) ⌝ }
+    ensures { λ r. ⌜ (savedOutcome r, now (scratch .exit), now (out .exit)) ≡ saveIn n (now (words .entry)) (now (scratch .entry)) (now (out .entry)) ⌝ }
 {
-    let n = pool::cells(words);
-    if n == 0 {
-        return Saved::Refused(Refusal::Size);
-    }
     if scratch.len() < 2 * n as usize {
         return Saved::Refused(Refusal::NoRoom);
     }
@@ -200,5 +198,15 @@ pub fn save(words: &[u32], scratch: &mut [u32], out: &mut [u8]) -> Saved
         save_pool(words, scratch, out, n)
     } else {
         Saved::Refused(Refusal::Malformed)
+    }
+}
+
+// Writes the image of the pool to the start of the output, if it has room for the whole of it. Gives the number of bytes.
+pub fn save(words: &[u32], scratch: &mut [u32], out: &mut [u8]) -> Saved
+    ensures { λ r. ⌜ (savedOutcome r, now (scratch .exit), now (out .exit)) ≡ saveOf (now (words .entry)) (now (scratch .entry)) (now (out .entry)) ⌝ }
+{
+    match pool::sized(words) {
+        Admitted::Cells(n) => save_in(words, scratch, out, n),
+        Admitted::Refused(k) => Saved::Refused(k),
     }
 }

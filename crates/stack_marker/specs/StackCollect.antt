@@ -3,9 +3,10 @@ use Prim.Native.Nat.{ℕ, zero, suc}
 use mathlib.Core.List.{List, [], _∷_}
 use mathlib.Core.Bool.{Bool, cond}
 use lib.ListN.{length, replicate}
-use lib.Dec.{leb, ltb}
-use Rattle.pool.specs.Layout.{registerCount, cellsOf, setCell, graphOf, rootsOf}
+use lib.Dec.{leb}
+use Rattle.pool.specs.Layout.{registerCount, setCell, graphOf, rootsOf}
 use Rattle.pool.specs.Validity.{wellFormed}
+use Rattle.pool.specs.Calls.{sizedOf, admittedTo}
 use Rattle.pool.specs.Retain.{marked}
 use Rattle.answers.specs.Outcome.{Outcome, answered, refused}
 use Rattle.collector.specs.Collect.{keptCells, collected}
@@ -24,7 +25,7 @@ stackIn n w stack =
 
 -- The call: the first question, then the collection. A refusal leaves pool and stack as they were.
 abbrev pub stackOf : List ℕ → List ℕ → Outcome × List ℕ × List ℕ
-stackOf w stack = let n = cellsOf registerCount w in cond (ltb 0 n) (stackIn n w stack) (refused 1, w, stack)
+stackOf w stack = admittedTo (λ n. stackIn n w stack) (λ k. (refused k, w, stack)) (sizedOf w)
 
 -- "marks are cleared": every one of the cells i to 1 that has state 3 becomes used.
 unfoldable pub cleared : ℕ → ℕ → List ℕ → List ℕ

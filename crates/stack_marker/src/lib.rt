@@ -1,6 +1,7 @@
 // Marking with a lent stack, and the collection that marks so.
 use answers::Answer;
 use answers::Refusal;
+use pool::Admitted;
 use pool::Pool;
 ghost use mathlib.Core.Path.{_≡_};
 ghost use Prim.Native.Nat.{_<_, _≤_};
@@ -153,9 +154,8 @@ fn collect_in(words: &mut [u32], n: u32, stack: &mut [u32]) -> Answer
 pub fn collect_stack(words: &mut [u32], stack: &mut [u32]) -> Answer
     ensures { λ r. ⌜ (answerOutcome r, now (words .exit), now (stack .exit)) ≡ stackOf (now (words .entry)) (now (stack .entry)) ⌝ }
 {
-    let n = pool::cells(words);
-    if n == 0 {
-        return Answer::Refused(Refusal::Size);
+    match pool::sized(words) {
+        Admitted::Cells(n) => collect_in(words, n, stack),
+        Admitted::Refused(k) => Answer::Refused(k),
     }
-    collect_in(words, n, stack)
 }

@@ -4,8 +4,11 @@ use Rattle.calls.proofs.clear.Statement.{statement}
 use Rattle.calls.proofs.clear.Tie as tie
 use native.Mathlib.Omega.{arith}
 use denote.Ref.{now}
-use Rattle.calls.specs.Calls.{clearIn}
-use Rattle.calls.proofs.Admission.{admits, asked-cells, asked-refused}
+use Rattle.calls.specs.declared.Call.the-variants as call
+use Rattle.calls.proofs.Asked.{runs, ran, refusing}
+
+names-requires : tie.Need-names-requires
+names-requires c κs = search needs
 
 admit-requires : tie.Need-admit-requires
 admit-requires c κs = search needs
@@ -15,8 +18,9 @@ enum-told c = search needs
 
 clear-in-requires : tie.Need-clear-in-requires
 clear-in-requires c κs =
-    let p = c .before .before .before .before .before .before .args in
-    omega (arith, admits _ (p .r) (p .r) (p .r) (c .before .before .before .admit .ensures) (c .before .enum-told .given .1))
+    let at-admit = c .before .before .before in
+    let a = at-admit .before .before .before .before .args in
+    omega (arith, runs (now (a .words)) (call.Clear (a .r)) (at-admit .before .names .ensures) (at-admit .admit .ensures) (c .before .enum-told .given .1))
 
 enum-known-k : tie.Need-enum-known-k
 enum-known-k c = search needs
@@ -26,22 +30,24 @@ same-length c = search needs
 
 returns : tie.Need-returns
 returns c =
-    let at-enum-told = c .before .before .before .before in
-    let p = at-enum-told .before .before .before .before .before .args in
-    asked-cells _ (p .r) (p .r) (p .r) (at-enum-told .before .before .admit .ensures) (λ n. clearIn (now (p .words)) (p .r)) (at-enum-told .enum-told .given .1) (c .before .before .clear-in .ensures)
+    let at-admit = c .before .before .before .before .before .before in
+    let a = at-admit .before .before .before .before .args in
+    ran (now (a .words)) (call.Clear (a .r)) (at-admit .before .names .ensures) (at-admit .admit .ensures) (c .before .before .before .before .enum-told .given .1) (c .before .before .clear-in .ensures)
 
 same-length-2 : tie.Need-same-length-2
 same-length-2 c = search needs
 
 returns-2 : tie.Need-returns-2
 returns-2 c =
-    let p = c .before .before .before .before .before .before .args in
-    asked-refused _ (p .r) (p .r) (p .r) (c .before .before .before .admit .ensures) (λ n. clearIn (now (p .words)) (p .r)) (c .before .k .given .1)
+    let at-admit = c .before .before .before in
+    let a = at-admit .before .before .before .before .args in
+    refusing (now (a .words)) (call.Clear (a .r)) (at-admit .before .names .ensures) (at-admit .admit .ensures) (c .before .k .given .1)
 
 pub clear-spec : {M : Type 1} → statement M
 clear-spec =
     tie.close
     (tie.spec
+    names-requires
     admit-requires
     enum-told
     clear-in-requires

@@ -4,8 +4,11 @@ use Rattle.calls.proofs.copy.Statement.{statement}
 use Rattle.calls.proofs.copy.Tie as tie
 use native.Mathlib.Omega.{arith}
 use denote.Ref.{now}
-use Rattle.calls.specs.Calls.{copyIn}
-use Rattle.calls.proofs.Admission.{admits, asked-cells, asked-refused}
+use Rattle.calls.specs.declared.Call.the-variants as call
+use Rattle.calls.proofs.Asked.{runs, ran, refusing}
+
+names-requires : tie.Need-names-requires
+names-requires c κs = search needs
 
 admit-requires : tie.Need-admit-requires
 admit-requires c κs = search needs
@@ -16,8 +19,8 @@ enum-known-n c = search needs
 copy-in-requires : tie.Need-copy-in-requires
 copy-in-requires c κs =
     let at-admit = c .before .before .before .before in
-    let p = at-admit .before .before .before .args in
-    omega (arith, admits _ (p .r) (p .a) (p .a) (at-admit .admit .ensures) (c .before .before .n .given .1))
+    let a = at-admit .before .before .before .before .args in
+    omega (arith, runs (now (a .words)) (call.Copy (a .r) (a .a)) (at-admit .before .names .ensures) (at-admit .admit .ensures) (c .before .before .n .given .1))
 
 enum-known-k : tie.Need-enum-known-k
 enum-known-k c = search needs
@@ -27,22 +30,24 @@ same-length c = search needs
 
 returns : tie.Need-returns
 returns c =
-    let at-n = c .before .before .before .before .before in
-    let p = at-n .before .before .before .before .before .args in
-    asked-cells _ (p .r) (p .a) (p .a) (at-n .before .before .admit .ensures) (λ n. copyIn n (now (p .words)) (p .r) (p .a)) (at-n .n .given .1) (c .before .before .copy-in .ensures)
+    let at-admit = c .before .before .before .before .before .before .before in
+    let a = at-admit .before .before .before .before .args in
+    ran (now (a .words)) (call.Copy (a .r) (a .a)) (at-admit .before .names .ensures) (at-admit .admit .ensures) (c .before .before .before .before .before .n .given .1) (c .before .before .copy-in .ensures)
 
 same-length-2 : tie.Need-same-length-2
 same-length-2 c = search needs
 
 returns-2 : tie.Need-returns-2
 returns-2 c =
-    let p = c .before .before .before .before .before .before .args in
-    asked-refused _ (p .r) (p .a) (p .a) (c .before .before .before .admit .ensures) (λ n. copyIn n (now (p .words)) (p .r) (p .a)) (c .before .k .given .1)
+    let at-admit = c .before .before .before in
+    let a = at-admit .before .before .before .before .args in
+    refusing (now (a .words)) (call.Copy (a .r) (a .a)) (at-admit .before .names .ensures) (at-admit .admit .ensures) (c .before .k .given .1)
 
 pub copy-spec : {M : Type 1} → statement M
 copy-spec =
     tie.close
     (tie.spec
+    names-requires
     admit-requires
     enum-known-n
     copy-in-requires

@@ -4,8 +4,11 @@ use Rattle.calls.proofs.set_value.Statement.{statement}
 use Rattle.calls.proofs.set_value.Tie as tie
 use native.Mathlib.Omega.{arith}
 use denote.Ref.{now}
-use Rattle.calls.specs.Calls.{setValueIn}
-use Rattle.calls.proofs.Admission.{admits, asked-cells, asked-refused}
+use Rattle.calls.specs.declared.Call.the-variants as call
+use Rattle.calls.proofs.Asked.{runs, ran, refusing}
+
+names-requires : tie.Need-names-requires
+names-requires c κs = search needs
 
 admit-requires : tie.Need-admit-requires
 admit-requires c κs = search needs
@@ -16,8 +19,8 @@ enum-known-n c = search needs
 set-value-in-requires : tie.Need-set-value-in-requires
 set-value-in-requires c κs =
     let at-admit = c .before .before .before .before in
-    let p = at-admit .before .before .before .args in
-    omega (arith, admits _ (p .a) (p .a) (p .a) (at-admit .admit .ensures) (c .before .before .n .given .1))
+    let a = at-admit .before .before .before .before .args in
+    omega (arith, runs (now (a .words)) (call.SetValue (a .a) (a .v)) (at-admit .before .names .ensures) (at-admit .admit .ensures) (c .before .before .n .given .1))
 
 enum-known-k : tie.Need-enum-known-k
 enum-known-k c = search needs
@@ -27,22 +30,24 @@ same-length c = search needs
 
 returns : tie.Need-returns
 returns c =
-    let at-n = c .before .before .before .before .before in
-    let p = at-n .before .before .before .before .before .args in
-    asked-cells _ (p .a) (p .a) (p .a) (at-n .before .before .admit .ensures) (λ n. setValueIn n (now (p .words)) (p .a) (p .v)) (at-n .n .given .1) (c .before .before .set-value-in .ensures)
+    let at-admit = c .before .before .before .before .before .before .before in
+    let a = at-admit .before .before .before .before .args in
+    ran (now (a .words)) (call.SetValue (a .a) (a .v)) (at-admit .before .names .ensures) (at-admit .admit .ensures) (c .before .before .before .before .before .n .given .1) (c .before .before .set-value-in .ensures)
 
 same-length-2 : tie.Need-same-length-2
 same-length-2 c = search needs
 
 returns-2 : tie.Need-returns-2
 returns-2 c =
-    let p = c .before .before .before .before .before .before .args in
-    asked-refused _ (p .a) (p .a) (p .a) (c .before .before .before .admit .ensures) (λ n. setValueIn n (now (p .words)) (p .a) (p .v)) (c .before .k .given .1)
+    let at-admit = c .before .before .before in
+    let a = at-admit .before .before .before .before .args in
+    refusing (now (a .words)) (call.SetValue (a .a) (a .v)) (at-admit .before .names .ensures) (at-admit .admit .ensures) (c .before .k .given .1)
 
 pub set-value-spec : {M : Type 1} → statement M
 set-value-spec =
     tie.close
     (tie.spec
+    names-requires
     admit-requires
     enum-known-n
     set-value-in-requires

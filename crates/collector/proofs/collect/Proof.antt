@@ -3,32 +3,53 @@ use borrow.Author.Needs.{needs}
 use Rattle.collector.proofs.collect.Statement.{statement}
 use Rattle.collector.proofs.collect.Tie as tie
 use native.Mathlib.Omega.{arith}
+use mathlib.Core.Path.{refl, sym, _∙_}
 use denote.Ref.{now}
-use borrow.Author.Tests.{lt-ltb}
-use Rattle.pool.specs.Layout.{registerCount}
-use Rattle.pool.proofs.Questions.{some-cells}
+use Rattle.answers.specs.Outcome.{refused}
+use Rattle.pool.proofs.Admission.{sized-cells, went-on, stopped}
+use Rattle.collector.specs.Collect.{collectIn}
 
-cells-requires : tie.Need-cells-requires
-cells-requires c κs = search needs
+sized-requires : tie.Need-sized-requires
+sized-requires c κs = search needs
+
+enum-known-n : tie.Need-enum-known-n
+enum-known-n c = search needs
+
+collect-in-requires : tie.Need-collect-in-requires
+collect-in-requires c κs =
+    let at-sized = c .before .before .before .before in
+    omega (arith, sized-cells (now (at-sized .before .before .before .args .words)) (sym (at-sized .sized .ensures) ∙ c .before .before .n .given .1) .0)
+
+enum-known-k : tie.Need-enum-known-k
+enum-known-k c = search needs
 
 same-length : tie.Need-same-length
 same-length c = search needs
 
 returns : tie.Need-returns
-returns c = simp (← c .before .cells .ensures, c .if1 .taken)
-
-collect-in-requires : tie.Need-collect-in-requires
-collect-in-requires c κs =
-    let sized = some-cells registerCount (now (c .before .before .before .before .before .args .words)) _ (c .before .before .cells .ensures) (c .before .if1 .left) in
-    omega (arith, sized)
+returns c =
+    let at-n = c .before .before .before .before .before in
+    let w = now (at-n .before .before .before .before .before .args .words) in
+    went-on (at-n .before .before .sized .ensures) (λ n. collectIn n w) (λ k. (refused k, w)) (at-n .n .given .1) (c .before .before .collect-in .ensures)
 
 same-length-2 : tie.Need-same-length-2
 same-length-2 c = search needs
 
 returns-2 : tie.Need-returns-2
-returns-2 c = simp (← c .before .before .before .before .before .cells .ensures, lt-ltb 0 (c .before .before .before .before .before .cells .result) (omega arith)) (c .before .before .collect-in .ensures)
+returns-2 c =
+    let at-sized = c .before .before .before in
+    let w = now (at-sized .before .before .before .args .words) in
+    stopped (at-sized .sized .ensures) (λ n. collectIn n w) (λ k. (refused k, w)) (c .before .k .given .1) refl
 
 pub collect-spec : {M : Type 1} → statement M
 collect-spec =
     tie.close
-    (tie.spec cells-requires same-length returns collect-in-requires same-length-2 returns-2)
+    (tie.spec
+    sized-requires
+    enum-known-n
+    collect-in-requires
+    enum-known-k
+    same-length
+    returns
+    same-length-2
+    returns-2)

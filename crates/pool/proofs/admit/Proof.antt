@@ -1,48 +1,38 @@
--- `pool::admit` meets its contract: at each return the tests that led there decide the definition's.
+-- `pool::admit` meets its contract: the answers to the two questions decide the definition's.
 use borrow.Author.Needs.{needs}
 use Rattle.pool.proofs.admit.Statement.{statement}
 use Rattle.pool.proofs.admit.Tie as tie
-use native.Mathlib.Omega.{arith}
-use borrow.Author.Tests.{lt-ltb, le-ltb}
+use mathlib.Core.Path.{sym, _∙_}
 
-cells-requires : tie.Need-cells-requires
-cells-requires c κs = search needs
+sized-requires : tie.Need-sized-requires
+sized-requires c κs = search needs
+
+enum-known-n : tie.Need-enum-known-n
+enum-known-n c = search needs
+
+are-registers-requires : tie.Need-are-registers-requires
+are-registers-requires c κs = search needs
+
+enum-known-k : tie.Need-enum-known-k
+enum-known-k c = search needs
 
 returns : tie.Need-returns
-returns c = simp (← c .before .cells .ensures, c .if1 .taken)
+returns c = rw (sym (c .before .before .before .before .before .sized .ensures) ∙ c .before .before .before .n .given .1, sym (c .before .are-registers .ensures) ∙ c .if1 .taken)
 
 returns-2 : tie.Need-returns-2
-returns-2 c =
-    simp (← c .before .before .cells .ensures, lt-ltb 0 (c .before .before .cells .result) (omega arith), le-ltb _ _ (c .if2 .taken))
+returns-2 c = rw (sym (c .before .before .before .before .before .sized .ensures) ∙ c .before .before .before .n .given .1, sym (c .before .are-registers .ensures) ∙ c .if1 .left)
 
 returns-3 : tie.Need-returns-3
-returns-3 c =
-    simp (
-      ← c .before .before .before .cells .ensures,
-      lt-ltb 0 (c .before .before .before .cells .result) (omega arith),
-      lt-ltb _ _ (c .before .if2 .left),
-      le-ltb _ _ (c .if3 .taken),
-    )
-
-returns-4 : tie.Need-returns-4
-returns-4 c =
-    simp (
-      ← c .before .before .before .before .cells .ensures,
-      lt-ltb 0 (c .before .before .before .before .cells .result) (omega arith),
-      lt-ltb _ _ (c .before .before .if2 .left),
-      lt-ltb _ _ (c .before .if3 .left),
-      le-ltb _ _ (c .if4 .taken),
-    )
-
-returns-5 : tie.Need-returns-5
-returns-5 c =
-    simp (
-      ← c .before .before .before .before .cells .ensures,
-      lt-ltb 0 (c .before .before .before .before .cells .result) (omega arith),
-      lt-ltb _ _ (c .before .before .if2 .left),
-      lt-ltb _ _ (c .before .if3 .left),
-      lt-ltb _ _ (c .if4 .left),
-    )
+returns-3 c = rw (sym (c .before .before .before .sized .ensures) ∙ c .before .k .given .1)
 
 pub admit-spec : {M : Type 1} → statement M
-admit-spec = tie.close (tie.spec cells-requires returns returns-2 returns-3 returns-4 returns-5)
+admit-spec =
+    tie.close
+    (tie.spec
+    sized-requires
+    enum-known-n
+    are-registers-requires
+    enum-known-k
+    returns
+    returns-2
+    returns-3)
