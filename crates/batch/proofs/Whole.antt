@@ -12,9 +12,9 @@ use Rattle.calls.specs.declared.Call.the-variants as call
 use Rattle.calls.specs.Calls.{callOf}
 use Rattle.batch.specs.declared.Ran.the-variants as ran
 use Rattle.batch.specs.Program.{then, programOf, programOfCalls, programWords}
-use Rattle.batch.specs.Run.{written, runFrom, answersOf, afterAll, answerWords, Runs-one-after-the-other, Every-list-has-words}
+use Rattle.batch.specs.Run.{written, runFrom, answersOf, afterAll, answerWords, RunsOneAfterTheOther, EveryListHasWords}
 
-pub every-list-has-words : Every-list-has-words
+pub every-list-has-words : EveryListHasWords
 unfolding programOf programWords programOfCalls
 every-list-has-words [] = refl
 every-list-has-words (call.Copy r a ∷ cs) = ap (then (call.Copy r a)) (every-list-has-words cs)
@@ -69,5 +69,5 @@ from (c ∷ cs) k w front (x ∷ y ∷ z ∷ back) e room =
       ← append-assoc front three (answerWords (answersOf cs (p .1)) ++ drop (3 * length cs) back),
     ) (from cs (suc k) (p .1) (front ++ three) back (simp length-append (omega arith)) (omega arith))
 
-pub runs-one-after-the-other : Runs-one-after-the-other
+pub runs-one-after-the-other : RunsOneAfterTheOther
 runs-one-after-the-other list cs w out holds room = rw holds (simp zero-add at (from cs 0 w [] out refl room))

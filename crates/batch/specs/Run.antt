@@ -46,11 +46,11 @@ answerWords [] = []
 answerWords (o ∷ os) = status o ∷ given o 0 0 ∷ given o 1 0 ∷ answerWords os
 
 -- A list that holds the calls cs, with room for their answers: all of them run, one after the other, and the answers written are theirs.
-abbrev pub Runs-one-after-the-other : Type 0
-Runs-one-after-the-other =
+abbrev pub RunsOneAfterTheOther : Type 0
+RunsOneAfterTheOther =
     (list : List ℕ) (cs : List Call) (w out : List ℕ) → programOf list ≡ programOfCalls cs → 3 * length cs ≤ length out
     → runOf list w out ≡ (ran.All (length cs), afterAll cs w, answerWords (answersOf cs w) ++ drop (3 * length cs) out)
 
 -- Every list of calls can be given so.
-abbrev pub Every-list-has-words : Type 0
-Every-list-has-words = (cs : List Call) → programOf (programWords cs) ≡ programOfCalls cs
+abbrev pub EveryListHasWords : Type 0
+EveryListHasWords = (cs : List Call) → programOf (programWords cs) ≡ programOfCalls cs

@@ -6,9 +6,9 @@ use mathlib.Core.List.{List, [], _∷_}
 use mathlib.Core.Bool.{Bool, true, false}
 use lib.ListN.{length}
 use borrow.Author.Tests.{lt-ltb}
-use Rattle.graph.proofs.Theorems.{order-reached, order-distinct}
+use Rattle.graph.proofs.Theorems.{preorder-reached, preorder-distinct}
 use Rattle.graph.proofs.Reached.{reach-above, reach-within}
-use Rattle.pool.specs.Layout.{registerCount, poolLength, cellsOf, count, graphOf, rootsOf}
+use Rattle.pool.specs.Layout.{registerCount, poolLength, cellCount, count, graphOf, rootsOf}
 use Rattle.pool.specs.Validity.{wellFormed}
 use Rattle.pool.specs.Retain.{sweepOf}
 use Rattle.answers.specs.Outcome.{Outcome, answered}
@@ -17,9 +17,9 @@ use Rattle.pool.proofs.WellFormed.{WellFormed, well-formed-read, well-formed-ma
 use Rattle.pool.proofs.PoolGraph.{pool-within}
 use Rattle.pool.proofs.Retained.{length-retain, retain-register, retain-count}
 use Rattle.pool.proofs.RetainedPool.{retained-used, retained-free, retained-free-list}
-use Rattle.collector.specs.Collect.{reachedCells, isReached, keptCells, collected, collectIn, collectOf}
+use Rattle.collector.specs.Collect.{reachedCells, isReached, reachedCount, collected, collectIn, collectOf}
 use Rattle.collector.specs.ReversalTheorem.{markedOf}
-use Rattle.collector.specs.CollectTheorem.{Reached, Collected, Collection-keeps-the-reached, Collection-marks-and-sweeps}
+use Rattle.collector.specs.CollectTheorem.{Reached, Collected, CollectionKeepsTheReached, CollectionMarksAndSweeps}
 use Rattle.collector.proofs.Roots.{run-over-pool, roots-same}
 use Rattle.collector.proofs.MarkSweep.{swept-reached}
 use Rattle.collector.proofs.Collected.{reached-kept, kept-reached, collected-field, collected-well-formed, collected-order, collected-again, collected-full}
@@ -31,7 +31,7 @@ swept : (n : ℕ) (w : List ℕ) → wellFormed registerCount n w ≡ true → p
     collectIn n w ≡ (answered (kept ∷ visits ∷ []), after)
 swept n w well room =
     rw well
-    (ap (λ (x : ℕ × List ℕ). (answered (x .0 ∷ 3 * keptCells registerCount n w ∷ []), x .1))
+    (ap (λ (x : ℕ × List ℕ). (answered (x .0 ∷ 3 * reachedCount registerCount n w ∷ []), x .1))
     (sym (swept-reached registerCount n w (well-formed-read registerCount n w well) room)))
 
 -- so the code that marks and then sweeps collects
@@ -45,10 +45,10 @@ collect-made n w w₁ w₂ visits kept well room mark sweep =
     (ap (λ (m : ℕ × List ℕ). sweepOf registerCount n (m .1)) (sym mark) ∙ sym sweep))
 
 -- the words of a pool of n cells pass the first question
-accepted : (n : ℕ) (w : List ℕ) → 0 < n → cellsOf registerCount w ≡ n → collectOf w ≡ collectIn n w
+accepted : (n : ℕ) (w : List ℕ) → 0 < n → cellCount registerCount w ≡ n → collectOf w ≡ collectIn n w
 accepted n w some cells = rw cells (simp (lt-ltb 0 n some))
 
-module _ (n : ℕ) (w : List ℕ) (some : 0 < n) (cells : cellsOf registerCount w ≡ n) (well : wellFormed registerCount n w ≡ true) where
+module _ (n : ℕ) (w : List ℕ) (some : 0 < n) (cells : cellCount registerCount w ≡ n) (well : wellFormed registerCount n w ≡ true) where
   facts : WellFormed registerCount n w
   facts = well-formed-read registerCount n w well
 
@@ -68,7 +68,7 @@ module _ (n : ℕ) (w : List ℕ) (some : 0 < n) (cells : cellsOf registerCount 
   count-after : count after ≡ count w
   count-after = retain-count registerCount n keep w room
 
-  cells-after : cellsOf registerCount after ≡ n
+  cells-after : cellCount registerCount after ≡ n
   cells-after = cells-same registerCount after w (length-retain registerCount n keep w) count-after ∙ cells
 
   well-after : wellFormed registerCount n after ≡ true
@@ -84,8 +84,8 @@ module _ (n : ℕ) (w : List ℕ) (some : 0 < n) (cells : cellsOf registerCount 
   what-is-left : Collected n w after (reachedCells registerCount n w)
   what-is-left =
       record {
-        reached = order-reached n (graphOf registerCount w) (rootsOf registerCount w) (pool-within facts);
-        once = order-distinct n (graphOf registerCount w) (rootsOf registerCount w) (pool-within facts);
+        reached = preorder-reached n (graphOf registerCount w) (rootsOf registerCount w) (pool-within facts);
+        once = preorder-distinct n (graphOf registerCount w) (rootsOf registerCount w) (pool-within facts);
         same = λ x reach.
             record {
               used = retained-used registerCount n keep w room x (reach-above reach) (reach-within (pool-within facts) reach) (reached-kept registerCount n w facts reach);
@@ -104,7 +104,7 @@ module _ (n : ℕ) (w : List ℕ) (some : 0 < n) (cells : cellsOf registerCount 
         full = collected-full registerCount n w facts room;
       }
 
-pub collection-marks-and-sweeps : Collection-marks-and-sweeps
+pub collection-marks-and-sweeps : CollectionMarksAndSweeps
 collection-marks-and-sweeps n w some cells well =
     let (visits, marked) = markedOf registerCount n w in
     let (kept, after) = sweepOf registerCount n marked in
@@ -117,6 +117,6 @@ collection-marks-and-sweeps n w some cells well =
       record { marked = marked; runs = runs; only = λ end other. roots-same registerCount n (graphOf registerCount w) other runs; swept = refl },
     )
 
-pub collection-keeps-the-reached : Collection-keeps-the-reached
+pub collection-keeps-the-reached : CollectionKeepsTheReached
 collection-keeps-the-reached n w some cells well =
     (reachedCells registerCount n w, collected registerCount n w, accepted n w some cells ∙ rw well refl, what-is-left n w some cells well)

@@ -9,13 +9,13 @@ use lib.ListN.{length}
 use lib.Dec.{ltb}
 use borrow.Author.Tests.{lt-ltb, le-ltb}
 use Rattle.graph.specs.Graph.{Reach}
-use Rattle.graph.specs.Order.{has, order}
-use Rattle.graph.specs.Marking.{outside, marked}
+use Rattle.graph.specs.Preorder.{elem, preorder}
+use Rattle.graph.specs.Marking.{outside, markedCount}
 use Rattle.graph.specs.Dfs.{marks}
 use Rattle.graph.specs.Compare.{Agree}
 use Rattle.graph.proofs.Lists.{has-member, member-has}
 use Rattle.graph.proofs.Marks.{marks-member, marks-cases, outside-cell, zero-or-above}
-use Rattle.graph.proofs.Theorems.{order-reached, order-agree, order-closure, marked-count}
+use Rattle.graph.proofs.Theorems.{preorder-reached, preorder-agree, order-closure, marked-count}
 use Rattle.graph.proofs.Reached.{reach-above, reach-within}
 use Rattle.pool.specs.Layout.{poolLength, head, register, cell, state, left, right, graphOf, rootsOf}
 use Rattle.pool.specs.Retain.{retain, keptCount}
@@ -25,20 +25,20 @@ use Rattle.pool.proofs.PoolGraph.{reached-used, pool-within}
 use Rattle.pool.proofs.Retained.{retain-register, retain-head}
 use Rattle.pool.proofs.RetainedPool.{Kept, retained-same, retained-well-formed}
 use Rattle.pool.proofs.AllKept.{counted-all, all-counted, none-free-all, retain-all, retain-again}
-use Rattle.collector.specs.Collect.{reachedCells, isReached, keptCells, collected}
+use Rattle.collector.specs.Collect.{reachedCells, isReached, reachedCount, collected}
 
 -- the same count, of tests and of marks
-count-marked : (n : ℕ) (keep : ℕ → Bool) (m : ℕ → ℕ) → ((j : ℕ) → 0 < j → j ≤ n → keep j ≡ ltb 0 (m j)) → keptCount keep n ≡ marked n m
-unfolding keptCount marked
+count-marked : (n : ℕ) (keep : ℕ → Bool) (m : ℕ → ℕ) → ((j : ℕ) → 0 < j → j ≤ n → keep j ≡ ltb 0 (m j)) → keptCount keep n ≡ markedCount n m
+unfolding keptCount markedCount
 count-marked zero keep m same = refl
 count-marked (suc n) keep m same =
     rw (same (suc n) (omega arith) (omega arith), count-marked n keep m λ j low high. same j low (omega arith))
 
 -- what is in a list is what marking the list marks
-reached-marked : (n : ℕ) (t : List ℕ) (x : ℕ) → 0 < x → x ≤ n → has x t ≡ ltb 0 (marks (outside n) t x)
-reached-marked n t x low high = go (has x t) refl
+reached-marked : (n : ℕ) (t : List ℕ) (x : ℕ) → 0 < x → x ≤ n → elem x t ≡ ltb 0 (marks (outside n) t x)
+reached-marked n t x low high = go (elem x t) refl
   where
-    go : (b : Bool) → has x t ≡ b → b ≡ ltb 0 (marks (outside n) t x)
+    go : (b : Bool) → elem x t ≡ b → b ≡ ltb 0 (marks (outside n) t x)
     go true e = sym (lt-ltb 0 (marks (outside n) t x) (marks-member (outside n) x (member-has x t e)))
     go false e =
         sym (le-ltb 0 (marks (outside n) t x)
@@ -49,10 +49,10 @@ reached-marked n t x low high = go (has x t) refl
 module _ (R n : ℕ) (w : List ℕ) (well : WellFormed R n w) where
   -- what is kept is what is reached
   pub kept-reached : (x : ℕ) → isReached R n w x ≡ true → Reach (graphOf R w) (rootsOf R w) x
-  kept-reached x h = order-reached n (graphOf R w) (rootsOf R w) (pool-within well) x .0 (member-has x (reachedCells R n w) h)
+  kept-reached x h = preorder-reached n (graphOf R w) (rootsOf R w) (pool-within well) x .0 (member-has x (reachedCells R n w) h)
 
   pub reached-kept : {x : ℕ} → Reach (graphOf R w) (rootsOf R w) x → isReached R n w x ≡ true
-  reached-kept {x} r = has-member x (order-reached n (graphOf R w) (rootsOf R w) (pool-within well) x .1 r)
+  reached-kept {x} r = has-member x (preorder-reached n (graphOf R w) (rootsOf R w) (pool-within well) x .1 r)
 
   module _ (room : poolLength R n ≤ length w) where
     -- a reached cell keeps its links and its value
@@ -83,16 +83,16 @@ module _ (R n : ℕ) (w : List ℕ) (well : WellFormed R n w) where
     -- the same cells are reached, in the same order
     pub collected-order : reachedCells R n (collected R n w) ≡ reachedCells R n w
     collected-order =
-        ap (order n (graphOf R (collected R n w))) collected-roots
-        ∙ sym (order-agree n (graphOf R w) (graphOf R (collected R n w)) (rootsOf R w) (pool-within well) collected-agree)
+        ap (preorder n (graphOf R (collected R n w))) collected-roots
+        ∙ sym (preorder-agree n (graphOf R w) (graphOf R (collected R n w)) (rootsOf R w) (pool-within well) collected-agree)
 
     -- so a second collection changes nothing
     pub collected-again : collected R n (collected R n w) ≡ collected R n w
     collected-again =
-        ap (λ (t : List ℕ). retain R n (λ i. has i t) (collected R n w)) collected-order ∙ retain-again R n (isReached R n w) w room
+        ap (λ (t : List ℕ). retain R n (λ i. elem i t) (collected R n w)) collected-order ∙ retain-again R n (isReached R n w) w room
 
     -- the number of kept cells is the number of reached ones
-    pub kept-count : keptCount (isReached R n w) n ≡ keptCells R n w
+    pub kept-count : keptCount (isReached R n w) n ≡ reachedCount R n w
     kept-count =
         let g = graphOf R w in
         let roots = rootsOf R w in
@@ -100,12 +100,12 @@ module _ (R n : ℕ) (w : List ℕ) (well : WellFormed R n w) where
         ∙ marked-count n g roots (pool-within well) (marks (outside n) (reachedCells R n w)) (order-closure n g roots (pool-within well))
 
     -- where every cell is reached and the head is nil, nothing changes at all
-    pub collected-full : keptCells R n w ≡ n → head w ≡ 0 → collected R n w ≡ w
+    pub collected-full : reachedCount R n w ≡ n → head w ≡ 0 → collected R n w ≡ w
     collected-full full nil =
         let all = counted-all (isReached R n w) n (kept-count ∙ full) in
         retain-all R n (isReached R n w) w all (λ j low high. reached-used well (kept-reached j (all j low high)) .state) nil
 
     -- where no cell is free after a collection, all are kept
-    pub head-nil-full : 0 < n → head (collected R n w) ≡ 0 → keptCells R n w ≡ n
+    pub head-nil-full : 0 < n → head (collected R n w) ≡ 0 → reachedCount R n w ≡ n
     head-nil-full some nil =
         sym kept-count ∙ all-counted (isReached R n w) n (none-free-all (isReached R n w) n (sym (retain-head R n (isReached R n w) w room some) ∙ nil))

@@ -9,12 +9,12 @@ use borrow.Author.Tests.{eq-eqb, ne-eqb}
 use Rattle.graph.proofs.Lists.{has-member, member-has}
 use Rattle.graph.proofs.Reached.{reach-above, reach-within}
 use Rattle.pool.specs.Layout.{poolLength, setCell, state}
-use Rattle.pool.specs.Retain.{marked, sweepOf}
+use Rattle.pool.specs.Retain.{isMarked, sweepOf}
 use Rattle.pool.proofs.WellFormed.{Cell, WellFormed}
 use Rattle.pool.proofs.PoolGraph.{pool-within}
 use Rattle.pool.proofs.Retained.{Elsewhere, setCell-elsewhere, kept-cong, retain-cong}
 use Rattle.collector.specs.Reversal.{markAll}
-use Rattle.collector.specs.Collect.{reachedCells, isReached, keptCells, collected}
+use Rattle.collector.specs.Collect.{reachedCells, isReached, reachedCount, collected}
 use Rattle.collector.proofs.MarkAll.{length-markAll, field-markAll, state-markAll-same, state-markAll-other}
 use Rattle.collector.proofs.Collected.{kept-reached, kept-count}
 
@@ -39,10 +39,10 @@ module _ (R n : ℕ) (w : List ℕ) (well : WellFormed R n w) (room : poolLength
   positive x mem = reached-cells x mem .0
 
   -- after marking, a cell has state 3 exactly where it is reached
-  marked-reached : (j : ℕ) → 0 < j → j ≤ n → marked R (markAll R w (reachedCells R n w)) j ≡ isReached R n w j
+  marked-reached : (j : ℕ) → 0 < j → j ≤ n → isMarked R (markAll R w (reachedCells R n w)) j ≡ isReached R n w j
   marked-reached j low high = go (isReached R n w j) refl (well .cells j low high)
     where
-      go : (t : Bool) → isReached R n w j ≡ t → Cell R n w j → marked R (markAll R w (reachedCells R n w)) j ≡ isReached R n w j
+      go : (t : Bool) → isReached R n w j ≡ t → Cell R n w j → isMarked R (markAll R w (reachedCells R n w)) j ≡ isReached R n w j
       go true e h =
           rw e (eq-eqb _ 3 (state-markAll-same R j low (reachedCells R n w) positive (member-has j (reachedCells R n w) e) w (omega arith)))
       go false e h = rw e (ne-eqb _ 3 λ three. other h (sym (state-markAll-other R j low (reachedCells R n w) positive (λ mem. true≢false (sym (has-member j mem) ∙ e)) w) ∙ three))
@@ -52,11 +52,11 @@ module _ (R n : ℕ) (w : List ℕ) (well : WellFormed R n w) (room : poolLength
           other (Cell.used s l r) three = omega arith
 
   -- so the sweep counts and keeps the reached cells
-  pub swept-reached : sweepOf R n (markAll R w (reachedCells R n w)) ≡ (keptCells R n w, collected R n w)
+  pub swept-reached : sweepOf R n (markAll R w (reachedCells R n w)) ≡ (reachedCount R n w, collected R n w)
   swept-reached =
       ap₂ (λ (k : ℕ) (v : List ℕ). (k, v))
-      (kept-cong (marked R (markAll R w (reachedCells R n w))) (isReached R n w) n marked-reached ∙ kept-count R n w well room)
-      (retain-cong R n (marked R (markAll R w (reachedCells R n w))) (isReached R n w) (markAll R w (reachedCells R n w)) w
+      (kept-cong (isMarked R (markAll R w (reachedCells R n w))) (isReached R n w) n marked-reached ∙ kept-count R n w well room)
+      (retain-cong R n (isMarked R (markAll R w (reachedCells R n w))) (isReached R n w) (markAll R w (reachedCells R n w)) w
       (length-markAll R w (reachedCells R n w)) marked-reached
       (λ k other away. markAll-elsewhere R n (reachedCells R n w) w k reached-cells away)
       λ j f low high hf e. field-markAll R j (suc f) low (omega arith) hf (reachedCells R n w) positive w)

@@ -7,7 +7,7 @@ use mathlib.Core.List.{List, [], _∷_, nil≢cons, cons≢nil, head-eq-of-cons-
 use mathlib.Core.Bool.{true, false, true≢false, false≢true}
 use lib.ListN.{length, drop}
 use lib.Seq.{drop-cons, drop-length}
-use Rattle.graph.proofs.Theorems.{order-length}
+use Rattle.graph.proofs.Theorems.{preorder-length}
 use Rattle.pool.specs.Layout.{cellLimit, poolLength, register, setCell, rootsOf, graphOf}
 use Rattle.pool.specs.Validity.{wellFormed}
 use Rattle.pool.proofs.Every.{length-tabulate, getD-tabulate, member-tabulate}
@@ -15,7 +15,7 @@ use Rattle.pool.proofs.Laws.{register-setCell, length-setCell}
 use Rattle.pool.proofs.WellFormed.{well-formed-read}
 use Rattle.pool.proofs.PoolGraph.{pool-within}
 use Rattle.collector.specs.declared.Marker.{Marker}
-use Rattle.collector.specs.Reversal.{unmarked, visitOf, Visits, Run, Ends}
+use Rattle.collector.specs.Reversal.{unmarked, visitOf, Visits, Run, EndingRun}
 use Rattle.collector.specs.ReversalTheorem.{MarkRoots, markedOf}
 use Rattle.collector.proofs.RunLoop.{counted}
 use Rattle.collector.proofs.Roots.{run-over-pool}
@@ -84,10 +84,10 @@ module _ (R n : ℕ) where
       marking-bound =
           rw this (pool-within (well-formed-read R n w₀ well) .root (register w₀ k) (member-tabulate R (λ j. register w₀ j) k here))
 
-      pub marking-ends : n ≤ cellLimit → unmarked R w p ≡ true → Ends R n p (visits, w)
+      pub marking-ends : n ≤ cellLimit → unmarked R w p ≡ true → EndingRun R n p (visits, w)
       marking-ends limit e =
           let (u, run, rest) = next .0 e in
-          let most = order-length n (graphOf R w₀) (rootsOf R w₀) (pool-within (well-formed-read R n w₀ well)) in
+          let most = preorder-length n (graphOf R w₀) (rootsOf R w₀) (pool-within (well-formed-read R n w₀ well)) in
           record { last = u; run = run; fits = omega (arith, roots-more rest) }
 
       pub marking-run : (visits' : ℕ) (w' : List ℕ) → unmarked R w p ≡ true

@@ -9,7 +9,7 @@ use lib.Dec.{eqb}
 use Rattle.pool.specs.Layout.{poolLength, setCell, state, left}
 use Rattle.pool.proofs.Laws.{length-setCell}
 use Rattle.collector.specs.declared.Marker.{Marker}
-use Rattle.collector.specs.Reversal.{unmarked, visitOf, Visitable, Visits, marker, Run, Ends}
+use Rattle.collector.specs.Reversal.{unmarked, visitOf, Visitable, Visits, marker, Run, EndingRun}
 use Rattle.collector.proofs.Measure.{remaining, remaining-visit}
 
 length-visit : (R : ℕ) (s : Marker × List ℕ) → length (visitOf R s .1) ≡ length (s .1)
@@ -66,7 +66,7 @@ module _ (R n : ℕ) where
 
     module _ (w : List ℕ) (m : Marker) (g : Going p c w₀ w m) where
       -- with a cell in hand a visit can be made, and counted
-      pub going-visit : Ends R n p (c, w₀) → m .cell ≤ n → Visitable R n (m, w) × (m .visits + 1 < 2 ^ 32)
+      pub going-visit : EndingRun R n p (c, w₀) → m .cell ≤ n → Visitable R n (m, w) × (m .visits + 1 < 2 ^ 32)
       going-visit ends bounded =
           let (k, q, left) = g .rest (ends .last) (ends .run) in
           let (v, fewer, others) = visits-next left (omega arith) bounded in
@@ -83,7 +83,7 @@ module _ (R n : ℕ) where
           }
 
       -- the visits that are left become fewer
-      pub going-less : (m' : Marker) (w' : List ℕ) → Ends R n p (c, w₀) → poolLength R n ≤ length w₀ → m .cell ≤ n
+      pub going-less : (m' : Marker) (w' : List ℕ) → EndingRun R n p (c, w₀) → poolLength R n ≤ length w₀ → m .cell ≤ n
           → _≡_ {A = Marker × List ℕ} (m', w') (visitOf R (m, w)) → remaining R n w' < remaining R n w
       going-less m' w' ends room bounded e =
           let once = remaining-visit R n (m, w) (going-visit ends bounded .0) (omega (arith, g .len)) in

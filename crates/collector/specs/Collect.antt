@@ -3,24 +3,24 @@ use Prim.Native.Nat.{ℕ, _*_}
 use mathlib.Core.List.{List, [], _∷_}
 use mathlib.Core.Bool.{Bool, cond}
 use lib.ListN.{length}
-use Rattle.graph.specs.Order.{has, order}
+use Rattle.graph.specs.Preorder.{elem, preorder}
 use Rattle.pool.specs.Layout.{registerCount, graphOf, rootsOf}
 use Rattle.pool.specs.Validity.{wellFormed}
 use Rattle.pool.specs.Calls.{sizedOf, admittedTo}
 use Rattle.pool.specs.Retain.{retain}
 use Rattle.answers.specs.Outcome.{Outcome, answered, refused}
 
--- The cells that the registers reach, in depth-first order.
+-- The cells that the registers reach, in depth-first preorder.
 abbrev pub reachedCells : ℕ → ℕ → List ℕ → List ℕ
-reachedCells R n w = order n (graphOf R w) (rootsOf R w)
+reachedCells R n w = preorder n (graphOf R w) (rootsOf R w)
 
 -- Is the cell reached?
 abbrev pub isReached : ℕ → ℕ → List ℕ → ℕ → Bool
-isReached R n w i = has i (reachedCells R n w)
+isReached R n w i = elem i (reachedCells R n w)
 
 -- How many cells are kept: those that are reached.
-abbrev pub keptCells : ℕ → ℕ → List ℕ → ℕ
-keptCells R n w = length (reachedCells R n w)
+abbrev pub reachedCount : ℕ → ℕ → List ℕ → ℕ
+reachedCount R n w = length (reachedCells R n w)
 
 -- The words after a collection: every reached cell is used, its links and its value as before, and every other cell is on the ascending chain.
 abbrev pub collected : ℕ → ℕ → List ℕ → List ℕ
@@ -30,7 +30,7 @@ collected R n w = retain R n (isReached R n w) w
 abbrev pub collectIn : ℕ → List ℕ → Outcome × List ℕ
 collectIn n w =
     cond (wellFormed registerCount n w)
-    (answered (keptCells registerCount n w ∷ 3 * keptCells registerCount n w ∷ []), collected registerCount n w)
+    (answered (reachedCount registerCount n w ∷ 3 * reachedCount registerCount n w ∷ []), collected registerCount n w)
     (refused 3, w)
 
 -- The call: the first question, then the collection.

@@ -7,7 +7,7 @@ use mathlib.Core.Bool.{true}
 use lib.ListN.{length}
 use Rattle.graph.specs.Graph.{Reach}
 use Rattle.graph.specs.Theorems.{Distinct}
-use Rattle.pool.specs.Layout.{registerCount, cellsOf, count, head, register, state, left, right, value, graphOf, rootsOf}
+use Rattle.pool.specs.Layout.{registerCount, cellCount, count, head, register, state, left, right, value, graphOf, rootsOf}
 use Rattle.pool.specs.Validity.{wellFormed}
 use Rattle.pool.specs.Retain.{freeList, freeCells, sweepOf}
 use Rattle.answers.specs.Outcome.{answered}
@@ -39,7 +39,7 @@ pub record Collected (n : ℕ) (w w' kept : List ℕ) : Type 0 where
   pub registers : (k : ℕ) → k < registerCount → register w' k ≡ register w k
   pub count : count w' ≡ count w
   -- The result is a well-formed pool, and collecting it again answers the same and changes nothing.
-  pub cells : cellsOf registerCount w' ≡ n
+  pub cells : cellCount registerCount w' ≡ n
   pub well-formed : wellFormed registerCount n w' ≡ true
   pub again : collectOf w' ≡ (answered (length kept ∷ 3 * length kept ∷ []), w')
   -- Where all n cells are reached, and the free list was empty, nothing changes at all.
@@ -47,9 +47,9 @@ pub record Collected (n : ℕ) (w w' kept : List ℕ) : Type 0 where
 
 -- Demand 2: a collection keeps exactly the cells that the registers reach, with their links and values, and frees all others; it answers how many it
 -- kept, and three visits for each.
-abbrev pub Collection-keeps-the-reached : Type 0
-Collection-keeps-the-reached =
-    (n : ℕ) (w : List ℕ) → 0 < n → cellsOf registerCount w ≡ n → wellFormed registerCount n w ≡ true
+abbrev pub CollectionKeepsTheReached : Type 0
+CollectionKeepsTheReached =
+    (n : ℕ) (w : List ℕ) → 0 < n → cellCount registerCount w ≡ n → wellFormed registerCount n w ≡ true
     → (kept w' : List ℕ) × (collectOf w ≡ (answered (length kept ∷ 3 * length kept ∷ []), w')) × Collected n w w' kept
 
 -- A collection of the pool w of n cells that answers `kept` and `visits` and leaves w': the marker's runs over the registers, from 0 visits on, and
@@ -65,7 +65,7 @@ pub record MarkedAndSwept (n : ℕ) (w : List ℕ) (kept visits : ℕ) (w' : Lis
   pub swept : sweepOf registerCount n marked ≡ (kept, w')
 
 -- Visits are counted: what a collection answers and leaves is what marking by reversal and the sweep come to, the visits among it.
-abbrev pub Collection-marks-and-sweeps : Type 0
-Collection-marks-and-sweeps =
-    (n : ℕ) (w : List ℕ) → 0 < n → cellsOf registerCount w ≡ n → wellFormed registerCount n w ≡ true
+abbrev pub CollectionMarksAndSweeps : Type 0
+CollectionMarksAndSweeps =
+    (n : ℕ) (w : List ℕ) → 0 < n → cellCount registerCount w ≡ n → wellFormed registerCount n w ≡ true
     → (kept visits : ℕ) × (w' : List ℕ) × (collectOf w ≡ (answered (kept ∷ visits ∷ []), w')) × MarkedAndSwept n w kept visits w'

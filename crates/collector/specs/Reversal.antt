@@ -46,7 +46,7 @@ abbrev pub Run : ℕ → ℕ → ℕ → ℕ × List ℕ → ℕ × List ℕ →
 Run R n p s t = (k q : ℕ) × Visits R n k (marker p (suc n) (s .0), s .1) (marker (suc n) q (t .0), t .1)
 
 -- A run from the link p that comes to its end, within 2^32 visits.
-pub record Ends (R n p : ℕ) (s : ℕ × List ℕ) : Type 0 where
+pub record EndingRun (R n p : ℕ) (s : ℕ × List ℕ) : Type 0 where
   pub last : ℕ × List ℕ
   pub run : Run R n p s last
   pub fits : last .0 < 2 ^ 32

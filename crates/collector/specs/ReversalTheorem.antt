@@ -9,7 +9,7 @@ use Rattle.graph.specs.Dfs.{Dfs, DfsAll}
 use Rattle.pool.specs.Layout.{poolLength, state, left, right, rootsOf}
 use Rattle.pool.specs.Validity.{wellFormed}
 use Rattle.collector.specs.Reversal.{unmarked, Visits, marker, Run, markAll}
-use Rattle.collector.specs.Collect.{reachedCells, keptCells}
+use Rattle.collector.specs.Collect.{reachedCells, reachedCount}
 
 -- What the words have to say of an unmarked cell x of the graph g of n cells: state 0, and the links of the graph, which are nil or cells.
 pub record Untouched (R n : ℕ) (g : Graph) (w : List ℕ) (x : ℕ) : Type 0 where
@@ -54,7 +54,7 @@ RunFromRoots =
 
 -- What marking a pool of n cells makes of it: three visits for each reached cell, and state 3 in exactly these.
 abbrev pub markedOf : ℕ → ℕ → List ℕ → ℕ × List ℕ
-markedOf R n w = (3 * keptCells R n w, markAll R w (reachedCells R n w))
+markedOf R n w = (3 * reachedCount R n w, markAll R w (reachedCells R n w))
 
 -- The same of a well-formed pool and its registers: the runs make three visits for each reached cell, leave state 3 in exactly these, and change no
 -- other word. (A free cell has state 4 and so counts as marked, but no free cell is reached.)

@@ -11,7 +11,7 @@ ghost use lib.ListN.{length};
 ghost use lib.Dec.{eqb};
 ghost use Rattle.pool.specs.Layout.{registerCount, cellLimit, poolLength};
 ghost use Rattle.pool.specs.Validity.{wellFormed};
-ghost use Rattle.collector.specs.Reversal.{unmarked, visitOf, Visitable, marker, Run, Ends};
+ghost use Rattle.collector.specs.Reversal.{unmarked, visitOf, Visitable, marker, Run, EndingRun};
 ghost use Rattle.collector.specs.ReversalTheorem.{markedOf};
 ghost use Rattle.answers.specs.Outcome.{answerOutcome};
 ghost use Rattle.collector.specs.Collect.{collectIn, collectOf};
@@ -82,7 +82,7 @@ impl Marker {
 
 // Marks from an unmarked link until the virtual root, which is no cell, is in hand. Gives the visits made so far.
 fn mark_from(words: &mut [u32], n: u32, p: u32, visits: u32) -> u32
-    requires { ⌜ Ends registerCount n p (visits, now words) ⌝ }
+    requires { ⌜ EndingRun registerCount n p (visits, now words) ⌝ }
     requires { ⌜ (poolLength registerCount n ≤ length (now words)) × (n ≤ cellLimit) ⌝ }
     ensures { λ r. ⌜ ((u : ℕ × List ℕ) → Run registerCount n p (visits, now (words .entry)) u → _≡_ {A = ℕ × List ℕ} (r, now (words .exit)) u) ⌝ }
 {

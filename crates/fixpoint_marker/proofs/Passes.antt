@@ -9,7 +9,7 @@ use mathlib.Core.List.{List, List·Memᴰ}
 use lib.ListN.{length, getD, set, replicate, length-replicate, getD-replicate, List·getD-eq-default}
 use lib.Seq.{getD-set-same, getD-set-other}
 use Rattle.graph.specs.Graph.{Reach, Within}
-use Rattle.graph.specs.Marking.{marked}
+use Rattle.graph.specs.Marking.{markedCount}
 use Rattle.graph.specs.Dfs.{mark}
 use Rattle.graph.proofs.Marks.{mark-self, mark-keeps, mark-cases}
 use Rattle.graph.proofs.Count.{marked-same, marked-mark, marked-le}
@@ -20,10 +20,10 @@ use Rattle.pool.proofs.Every.{tabulate-member, member-tabulate}
 use Rattle.pool.proofs.WellFormed.{well-formed-read}
 use Rattle.pool.proofs.PoolGraph.{pool-within}
 use Rattle.collector.specs.CollectTheorem.{Reached}
-use Rattle.fixpoint_marker.specs.Marks.{Exact, Marked, OnlyReached, Rooted, Closed, Linked, Grown}
+use Rattle.fixpoint_marker.specs.Marks.{Exact, Marked, OnlyReached, Rooted, Closed, LinkMarked, Grown}
 
 -- A link whose cell is marked, or which leads to none.
-pub linked-none : {n x : ℕ} (m : List ℕ) → Marked n m x → Linked n x m m 0
+pub linked-none : {n x : ℕ} (m : List ℕ) → Marked n m x → LinkMarked n x m m 0
 linked-none m h = record { keeps = λ y k. k; only = λ y k. inl k; count = omega arith; still = λ e. refl; done = h; small = omega arith }
 
 module _ {n x : ℕ} (m : List ℕ) (positive : 0 < x) (bounded : x ≤ n) (room : n < length m) (unmarked : getD m x 0 ≡ 0) where
@@ -41,7 +41,7 @@ module _ {n x : ℕ} (m : List ℕ) (positive : 0 < x) (bounded : x ≤ n) (room
         λ h. mark-keeps (λ z. getD m z 0) x y (rw (getD-set-other m x y 1 0 e) at h),
       )
 
-  pub linked-set : Linked n x m (set m x 1) 1
+  pub linked-set : LinkMarked n x m (set m x 1) 1
   linked-set =
       record {
         keeps = λ y h. set-mark y .0 (mark-keeps (λ z. getD m z 0) x y h);
@@ -72,7 +72,7 @@ module _ (n : ℕ) (w : List ℕ) where
   grown-none m = record { keeps = λ y k. k; only = λ s. s; count = omega arith; still = λ e. refl }
 
   -- A link that leads to a reached cell.
-  pub linked-grown : {x k : ℕ} {m m′ : List ℕ} → Linked n x m m′ k → (OnlyReached w m → 0 < x → Reached w x) → Grown n w m m′ k
+  pub linked-grown : {x k : ℕ} {m m′ : List ℕ} → LinkMarked n x m m′ k → (OnlyReached w m → 0 < x → Reached w x) → Grown n w m m′ k
   linked-grown {x} {k} {m} {m′} l reached =
       record {
         keeps = l .keeps;
@@ -92,7 +92,7 @@ module _ (n : ℕ) (w : List ℕ) where
 
   -- Both links x and y of a marked cell, one after the other.
   pub grown-links : (i : ℕ) {x y a b : ℕ} {m m′ m″ : List ℕ} → x ≡ left registerCount w i → y ≡ right registerCount w i → 0 < getD m i 0
-      → Linked n x m m′ a → Linked n y m′ m″ b → Grown n w m m″ (a + b) × Closed n w m″ i
+      → LinkMarked n x m m′ a → LinkMarked n y m′ m″ b → Grown n w m m″ (a + b) × Closed n w m″ i
   grown-links i {x} {y} {m″ = m″} ex ey h l r = (
     grown-more (linked-grown l (λ s p. by-left (s i h) p)) (linked-grown r (λ s p. by-right (s i (l .keeps i h)) p)),
     λ _. (
@@ -107,7 +107,7 @@ module _ (n : ℕ) (w : List ℕ) where
       by-right : Reached w i → 0 < y → Reached w y
       by-right reached p = rw ey (Reach.right reached (rw ey at p))
 
-  pub grown-fits : {m m′ : List ℕ} {k : ℕ} → Grown n w m m′ k → marked n (λ y. getD m y 0) + k ≤ n
+  pub grown-fits : {m m′ : List ℕ} {k : ℕ} → Grown n w m m′ k → markedCount n (λ y. getD m y 0) + k ≤ n
   grown-fits {m} {m′} g = omega (arith, g .count, marked-le n (λ y. getD m′ y 0))
 
   -- A pass over the cells from n down, so far to i: the marks grew, and where nothing was newly marked, the cells above i are closed.
@@ -137,7 +137,7 @@ module _ (n : ℕ) (w : List ℕ) where
   pub started-none : (m : List ℕ) → Started m m 0
   started-none m = record { sound = λ s. s; below = λ j h. absurd (omega arith) }
 
-  pub started-more : {m₀ m m′ : List ℕ} {x a : ℕ} (k : ℕ) → k < registerCount → x ≡ register w k → Started m₀ m k → Linked n x m m′ a
+  pub started-more : {m₀ m m′ : List ℕ} {x a : ℕ} (k : ℕ) → k < registerCount → x ≡ register w k → Started m₀ m k → LinkMarked n x m m′ a
       → Started m₀ m′ (k + 1)
   started-more {m′ = m′} {x = x} k low e s l =
       record {
@@ -169,8 +169,8 @@ module _ (n : ℕ) (w : List ℕ) where
       roots : (y : ℕ) → List·Memᴰ y (rootsOf registerCount w) → 0 < y → 0 < getD m y 0
       roots y mem h =
           let (k, low, e) = tabulate-member registerCount (λ k. register w k) y mem in
-          let marked : Marked n m y = rw e (grown-rooted g rooted k low) in
-          marked h (within .root y mem)
+          let known : Marked n m y = rw e (grown-rooted g rooted k low) in
+          known h (within .root y mem)
 
       links : (y : ℕ) → 0 < getD m y 0
           → (0 < left registerCount w y → 0 < getD m (left registerCount w y) 0) × (0 < right registerCount w y → 0 < getD m (right registerCount w y) 0)

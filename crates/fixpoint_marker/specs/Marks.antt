@@ -5,7 +5,7 @@ use mathlib.Core.Path.{_≡_}
 use mathlib.Core.Logic.{_⊎_, _↔_}
 use mathlib.Core.List.{List}
 use lib.ListN.{getD}
-use Rattle.graph.specs.Marking.{marked}
+use Rattle.graph.specs.Marking.{markedCount}
 use Rattle.pool.specs.Layout.{registerCount, register, left, right}
 use Rattle.collector.specs.CollectTheorem.{Reached}
 
@@ -30,10 +30,10 @@ abbrev pub Closed : ℕ → List ℕ → List ℕ → ℕ → Type 0
 Closed n w m i = 0 < getD m i 0 → Marked n m (left registerCount w i) × Marked n m (right registerCount w i)
 
 -- The link x is marked in m, which gives m′; k cells are newly marked, one at most.
-pub record Linked (n x : ℕ) (m m′ : List ℕ) (k : ℕ) : Type 0 where
+pub record LinkMarked (n x : ℕ) (m m′ : List ℕ) (k : ℕ) : Type 0 where
   pub keeps : (y : ℕ) → 0 < getD m y 0 → 0 < getD m′ y 0
   pub only : (y : ℕ) → 0 < getD m′ y 0 → (0 < getD m y 0) ⊎ ((y ≡ x) × (0 < y))
-  pub count : marked n (λ y. getD m y 0) + k ≤ marked n (λ y. getD m′ y 0)
+  pub count : markedCount n (λ y. getD m y 0) + k ≤ markedCount n (λ y. getD m′ y 0)
   pub still : k ≡ 0 → m′ ≡ m
   pub done : Marked n m′ x
   pub small : k ≤ 1
@@ -42,5 +42,5 @@ pub record Linked (n x : ℕ) (m m′ : List ℕ) (k : ℕ) : Type 0 where
 pub record Grown (n : ℕ) (w m m′ : List ℕ) (k : ℕ) : Type 0 where
   pub keeps : (y : ℕ) → 0 < getD m y 0 → 0 < getD m′ y 0
   pub only : OnlyReached w m → OnlyReached w m′
-  pub count : marked n (λ y. getD m y 0) + k ≤ marked n (λ y. getD m′ y 0)
+  pub count : markedCount n (λ y. getD m y 0) + k ≤ markedCount n (λ y. getD m′ y 0)
   pub still : k ≡ 0 → m′ ≡ m

@@ -7,12 +7,12 @@ ghost use mathlib.Core.Bool.{true};
 ghost use lib.ListN.{length};
 ghost use Rattle.pool.specs.Layout.{registerCount, poolLength};
 ghost use Rattle.pool.specs.Validity.{wellFormed};
-ghost use Rattle.fixpoint_marker.specs.Marks.{Exact, OnlyReached, Rooted, Closed, Linked, Grown};
+ghost use Rattle.fixpoint_marker.specs.Marks.{Exact, OnlyReached, Rooted, Closed, LinkMarked, Grown};
 
 // Marks the cell that a link leads to. Gives how many cells that newly marks: 1 or 0.
 fn mark_link(marks: &mut [u32], n: u32, x: u32) -> u32
     requires { ⌜ n < length (now marks) ⌝ }
-    ensures { λ r. ⌜ Linked n x (now (marks .entry)) (now (marks .exit)) r ⌝ }
+    ensures { λ r. ⌜ LinkMarked n x (now (marks .entry)) (now (marks .exit)) r ⌝ }
 {
     if x == 0 {
         return 0;

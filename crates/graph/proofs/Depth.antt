@@ -1,4 +1,4 @@
--- With as much depth as the graph has cells, the depth-first order is what the visits of the roots mark.
+-- With as much depth as the graph has cells, the depth-first preorder is what the visits of the roots mark.
 use Prim.Native.Nat.{ℕ, zero, suc, _+_, _<_, _≤_}
 use native.Mathlib.Omega.{arith}
 use mathlib.Core.Path.{_≡_, refl, sym, subst, ap, _∙_}
@@ -8,8 +8,8 @@ use mathlib.Core.Bool.{or-true}
 use lib.Dec.{eqb}
 use borrow.Author.Tests.{eq-eqb, ne-eqb}
 use Rattle.graph.specs.Graph.{Graph, Reach, Within}
-use Rattle.graph.specs.Order.{visit, visits, order}
-use Rattle.graph.specs.Marking.{outside, marked}
+use Rattle.graph.specs.Preorder.{visit, visits, preorder}
+use Rattle.graph.specs.Marking.{outside, markedCount}
 use Rattle.graph.specs.Dfs.{Dfs, DfsAll, mark, marks}
 use Rattle.graph.proofs.Reached.{reach-within}
 use Rattle.graph.proofs.Lists.{Each, has-member, has-none}
@@ -32,9 +32,9 @@ after-cells : (n : ℕ) (seen : List ℕ) → Cells n (after n seen)
 after-cells n seen = cells-marks seen (cells-outside n)
 
 after-one : (n : ℕ) (seen : List ℕ) (p : ℕ) → after n seen p ≡ 0
-    → marked n (after n (seen ++ (p ∷ []))) ≡ suc (marked n (after n seen))
+    → markedCount n (after n (seen ++ (p ∷ []))) ≡ suc (markedCount n (after n seen))
 after-one n seen p e =
-    ap (marked n) (after-cell n seen p)
+    ap (markedCount n) (after-cell n seen p)
     ∙ marked-mark n (after n seen) p (after-cells n seen .above p e) (after-cells n seen .below p e) e
 
 module _ (n : ℕ) (g : Graph) where
@@ -82,7 +82,7 @@ module _ (n : ℕ) (g : Graph) where
         record { new = []; dfs = Dfs.stop h; adds = stops depth seen p within h ∙ sym (append-nil seen) }
 
     -- The depth is enough where it is no less than the number of unmarked cells.
-    visited : (depth : ℕ) (seen : List ℕ) (p : ℕ) → (0 < p → Reach g roots p) → n ≤ depth + marked n (after n seen)
+    visited : (depth : ℕ) (seen : List ℕ) (p : ℕ) → (0 < p → Reach g roots p) → n ≤ depth + markedCount n (after n seen)
         → Visited depth seen p
     visited zero seen p r d =
         ⊎-elim (λ e. absurd (omega (arith, marked-le n (after n (seen ++ (p ∷ []))), after-one n seen p e))) (stopped 0 seen p r)
@@ -92,7 +92,7 @@ module _ (n : ℕ) (g : Graph) where
         (λ e.
         let rp : Reach g roots p = r (after-cells n seen .above p e) in
         let seen′ : List ℕ = seen ++ (p ∷ []) in
-        let more : marked n (after n seen′) ≡ suc (marked n (after n seen)) = after-one n seen p e in
+        let more : markedCount n (after n seen′) ≡ suc (markedCount n (after n seen)) = after-one n seen p e in
         let a : Visited depth seen′ (g .left p) = visited depth seen′ (g .left p) (Reach.left rp) (omega arith) in
         both depth seen p e a
         (visited depth (seen′ ++ a .new) (g .right p) (Reach.right rp)
@@ -112,15 +112,15 @@ module _ (n : ℕ) (g : Graph) where
         }
 
     -- The order with any depth that is no less than n is what the visits of the roots mark.
-    pub order-dfs-deep : (depth : ℕ) → n ≤ depth → DfsAll g (outside n) roots (order depth g roots)
-    unfolding order marks
+    pub order-dfs-deep : (depth : ℕ) → n ≤ depth → DfsAll g (outside n) roots (preorder depth g roots)
+    unfolding preorder marks
     order-dfs-deep depth d =
         let a : AllVisited depth [] roots = all-visited depth [] roots (λ x h. Reach.root h) d in
         subst (DfsAll g (outside n) roots) (sym (a .adds)) (a .dfs)
 
-    pub order-dfs : DfsAll g (outside n) roots (order n g roots)
+    pub order-dfs : DfsAll g (outside n) roots (preorder n g roots)
     order-dfs = order-dfs-deep n (omega arith)
 
     -- More depth changes nothing.
-    pub order-deep : (depth : ℕ) → n ≤ depth → order depth g roots ≡ order n g roots
+    pub order-deep : (depth : ℕ) → n ≤ depth → preorder depth g roots ≡ preorder n g roots
     order-deep depth d = all-functional (order-dfs-deep depth d) order-dfs

@@ -8,7 +8,7 @@ use mathlib.Core.Bool.{Bool, true, false, false≢true, _||_, or-true}
 use lib.ListN.{length, getD}
 use lib.Dec.{eqb}
 use borrow.Author.Tests.{eq-eqb, ne-eqb, eqb-true}
-use Rattle.graph.specs.Order.{has}
+use Rattle.graph.specs.Preorder.{elem}
 use Rattle.graph.specs.Theorems.{Distinct}
 
 -- P holds of each member of a list.
@@ -26,22 +26,22 @@ module _ (P : ℕ → Type 0) where
   each-append t f g x h = ⊎-elim (f x) (g x) (List·Memᴰ·append-cases t h)
 
 -- The test of membership.
-pub has-member : (x : ℕ) {xs : List ℕ} → List·Memᴰ x xs → has x xs ≡ true
-unfolding has
+pub has-member : (x : ℕ) {xs : List ℕ} → List·Memᴰ x xs → elem x xs ≡ true
+unfolding elem
 has-member x (List·Memᴰ·head {x = y} e) = rw (eq-eqb x y e)
 has-member x (List·Memᴰ·tail {x = y} {xs = ys} h) = rw (has-member x {xs = ys} h) (or-true (eqb x y))
 
-pub has-none : (x : ℕ) (xs : List ℕ) → (List·Memᴰ x xs → ⊥) → has x xs ≡ false
-unfolding has
+pub has-none : (x : ℕ) (xs : List ℕ) → (List·Memᴰ x xs → ⊥) → elem x xs ≡ false
+unfolding elem
 has-none x [] h = refl
 has-none x (y ∷ xs) h = rw (ne-eqb x y (λ e. h (List·Memᴰ·head e)), has-none x xs (λ k. h (List·Memᴰ·tail k)))
 
-pub member-has : (x : ℕ) (xs : List ℕ) → has x xs ≡ true → List·Memᴰ x xs
-unfolding has
+pub member-has : (x : ℕ) (xs : List ℕ) → elem x xs ≡ true → List·Memᴰ x xs
+unfolding elem
 member-has x [] h = absurd (false≢true h)
 member-has x (y ∷ xs) h = go (eqb x y) refl h (member-has x xs)
   where
-    go : (t : Bool) → eqb x y ≡ t → (t || has x xs) ≡ true → (has x xs ≡ true → List·Memᴰ x xs) → List·Memᴰ x (y ∷ xs)
+    go : (t : Bool) → eqb x y ≡ t → (t || elem x xs) ≡ true → (elem x xs ≡ true → List·Memᴰ x xs) → List·Memᴰ x (y ∷ xs)
     go true e k rest = List·Memᴰ·head (eqb-true x y e)
     go false e k rest = List·Memᴰ·tail (rest k)
 

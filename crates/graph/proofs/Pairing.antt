@@ -6,10 +6,10 @@ use mathlib.Core.Logic.{⊎-elim, _↔_}
 use mathlib.Core.List.{List, [], _∷_, _++_, Forall₂, Forall₂·nil, Forall₂·cons}
 use lib.ListN.{length, getD}
 use Rattle.graph.specs.Graph.{Graph, Reach, Within}
-use Rattle.graph.specs.Order.{order}
+use Rattle.graph.specs.Preorder.{preorder}
 use Rattle.graph.specs.Marking.{outside}
 use Rattle.graph.specs.Compare.{Paired, OneToOne}
-use Rattle.graph.specs.Theorems.{Order-paired, Length-paired, Pairing-kept}
+use Rattle.graph.specs.Theorems.{PreorderPaired, LengthPaired, PairingKept}
 use Rattle.graph.specs.Dfs.{Dfs, DfsAll, mark, marks}
 use Rattle.graph.proofs.Lists.{getD-member, forall₂-places, forall₂-getD, forall₂-length, forall₂-append}
 use Rattle.graph.proofs.Marks.{before, zero-or-above, mark-along, mark-keeps, marks-keeps, above-nil, outside-cell, outside-nil}
@@ -107,20 +107,20 @@ module _ (n : ℕ) (g : Graph) (rs : List ℕ) (k : ℕ) (h : Graph) (ss : List 
     λ a. start-nil n x (o .nil x y r .1 (start v y (paired-reach (paired-flip e r)) a)),
   )
 
-  pub orders-paired : Forall₂ (Paired g rs h ss) (order n g rs) (order k h ss)
+  pub orders-paired : Forall₂ (Paired g rs h ss) (preorder n g rs) (preorder k h ss)
   orders-paired =
-      let walk : AllInStep g rs h ss (outside k) ss (order n g rs) =
+      let walk : AllInStep g rs h ss (outside k) ss (preorder n g rs) =
       all-in-step g rs h ss o (forall₂-places rs ss e Paired.root) (order-dfs n g rs w) (outside-nil n) start-alike
       in
-      subst (Forall₂ (Paired g rs h ss) (order n g rs)) (all-functional (walk .dfs) (order-dfs k h ss v)) (walk .pairs)
+      subst (Forall₂ (Paired g rs h ss) (preorder n g rs)) (all-functional (walk .dfs) (order-dfs k h ss v)) (walk .pairs)
 
-pub order-paired : Order-paired
-order-paired n g rs k h ss w v e o = forall₂-getD (orders-paired n g rs k h ss w v e o)
+pub preorder-paired : PreorderPaired
+preorder-paired n g rs k h ss w v e o = forall₂-getD (orders-paired n g rs k h ss w v e o)
 
-pub length-paired : Length-paired
+pub length-paired : LengthPaired
 length-paired n g rs k h ss w v e o = forall₂-length (orders-paired n g rs k h ss w v e o)
 
-pub pairing-kept : Pairing-kept
+pub pairing-kept : PairingKept
 pairing-kept g rs h ss P o roots links =
     record {
       nil = λ x y a. o .nil x y (within a);

@@ -4,7 +4,7 @@ use mathlib.Core.Path.{sym, subst}
 use mathlib.Core.List.{List}
 use Rattle.graph.specs.Graph.{Graph, Reach, Within}
 use Rattle.graph.specs.Compare.{Agree}
-use Rattle.graph.specs.Theorems.{Reach-agree}
+use Rattle.graph.specs.Theorems.{ReachAgree}
 use Rattle.graph.proofs.Lists.{Each}
 
 -- What holds of the roots, and with a cell of its links, holds of every cell that is reached.
@@ -40,7 +40,7 @@ agreeing-flip agree x r =
     let a = agree x (agreeing-reach agree r) in
     record { left = sym (a .left); right = sym (a .right) }
 
-pub reach-agree : Reach-agree
+pub reach-agree : ReachAgree
 reach-agree g h roots agree x = (agreeing-reach (agreeing-flip agree), agreeing-reach agree)
 
 -- The second graph is within as many cells as the first.

@@ -3,7 +3,7 @@ use Prim.Native.Nat.{ℕ, _<_}
 use mathlib.Core.Path.{_≡_}
 use mathlib.Core.List.{List, [], _∷_, _++_, append-assoc}
 use Rattle.graph.specs.Graph.{Graph, Within}
-use Rattle.graph.specs.Order.{order}
+use Rattle.graph.specs.Preorder.{preorder}
 use Rattle.graph.specs.Marking.{outside}
 use Rattle.graph.specs.Dfs.{Dfs, DfsAll, mark, marks}
 use Rattle.graph.proofs.Marks.{marks-append}
@@ -29,5 +29,5 @@ module _ {g : Graph} where
   walk-all (DfsAll.next a b) = walk-link a (walk-all b)
 
 -- The walk from the roots marks the cells of the order.
-pub order-walk : (n : ℕ) (g : Graph) (roots : List ℕ) → Within n g roots → Walk g (outside n) roots (order n g roots)
+pub order-walk : (n : ℕ) (g : Graph) (roots : List ℕ) → Within n g roots → Walk g (outside n) roots (preorder n g roots)
 order-walk n g roots w = walk-all (order-dfs n g roots w)

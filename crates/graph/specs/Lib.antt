@@ -1,5 +1,5 @@
 pub mod Graph
-pub mod Order
+pub mod Preorder
 pub mod Dfs
 pub mod Marking
 pub mod Compare

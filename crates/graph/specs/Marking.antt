@@ -11,9 +11,9 @@ unfoldable pub outside : ℕ → ℕ → ℕ
 outside n x = cond (eqb x 0 || ltb n x) 1 0
 
 -- How many of the cells 1 to n are marked.
-unfoldable pub marked : ℕ → (ℕ → ℕ) → ℕ
-marked zero m = 0
-marked (suc n) m = cond (ltb 0 (m (suc n))) 1 0 + marked n m
+unfoldable pub markedCount : ℕ → (ℕ → ℕ) → ℕ
+markedCount zero m = 0
+markedCount (suc n) m = cond (ltb 0 (m (suc n))) 1 0 + markedCount n m
 
 -- A marker has done its work from the roots, where m were the marks before and f are the marks after. A cell is newly marked where m does
 -- not mark it and f does.

@@ -7,7 +7,7 @@ use mathlib.Core.Bool.{Bool, true, false, cond}
 use lib.ListN.{length, getD}
 use lib.Dec.{ltb}
 use borrow.Author.Tests.{ltb-true}
-use Rattle.pool.specs.Layout.{registerCount, cellsOfLength, cellsOf}
+use Rattle.pool.specs.Layout.{registerCount, cellCountOfLength, cellCount}
 use Rattle.pool.specs.Validity.{wellFormed}
 use Rattle.answers.specs.Outcome.{refusalNumber}
 use Rattle.answers.specs.declared.Refusal.{Refusal}
@@ -44,11 +44,11 @@ pub load-is-well-formed : LoadIsWellFormed
 load-is-well-formed w bytes = go (ltb 0 n) refl (readImage registerCount n bytes) refl
   where
     n : ℕ
-    n = cellsOfLength registerCount (length w)
+    n = cellCountOfLength registerCount (length w)
 
     go : (t : Bool) → ltb 0 n ≡ t → (i : Image) → readImage registerCount n bytes ≡ i
         → let loaded = cond t (loadImage registerCount n i (length bytes) w) (record { verdict = 1; end = length bytes }, w) in
-        loaded .0 .verdict ≡ 0 → (cellsOf registerCount (loaded .1) ≡ n) × (wellFormed registerCount n (loaded .1) ≡ true)
+        loaded .0 .verdict ≡ 0 → (cellCount registerCount (loaded .1) ≡ n) × (wellFormed registerCount n (loaded .1) ≡ true)
     go false none i e zero = absurd (omega arith)
     go true some (Image.fault why) e zero = absurd (omega (arith, refusal-positive why))
     go true some (Image.image K start vs end) e zero =

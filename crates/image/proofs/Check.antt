@@ -6,7 +6,7 @@ use mathlib.Core.Path.{_≡_, refl, sym}
 use mathlib.Core.List.{List}
 use lib.ListN.{length}
 use borrow.Author.Tests.{le-leb, lt-leb}
-use Rattle.pool.specs.Layout.{registerCount, cellLimit, poolLength, cellsOfLength}
+use Rattle.pool.specs.Layout.{registerCount, cellLimit, poolLength, cellCountOfLength}
 use Rattle.pool.proofs.Questions.{length-sized, sized-length}
 use Rattle.image.specs.Image.{Image, readImage}
 use Rattle.image.specs.Load.{imageVerdict, loadImage, checkOf, loadOf, CheckIsLoad}
@@ -16,9 +16,9 @@ verdict-same n (Image.image K start vs end) bytes w = refl
 verdict-same n (Image.fault why) bytes w = refl
 
 -- A length of N cells outside the limits is no pool's.
-no-pool : (n : ℕ) → (1 ≤ n → n ≤ cellLimit → ⊥) → cellsOfLength registerCount (poolLength registerCount n) ≡ 0
+no-pool : (n : ℕ) → (1 ≤ n → n ≤ cellLimit → ⊥) → cellCountOfLength registerCount (poolLength registerCount n) ≡ 0
 no-pool n outside =
-    elim (decLt 0 (cellsOfLength registerCount (poolLength registerCount n))) [
+    elim (decLt 0 (cellCountOfLength registerCount (poolLength registerCount n))) [
       | yes some ↦
           let s = length-sized registerCount (poolLength registerCount n) some in
           absurd (outside (omega (arith, s)) (omega (arith, s)))

@@ -8,7 +8,7 @@ use lib.ListN.{length, getD}
 use lib.Dec.{leb}
 use borrow.Author.Tests.{le-leb, lt-leb, leb-true, ne-eqb}
 use Rattle.pool.specs.Words.{tabulate}
-use Rattle.pool.specs.Layout.{poolLength, cellsOfLength, cellsOf, cellLimit, count, register, cell}
+use Rattle.pool.specs.Layout.{poolLength, cellCountOfLength, cellCount, cellLimit, count, register, cell}
 use Rattle.pool.specs.Retain.{freeList, freeCells}
 use Rattle.pool.proofs.Questions.{sized-length, same-count}
 use Rattle.pool.proofs.Retained.{length-retain, retain-count, retain-register}
@@ -43,10 +43,10 @@ module _ (R m K : ℕ) (vs : List ℕ) (few : K ≤ m) where
       retained-same R m (λ i. leb i K) held room (suc p) f (omega arith) (omega arith) (omega arith) (le-leb (suc p) K (omega arith))
       ∙ (rw this at (holds .cells (suc p) f (omega arith) (omega arith) hf))
 
-  pub loaded-cells : 1 ≤ m → m ≤ cellLimit → cellsOf R (loadedWords R m K vs) ≡ m
+  pub loaded-cells : 1 ≤ m → m ≤ cellLimit → cellCount R (loadedWords R m K vs) ≡ m
   loaded-cells low high =
       let long : length (loadedWords R m K vs) ≡ poolLength R m = length-retain R m (λ i. leb i K) held ∙ holds .len in
-      let cells : cellsOfLength R (length (loadedWords R m K vs)) ≡ m = rw long (sized-length R m low high) in
+      let cells : cellCountOfLength R (length (loadedWords R m K vs)) ≡ m = rw long (sized-length R m low high) in
       let first : count (loadedWords R m K vs) ≡ m = retain-count R m (λ i. leb i K) held room ∙ holds .number in
       same-count R (loadedWords R m K vs) (first ∙ sym cells) ∙ cells
 

@@ -11,8 +11,8 @@ use lib.Dec.{leb, ltb}
 use borrow.Author.Tests.{lt-ltb, le-ltb, le-leb, lt-leb, leb-true, ne-eqb}
 use Rattle.leb128.specs.Leb128.{Bytes}
 use Rattle.pool.specs.Words.{tabulate}
-use Rattle.pool.specs.Layout.{registerCount, poolLength, cellsOfLength, cellAt, count, head, register, cell, state}
-use Rattle.pool.specs.Retain.{lowestFree, freeAbove, keptField, freeField, retainedField, retain, marked, sweepOf}
+use Rattle.pool.specs.Layout.{registerCount, poolLength, cellCountOfLength, cellAt, count, head, register, cell, state}
+use Rattle.pool.specs.Retain.{lowestFree, freeAbove, keptField, freeField, retainedField, retain, isMarked, sweepOf}
 use Rattle.answers.specs.Outcome.{refusalNumber}
 use Rattle.answers.specs.declared.Refusal.{Refusal}
 use Rattle.pool.proofs.Every.{length-tabulate, getD-tabulate}
@@ -138,18 +138,18 @@ module _ (R n K : ℕ) (few : K ≤ n) (vs w : List ℕ) (long : length w ≡ po
             field-written (cellAt R i (suc f)) j (omega arith) place (omega arith) (λ k e. omega arith);
       }
 
-  pub written-marked : (i : ℕ) → 0 < i → i ≤ n → marked R written i ≡ leb i K
+  pub written-marked : (i : ℕ) → 0 < i → i ≤ n → isMarked R written i ≡ leb i K
   written-marked i low high = go (decLe i K) (marks-state R K n (set w 0 n) i low high (omega (arith, length-set w 0 n)))
     where
-      go : Dec (i ≤ K) → state R written i ≡ sweepState K i → marked R written i ≡ leb i K
+      go : Dec (i ≤ K) → state R written i ≡ sweepState K i → isMarked R written i ≡ leb i K
       go (yes inside) e = simp (e, le-leb i K inside)
       go (no outside) e = simp (e, lt-leb i K (omega arith))
 
-  pub written-loaded : 0 < n → retain R n (marked R written) written ≡ loadedWords R n K vs
-  written-loaded some = retain-same R n K some few vs written _ written-holds (image-holds R n K vs few) (marked R written) written-marked
+  pub written-loaded : 0 < n → retain R n (isMarked R written) written ≡ loadedWords R n K vs
+  written-loaded some = retain-same R n K some few vs written _ written-holds (image-holds R n K vs few) (isMarked R written) written-marked
 
 -- What load answers: no pool; a refused image; a whole one.
-module _ (w bytes : List ℕ) (n : ℕ) (cells : n ≡ cellsOfLength registerCount (length w)) where
+module _ (w bytes : List ℕ) (n : ℕ) (cells : n ≡ cellCountOfLength registerCount (length w)) where
   pub load-no-pool : (v : ℕ) → n ≡ 0 → v ≡ 1 → _≡_ {A = Loaded × List ℕ} (record { verdict = v; end = length bytes }, w) (loadOf w bytes)
   load-no-pool v none e = simp (← cells, none, e)
 
@@ -186,7 +186,7 @@ pub load-end : (w bytes : List ℕ) → Bytes bytes → loadOf w bytes .0 .end �
 load-end w bytes byte = go (ltb 0 n) (readImage registerCount n bytes) refl
   where
     n : ℕ
-    n = cellsOfLength registerCount (length w)
+    n = cellCountOfLength registerCount (length w)
 
     go : (t : Bool) (i : Image) → readImage registerCount n bytes ≡ i
         → (cond t (loadImage registerCount n i (length bytes) w) (record { verdict = 1; end = length bytes }, w)) .0 .end ≤ length bytes

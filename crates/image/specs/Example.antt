@@ -13,19 +13,19 @@ two-cells = 2 ∷ 0 ∷ 2 ∷ 0 ∷ 0 ∷ 0 ∷ 0 ∷ 7 ∷ 0 ∷ 2 ∷ 1 ∷ 30
 abbrev pub two-cells-image : List ℕ
 two-cells-image = 2 ∷ 1 ∷ 0 ∷ 1 ∷ 2 ∷ 172 ∷ 2 ∷ 0 ∷ 0 ∷ 7 ∷ []
 
-abbrev pub Image-example : Type 0
-Image-example = imageOf 2 2 two-cells ≡ two-cells-image
+abbrev pub ImageExample : Type 0
+ImageExample = imageOf 2 2 two-cells ≡ two-cells-image
 
 -- It is read back; with the last byte missing it is refused, and so is it for a pool of one cell, even if nothing follows K.
-abbrev pub Read-example : Type 0
-Read-example = readImage 2 2 two-cells-image ≡ Image.image 2 1 (1 ∷ 0 ∷ 1 ∷ 2 ∷ 300 ∷ 0 ∷ 0 ∷ 7 ∷ []) 10
+abbrev pub ReadExample : Type 0
+ReadExample = readImage 2 2 two-cells-image ≡ Image.image 2 1 (1 ∷ 0 ∷ 1 ∷ 2 ∷ 300 ∷ 0 ∷ 0 ∷ 7 ∷ []) 10
 
-abbrev pub Truncated-example : Type 0
-Truncated-example = readImage 2 2 (2 ∷ 1 ∷ 0 ∷ 1 ∷ 2 ∷ 172 ∷ 2 ∷ 0 ∷ 0 ∷ []) ≡ Image.fault refusal.Truncated
+abbrev pub TruncatedExample : Type 0
+TruncatedExample = readImage 2 2 (2 ∷ 1 ∷ 0 ∷ 1 ∷ 2 ∷ 172 ∷ 2 ∷ 0 ∷ 0 ∷ []) ≡ Image.fault refusal.Truncated
 
-abbrev pub TooManyCells-example : Type 0
-TooManyCells-example = readImage 2 1 (2 ∷ []) ≡ Image.fault refusal.TooManyCells
+abbrev pub TooManyCellsExample : Type 0
+TooManyCellsExample = readImage 2 1 (2 ∷ []) ≡ Image.fault refusal.TooManyCells
 
 -- A link of K + 1 is refused, though the pool has room for more cells; the fault that comes first decides.
-abbrev pub LinkRange-example : Type 0
-LinkRange-example = readImage 2 9 (2 ∷ 3 ∷ 128 ∷ []) ≡ Image.fault refusal.LinkRange
+abbrev pub LinkRangeExample : Type 0
+LinkRangeExample = readImage 2 9 (2 ∷ 3 ∷ 128 ∷ []) ≡ Image.fault refusal.LinkRange

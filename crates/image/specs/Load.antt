@@ -6,7 +6,7 @@ use mathlib.Core.Bool.{true, cond, _&&_}
 use lib.ListN.{length, getD, drop}
 use lib.Dec.{eqb, leb, ltb}
 use Rattle.pool.specs.Words.{tabulate}
-use Rattle.pool.specs.Layout.{registerCount, cellLimit, poolLength, cellsOfLength, cellsOf, cellAt, setCell}
+use Rattle.pool.specs.Layout.{registerCount, cellLimit, poolLength, cellCountOfLength, cellCount, cellAt, setCell}
 use Rattle.pool.specs.Validity.{wellFormed}
 use Rattle.pool.specs.Retain.{retain}
 use Rattle.answers.specs.Outcome.{refusalNumber}
@@ -39,7 +39,7 @@ loadImage R n (Image.fault why) bytes w = (record { verdict = refusalNumber why;
 -- Load: N is that of the length alone (word 0 is asked "in every call but fresh and load"); then the image, number by number.
 abbrev pub loadOf : List ℕ → List ℕ → Loaded × List ℕ
 loadOf w bytes =
-    let n = cellsOfLength registerCount (length w) in
+    let n = cellCountOfLength registerCount (length w) in
     cond (ltb 0 n) (loadImage registerCount n (readImage registerCount n bytes) (length bytes) w)
     (record { verdict = 1; end = length bytes }, w)
 
@@ -90,6 +90,6 @@ CheckIsLoad = (n : ℕ) (bytes w : List ℕ) → length w ≡ poolLength registe
 abbrev pub LoadIsWellFormed : Type 0
 LoadIsWellFormed =
     (w bytes : List ℕ)
-    → let n = cellsOfLength registerCount (length w) in
+    → let n = cellCountOfLength registerCount (length w) in
     loadOf w bytes .0 .verdict ≡ 0
-    → (cellsOf registerCount (loadOf w bytes .1) ≡ n) × (wellFormed registerCount n (loadOf w bytes .1) ≡ true)
+    → (cellCount registerCount (loadOf w bytes .1) ≡ n) × (wellFormed registerCount n (loadOf w bytes .1) ≡ true)

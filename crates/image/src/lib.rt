@@ -183,7 +183,7 @@ fn mark_first(words: &mut [u32], n: u32, k: u32)
 pub fn load_at(words: &mut [u32], bytes: &[u8]) -> Loaded
     ensures { λ r. ⌜ (r, now (words .exit)) ≡ loadOf (now (words .entry)) (now (bytes .entry)) ⌝ }
 {
-    let n = pool::cells_of_length(words.len());
+    let n = pool::cell_count_of_length(words.len());
     if n == 0 {
         return Loaded {
             verdict: Refusal::Size.number(),

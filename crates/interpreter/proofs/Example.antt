@@ -1,8 +1,8 @@
 -- The script of specs/Example.antt, computed.
 use mathlib.Core.Path.{refl}
-use Rattle.graph.specs.Order.{has, visit, visits, order}
+use Rattle.graph.specs.Preorder.{elem, visit, visits, preorder}
 use Rattle.pool.specs.Words.{tabulate, every}
-use Rattle.pool.specs.Layout.{cellsOfLength, count, cellsOf, head, setHead, register, setRegister, cell, setCell}
+use Rattle.pool.specs.Layout.{cellCountOfLength, count, setCount, cellCount, head, setHead, register, setRegister, cell, setCell}
 use Rattle.pool.specs.Retain.{lowestFree, retain}
 use Rattle.script.specs.Lines.{firstWord, laterWords, all, isNumber, command, lineOf, parseLine}
 use Rattle.script.specs.Scripts.{linesOf}
@@ -11,5 +11,5 @@ use Rattle.interpreter.specs.Execute.{transcript}
 use Rattle.interpreter.specs.Example.{bytesOf, TranscriptExample}
 
 pub transcript-example : TranscriptExample
-unfolding has visit visits order tabulate every cellsOfLength count cellsOf head setHead register setRegister cell setCell lowestFree retain firstWord laterWords all isNumber command lineOf parseLine linesOf digits decimal spaced transcript bytesOf
+unfolding elem visit visits preorder tabulate every cellCountOfLength count setCount cellCount head setHead register setRegister cell setCell lowestFree retain firstWord laterWords all isNumber command lineOf parseLine linesOf digits decimal spaced transcript bytesOf
 transcript-example = refl

@@ -8,11 +8,12 @@ use lib.ListN.{length, take, drop, take-append-drop}
 use lib.Seq.{length-take-le}
 use lib.Dec.{leb, ltb}
 use borrow.Author.Tests.{lt-ltb, le-leb, ltb-true, leb-true}
-use Rattle.pool.specs.Layout.{cellLimit, registerCount, poolLength}
+use Rattle.pool.specs.Layout.{cellLimit, registerCount, poolLength, cellCountOfLength}
 use Rattle.answers.specs.Outcome.{Outcome, answered, refused}
 use Rattle.pool.specs.Calls.{freshOf}
 use Rattle.pool.specs.Retain.{freshWords}
 use Rattle.pool.proofs.Questions.{both, sized-length}
+use Rattle.pool.proofs.FreshPool.{fresh-exact}
 use Rattle.calls.specs.declared.Call.{Call}
 use Rattle.calls.specs.Calls.{callOf}
 use Rattle.script.specs.declared.Line.{Line}
@@ -104,15 +105,17 @@ module _ (w : List ℕ) (used n size : ℕ) (sized : size ≡ sizeOf (length w) 
   part-long : length (take size w) ≡ poolLength registerCount n
   part-long = length-take-le size w (omega (arith, size-exact, size-fitting)) ∙ size-exact
 
-  fresh-part : freshOf (take size w) ≡ (answered (n ∷ []), freshWords registerCount n)
-  fresh-part = simp (part-long, sized-length registerCount n (size-fitting .least) (size-fitting .most), lt-ltb 0 n (size-fitting .least))
+  fresh-part : freshOf (take size w) ≡ (answered (n ∷ []), freshWords registerCount n [])
+  fresh-part =
+      let cells : cellCountOfLength registerCount (length (take size w)) ≡ n = ap (cellCountOfLength registerCount) part-long ∙ sized-length registerCount n (size-fitting .least) (size-fitting .most) in
+      simp (cells, lt-ltb 0 n (size-fitting .least), fresh-exact registerCount n (take size w) part-long)
 
   pub fresh-made :
       (f : Outcome) (part : List ℕ) → (f, part) ≡ freshOf (take size w)
       → length part ≡ length (take size w) → (outcomeText (answered []), size, part ++ drop size w) ≡ executeOf (line.Fresh n) used w
   unfolding executeOf
   fresh-made f part after same =
-      let words : part ≡ freshWords registerCount n = ap (λ (o : Outcome × List ℕ). o .1) (after ∙ fresh-part) in
+      let words : part ≡ freshWords registerCount n [] = ap (λ (o : Outcome × List ℕ). o .1) (after ∙ fresh-part) in
       let long : length part ≡ size = same ∙ part-long ∙ sym size-exact in
       simp (fitting-fits (length w) n size-fitting, ← words, long)
 

@@ -30,7 +30,7 @@ sizeOf room n = cond (fits room n) (poolLength registerCount n) 0
 abbrev pub turnOf : ℕ → Line → List ℕ → List ℕ × List ℕ
 turnOf room line.Bad pool = (replyText reply.Bad, pool)
 turnOf room (line.Fresh n) pool =
-    cond (fits room n) (outcomeText (answered []), freshWords registerCount n) (outcomeText (refused 1), pool)
+    cond (fits room n) (outcomeText (answered []), freshWords registerCount n []) (outcomeText (refused 1), pool)
 turnOf room (line.Run call) pool = (outcomeText (callOf call pool .0), callOf call pool .1)
 
 -- How many words are the pool's: `used`, or none where there are fewer.

@@ -53,14 +53,14 @@ pub record Worked (bytes w out : List ℕ) (p : Progress) (w′ out′ : List �
   pub forward : p .at < length bytes → HasRoom out p → p .at < q .at
 
 -- Nothing is read, there is no pool, and nothing waits.
-abbrev pub start : Progress
-start = record { used = 0; reader = newReader; at = 0; put = 0 }
+abbrev pub initial : Progress
+initial = record { used = 0; reader = newReader; at = 0; put = 0 }
 
 -- At the start, with words for the largest pool, the rest of the script is all of it.
 abbrev pub StartsWhole : Type 0
 StartsWhole =
     (w bytes more : List ℕ) → length w ≡ poolLength registerCount cellLimit
-    → remaining w bytes start more ≡ printed (bytes ++ more)
+    → remaining w bytes initial more ≡ printed (bytes ++ more)
 
 -- Handed on to the next part: it is read from its first byte on, and nothing waits.
 abbrev pub handed : Progress → Progress

@@ -15,7 +15,7 @@ ghost use lib.Dec.{leb, ltb};
 ghost use lib.ListN.{length};
 ghost use Rattle.replies.specs.Replies.{replyText, replyRoom};
 ghost use Rattle.interpreter.specs.Execute.{usedOf, sizeOf, executeOf};
-ghost use Rattle.interpreter.specs.Work.{HasRoom, LineRun, Advanced, Worked, start, handed};
+ghost use Rattle.interpreter.specs.Work.{HasRoom, LineRun, Advanced, Worked, initial, handed};
 
 // What a line leaves beside the words: how many of them are the pool's, and what is printed.
 pub struct Turn {
@@ -106,7 +106,7 @@ pub struct Progress {
 impl Progress {
     // Nothing is read, there is no pool, and nothing waits.
     pub fn start() -> Progress
-        ensures { λ r. ⌜ r ≡ start ⌝ }
+        ensures { λ r. ⌜ r ≡ initial ⌝ }
     {
         Progress {
             used: 0,

@@ -9,7 +9,7 @@ use lib.ListN.{length, drop, length-append, length-drop, drop-of-length-le}
 use lib.Seq.{drop-append-seam, getD-drop}
 use Rattle.leb128.specs.declared.Number.the-variants.{Value}
 use Rattle.leb128.specs.Leb128.{mapValue, readGroups, readAt, groups, encode, Bytes}
-use Rattle.leb128.specs.Leb128.{RoundTrip, FewestGroups, PrefixFree, OneToOne, OneToFiveBytes, ReadsWithin}
+use Rattle.leb128.specs.Leb128.{RoundTrip, FewestGroups, PrefixFree, EncodeInjective, OneToFiveBytes, ReadsWithin}
 use Rattle.leb128.proofs.Encoding.{groups-last, groups-more, one-left, one-group, at-most-more, encode-size}
 use Rattle.leb128.proofs.Decoding.{read-fifth, read-last, read-more, Reads, fifth, last, above, number-reads}
 
@@ -75,7 +75,7 @@ prefix-free v u more fits fits′ e =
     let size = ap (λ x. length (encode x)) same in
     (same, drop-of-length-le more {i = 0} (omega (arith, ap length e, length-append (encode v) more)))
 
-pub one-to-one : OneToOne
+pub one-to-one : EncodeInjective
 one-to-one v u fits fits′ e = prefix-free v u [] fits fits′ (append-nil (encode v) ∙ e) .0
 
 -- The groups of a number that is not too large are bytes.

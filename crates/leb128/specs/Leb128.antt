@@ -71,8 +71,8 @@ abbrev pub PrefixFree : Type 0
 PrefixFree = (v u : ℕ) (more : List ℕ) → v < 2 ^ 32 → u < 2 ^ 32 → encode v ++ more ≡ encode u → (v ≡ u) × (more ≡ [])
 
 -- Two numbers with one encoding are equal.
-abbrev pub OneToOne : Type 0
-OneToOne = (v u : ℕ) → v < 2 ^ 32 → u < 2 ^ 32 → encode v ≡ encode u → v ≡ u
+abbrev pub EncodeInjective : Type 0
+EncodeInjective = (v u : ℕ) → v < 2 ^ 32 → u < 2 ^ 32 → encode v ≡ encode u → v ≡ u
 
 -- An encoding is one to five bytes.
 pub record Encoding (v : ℕ) : Type 0 where
@@ -84,10 +84,10 @@ abbrev pub OneToFiveBytes : Type 0
 OneToFiveBytes = (v : ℕ) → v < 2 ^ 32 → Encoding v
 
 -- "A reader takes up to five groups": what it reads as a number stands within the bytes, and is "below 2^32".
-pub record Within (bytes : List ℕ) (at v next : ℕ) : Type 0 where
+pub record ReadInside (bytes : List ℕ) (at v next : ℕ) : Type 0 where
   pub most : next ≤ at + 5
   pub inside : next ≤ length bytes
   pub value : v < 2 ^ 32
 
 abbrev pub ReadsWithin : Type 0
-ReadsWithin = (bytes : List ℕ) (at v next : ℕ) → Bytes bytes → readAt bytes at ≡ Value v next → Within bytes at v next
+ReadsWithin = (bytes : List ℕ) (at v next : ℕ) → Bytes bytes → readAt bytes at ≡ Value v next → ReadInside bytes at v next

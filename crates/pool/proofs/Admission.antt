@@ -13,27 +13,27 @@ use Rattle.answers.specs.declared.Refusal.the-variants as refusal
 use Rattle.pool.specs.declared.Named.{Named}
 use Rattle.pool.specs.declared.Admitted.{Admitted}
 use Rattle.pool.specs.declared.Admitted.the-variants as admitted
-use Rattle.pool.specs.Layout.{registerCount, cellsOf}
+use Rattle.pool.specs.Layout.{registerCount, cellCount}
 use Rattle.pool.specs.Calls.{sizedOf, areRegisters, askedNext, admitOf, admittedTo}
 use Rattle.pool.proofs.Questions.{both, Sized, cells-sized}
 
 -- words that are a pool, and that are none
 module _ (w : List ℕ) where
-  pub sized-some : 0 < cellsOf registerCount w → sizedOf w ≡ admitted.Cells (cellsOf registerCount w)
-  sized-some some = simp (lt-ltb 0 (cellsOf registerCount w) some)
+  pub sized-some : 0 < cellCount registerCount w → sizedOf w ≡ admitted.Cells (cellCount registerCount w)
+  sized-some some = simp (lt-ltb 0 (cellCount registerCount w) some)
 
-  pub sized-none : cellsOf registerCount w ≡ 0 → sizedOf w ≡ admitted.Refused refusal.Size
+  pub sized-none : cellCount registerCount w ≡ 0 → sizedOf w ≡ admitted.Refused refusal.Size
   sized-none none = rw none
 
   -- admitted by the first question
-  pub sized-cells : {n : ℕ} → sizedOf w ≡ admitted.Cells n → Sized registerCount (length w) n × (cellsOf registerCount w ≡ n)
-  sized-cells {n} told = go (ltb 0 (cellsOf registerCount w)) refl told
+  pub sized-cells : {n : ℕ} → sizedOf w ≡ admitted.Cells n → Sized registerCount (length w) n × (cellCount registerCount w ≡ n)
+  sized-cells {n} told = go (ltb 0 (cellCount registerCount w)) refl told
     where
-      go : (t : Bool) → ltb 0 (cellsOf registerCount w) ≡ t → cond t (admitted.Cells (cellsOf registerCount w)) (admitted.Refused refusal.Size) ≡ admitted.Cells n
-          → Sized registerCount (length w) n × (cellsOf registerCount w ≡ n)
+      go : (t : Bool) → ltb 0 (cellCount registerCount w) ≡ t → cond t (admitted.Cells (cellCount registerCount w)) (admitted.Refused refusal.Size) ≡ admitted.Cells n
+          → Sized registerCount (length w) n × (cellCount registerCount w ≡ n)
       go true some e =
-          let same : cellsOf registerCount w ≡ n = cc in
-          (rw same at (cells-sized registerCount w (ltb-true 0 (cellsOf registerCount w) some) .0), same)
+          let same : cellCount registerCount w ≡ n = cc in
+          (rw same at (cells-sized registerCount w (ltb-true 0 (cellCount registerCount w) some) .0), same)
       go false some e = let z : _≡_ {A = ℕ} 0 1 = cc in absurd (omega arith)
 
 -- registers that there are

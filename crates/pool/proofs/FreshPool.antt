@@ -1,20 +1,21 @@
 -- Fresh words: what `Pool::fresh` leaves, and that they are well-formed with every cell on the free list.
-use Prim.Native.Nat.{ℕ, zero, suc, _+_, _*_, _-_, _<_}
+use Prim.Native.Nat.{ℕ, zero, suc, _+_, _*_, _<_, _≤_}
 use native.Mathlib.Omega.{arith}
-use mathlib.Core.Path.{_≡_, refl, sym, ap, fun-ext, _∙_}
-use mathlib.Core.List.{List, [], _∷_}
+use mathlib.Core.Path.{_≡_, refl, sym, ap, _∙_}
+use mathlib.Core.List.{List, [], _∷_, _++_, append-nil}
 use mathlib.Core.Bool.{false, false≢true}
-use lib.ListN.{length, getD, set, replicate, length-replicate}
+use lib.ListN.{length, getD, set, drop, replicate, length-replicate, length-append, length-drop, length-set, drop-of-length-le, List·getD-append}
+use lib.Seq.{getD-set-other}
 use borrow.Author.Tests.{lt-ltb}
 use Rattle.pool.specs.Words.{tabulate}
-use Rattle.pool.specs.Layout.{registerCount, poolLength, cellsOfLength, cellAt, cell, register, count}
-use Rattle.pool.specs.Retain.{freeCells, marked, sweepOf, freshWords}
+use Rattle.pool.specs.Layout.{registerCount, firstRegister, poolLength, cellCountOfLength, cellAt, cell, register, count, setCount}
+use Rattle.pool.specs.Retain.{freeCells, isMarked, sweepOf, blankWords, freshWords}
 use Rattle.answers.specs.Outcome.{Outcome, answered}
 use Rattle.pool.specs.Calls.{freshOf}
 use Rattle.pool.specs.FreshPool.{FreshIsWellFormed, FreshIsFree}
 use Rattle.pool.proofs.Questions.{length-sized, sized-length, same-count}
 use Rattle.pool.proofs.Every.{tabulate-list, tabulate-cong}
-use Rattle.pool.proofs.Retained.{length-retain, retain-count}
+use Rattle.pool.proofs.Retained.{length-retain, retain-count, retain-cong}
 use Rattle.pool.proofs.WellFormed.{well-formed-made}
 use Rattle.pool.proofs.RetainedPool.{Kept, retained-free-list, retained-well-formed}
 
@@ -23,26 +24,61 @@ zeros zero k = refl
 zeros (suc m) zero = refl
 zeros (suc m) (suc k) = zeros m k
 
--- no cell of cleared words is marked
-unmarked : (R n m i : ℕ) → marked R (n ∷ replicate m 0) i ≡ false
-unfolding cell
-unmarked R n m i =
-    let place : cellAt R i 0 ≡ suc (1 + R + 4 * (i - 1)) = omega arith in
-    rw (place, zeros m (1 + R + 4 * (i - 1)))
+-- what fresh words are made of, where the lent words are as long as n cells need: n, and 0 everywhere else
+module _ (R n : ℕ) (w : List ℕ) (room : poolLength R n ≤ length w) where
+  pub blank-length : length (blankWords R n w) ≡ length w
+  unfolding setCount
+  blank-length =
+      length-set (replicate (poolLength R n) 0 ++ drop (poolLength R n) w) 0 n
+      ∙ simp (length-append, length-replicate, length-drop (poolLength R n) w) (omega arith)
+
+  blank-count : count (blankWords R n w) ≡ n
+  unfolding count setCount
+  blank-count = let place : poolLength R n ≡ suc (1 + R + 4 * n) = omega arith in rw place refl
+
+  blank-zero : (k : ℕ) → 0 < k → k < poolLength R n → getD (blankWords R n w) k 0 ≡ 0
+  unfolding setCount
+  blank-zero k low high =
+      getD-set-other (replicate (poolLength R n) 0 ++ drop (poolLength R n) w) 0 k n 0 (λ e. omega arith)
+      ∙ (List·getD-append (replicate (poolLength R n) 0) (drop (poolLength R n) w) 0 k (simp length-replicate (omega arith))
+      ∙ zeros (poolLength R n) k)
+
+  blank-register : (k : ℕ) → k < R → register (blankWords R n w) k ≡ 0
+  unfolding register
+  blank-register k low = blank-zero (firstRegister + k) (omega arith) (omega arith)
+
+  blank-unmarked : (i : ℕ) → 0 < i → i ≤ n → isMarked R (blankWords R n w) i ≡ false
+  unfolding cell
+  blank-unmarked i low high = rw (blank-zero (cellAt R i 0) (omega arith) (omega arith)) refl
+
+  -- the sweep makes the chain of them
+  swept-blank : sweepOf R n (blankWords R n w) .1 ≡ freshWords R n w
+  swept-blank =
+      retain-cong R n (isMarked R (blankWords R n w)) (λ i. false) (blankWords R n w) (blankWords R n w) refl blank-unmarked
+      (λ k h e. refl) (λ j f low high hf e. refl)
+
+-- what is lent does not matter where nothing of it stands behind the cells
+pub fresh-exact : (R n : ℕ) (w : List ℕ) → length w ≡ poolLength R n → freshWords R n w ≡ freshWords R n []
+fresh-exact R n w exact =
+    let none : drop (poolLength R n) w ≡ [] = drop-of-length-le w {i = poolLength R n} (omega arith) in
+    let empty : drop {A = ℕ} (poolLength R n) [] ≡ [] = drop-of-length-le [] {i = poolLength R n} (omega arith) in
+    rw (none, empty) refl
 
 -- what `Pool::fresh` leaves where the length is that of n cells: the words are cleared, n goes to word 0, and the sweep makes the chain
-module _ (w : List ℕ) (n : ℕ) (cells : n ≡ cellsOfLength registerCount (length w)) (some : n ≡ 0 → ⊥) where
+module _ (w : List ℕ) (n : ℕ) (cells : n ≡ cellCountOfLength registerCount (length w)) (some : n ≡ 0 → ⊥) where
   pub fresh-length : length w ≡ poolLength registerCount n
   fresh-length = rw cells (length-sized registerCount (length w) (omega (arith, some)) .exact)
 
   pub fresh-made : (cleared swept : List ℕ) (kept : ℕ) → cleared ≡ replicate (length w) 0
       → _≡_ {A = ℕ × List ℕ} (kept, swept) (sweepOf registerCount n (set cleared 0 n))
       → _≡_ {A = Outcome × List ℕ} (answered (n ∷ []), swept) (freshOf w)
+  unfolding setCount
   fresh-made cleared swept kept clear sweep =
-      let long : length w ≡ suc (1 + registerCount + 4 * n) = omega (arith, fresh-length) in
-      let start : set cleared 0 n ≡ n ∷ replicate (1 + registerCount + 4 * n) 0 = rw (clear, long) in
-      let words : swept ≡ freshWords registerCount n =
-      ap (λ (x : ℕ × List ℕ). x .1) sweep ∙ rw (start, fun-ext (unmarked registerCount n (1 + registerCount + 4 * n))) in
+      let behind : drop (poolLength registerCount n) w ≡ [] = drop-of-length-le w {i = poolLength registerCount n} (omega (arith, fresh-length)) in
+      let start : set cleared 0 n ≡ blankWords registerCount n w = rw (clear, fresh-length, behind, append-nil {A = ℕ} (replicate (poolLength registerCount n) 0)) refl in
+      let words : swept ≡ freshWords registerCount n w =
+      ap (λ (x : ℕ × List ℕ). x .1) sweep
+      ∙ (ap (λ (u : List ℕ). sweepOf registerCount n u .1) start ∙ swept-blank registerCount n w (omega (arith, fresh-length))) in
       simp (← cells, lt-ltb 0 n (omega (arith, some)), words)
 
 -- with no cell kept, the free cells are all cells, in order
@@ -59,37 +95,23 @@ all-free k i = tabulate-list k (λ j. i + j) (freeCells (λ j. false) k i) (size
     place (suc k) i zero below = omega arith
     place (suc k) i (suc j) below = place k (suc i) j (omega arith) ∙ omega arith
 
-module _ (n : ℕ) where
-  -- what fresh words are made of: n, and 0 everywhere else
-  abbrev blank : List ℕ
-  blank = n ∷ replicate (1 + registerCount + 4 * n) 0
-
-  blank-length : length blank ≡ poolLength registerCount n
-  blank-length = simp length-replicate (omega arith)
-
-  blank-count : count blank ≡ n
-  unfolding count
-  blank-count = refl
-
-  blank-register : (k : ℕ) → register blank k ≡ 0
-  unfolding register
-  blank-register k = let place : 2 + k ≡ suc (1 + k) = omega arith in rw place (zeros (1 + registerCount + 4 * n) (1 + k))
-
 pub fresh-is-free : FreshIsFree
-fresh-is-free n some =
-    retained-free-list registerCount n (λ i. false) (blank n) some (omega (arith, blank-length n))
+fresh-is-free n w some room =
+    retained-free-list registerCount n (λ i. false) (blankWords registerCount n w) some (omega (arith, blank-length registerCount n w room))
     ∙ (all-free n 1 ∙ tabulate-cong n (λ j. 1 + j) suc (λ k below. omega arith))
 
 pub fresh-is-well-formed : FreshIsWellFormed
-fresh-is-well-formed n some most = (
-  (
-      let long : length (freshWords registerCount n) ≡ poolLength registerCount n =
-      length-retain registerCount n (λ i. false) (blank n) ∙ blank-length n in
-      let cells : cellsOfLength registerCount (length (freshWords registerCount n)) ≡ n = rw long (sized-length registerCount n some most) in
-      let first : count (freshWords registerCount n) ≡ n = retain-count registerCount n (λ i. false) (blank n) (omega (arith, blank-length n)) ∙ blank-count n in
-      same-count registerCount (freshWords registerCount n) (first ∙ sym cells) ∙ cells
-      ),
-  well-formed-made registerCount n (freshWords registerCount n)
-      (retained-well-formed registerCount n (λ i. false) (blank n) (omega (arith, blank-length n)) (λ k low. Kept.nil (blank-register n k))
-      λ i low high e. absurd (false≢true e)),
-)
+fresh-is-well-formed n w some most exact =
+    let room : poolLength registerCount n ≤ length w = omega arith in
+    let long = blank-length registerCount n w room in
+    let same : length (freshWords registerCount n w) ≡ poolLength registerCount n =
+    length-retain registerCount n (λ i. false) (blankWords registerCount n w) ∙ (long ∙ exact) in
+    let cells : cellCountOfLength registerCount (length (freshWords registerCount n w)) ≡ n = rw same (sized-length registerCount n some most) in
+    let first : count (freshWords registerCount n w) ≡ n =
+    retain-count registerCount n (λ i. false) (blankWords registerCount n w) (omega (arith, long)) ∙ blank-count registerCount n w room in (
+      same-count registerCount (freshWords registerCount n w) (first ∙ sym cells) ∙ cells,
+      well-formed-made registerCount n (freshWords registerCount n w)
+          (retained-well-formed registerCount n (λ i. false) (blankWords registerCount n w) (omega (arith, long))
+          (λ k low. Kept.nil (blank-register registerCount n w room k low))
+          λ i low high e. absurd (false≢true e)),
+    )

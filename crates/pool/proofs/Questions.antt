@@ -7,7 +7,7 @@ use native.Mathlib.Omega.{arith}
 use lib.ListN.{length}
 use lib.Dec.{leb, eqb}
 use borrow.Author.Tests.{le-leb, eq-eqb, ne-eqb, leb-true, eqb-true}
-use Rattle.pool.specs.Layout.{cellLimit, cellsOfLength, cellsOf, poolLength, count}
+use Rattle.pool.specs.Layout.{cellLimit, cellCountOfLength, cellCount, poolLength, count}
 
 -- both parts of a test that holds
 pub both : (a b : Bool) → (a && b) ≡ true → (a ≡ true) × (b ≡ true)
@@ -24,8 +24,8 @@ pub record Sized (R len n : ℕ) : Type 0 where
   pub least : 1 ≤ n
   pub most : n ≤ cellLimit
 
-pub length-sized : (R len : ℕ) → 0 < cellsOfLength R len → Sized R len (cellsOfLength R len)
-unfolding cellsOfLength
+pub length-sized : (R len : ℕ) → 0 < cellCountOfLength R len → Sized R len (cellCountOfLength R len)
+unfolding cellCountOfLength
 length-sized R len = go (leb (poolLength R 1) len && leb len (poolLength R cellLimit) && eqb ((len - (2 + R)) % 4) 0) refl
   where
     go : (t : Bool) → (leb (poolLength R 1) len && leb len (poolLength R cellLimit) && eqb ((len - (2 + R)) % 4) 0) ≡ t
@@ -40,8 +40,8 @@ length-sized R len = go (leb (poolLength R 1) len && leb len (poolLength R cellL
     go false e h = absurd (omega arith)
 
 -- and the other way round
-pub sized-length : (R n : ℕ) → 1 ≤ n → n ≤ cellLimit → cellsOfLength R (poolLength R n) ≡ n
-unfolding cellsOfLength
+pub sized-length : (R n : ℕ) → 1 ≤ n → n ≤ cellLimit → cellCountOfLength R (poolLength R n) ≡ n
+unfolding cellCountOfLength
 sized-length R n low high =
     simp (
       le-leb (poolLength R 1) (poolLength R n) (omega arith),
@@ -51,37 +51,37 @@ sized-length R n low high =
 
 -- the number of cells of words by their length and word 0
 module _ (R : ℕ) (w : List ℕ) where
-  pub no-cells : cellsOfLength R (length w) ≡ 0 → cellsOf R w ≡ 0
-  unfolding cellsOf
-  no-cells none = go (eqb (count w) (cellsOfLength R (length w)))
+  pub no-cells : cellCountOfLength R (length w) ≡ 0 → cellCount R w ≡ 0
+  unfolding cellCount
+  no-cells none = go (eqb (count w) (cellCountOfLength R (length w)))
     where
-      go : (t : Bool) → cond t (cellsOfLength R (length w)) 0 ≡ 0
+      go : (t : Bool) → cond t (cellCountOfLength R (length w)) 0 ≡ 0
       go true = none
       go false = refl
 
-  pub same-count : count w ≡ cellsOfLength R (length w) → cellsOf R w ≡ cellsOfLength R (length w)
-  unfolding cellsOf
+  pub same-count : count w ≡ cellCountOfLength R (length w) → cellCount R w ≡ cellCountOfLength R (length w)
+  unfolding cellCount
   same-count e = simp (eq-eqb _ _ e)
 
-  pub other-count : (count w ≡ cellsOfLength R (length w) → ⊥) → cellsOf R w ≡ 0
-  unfolding cellsOf
+  pub other-count : (count w ≡ cellCountOfLength R (length w) → ⊥) → cellCount R w ≡ 0
+  unfolding cellCount
   other-count h = simp (ne-eqb _ _ h)
 
   -- words that are a pool: its length and word 0 are those of its cells
-  pub cells-sized : 0 < cellsOf R w → Sized R (length w) (cellsOf R w) × (count w ≡ cellsOf R w)
-  unfolding cellsOf
-  cells-sized = go (eqb (count w) (cellsOfLength R (length w))) refl
+  pub cells-sized : 0 < cellCount R w → Sized R (length w) (cellCount R w) × (count w ≡ cellCount R w)
+  unfolding cellCount
+  cells-sized = go (eqb (count w) (cellCountOfLength R (length w))) refl
     where
-      go : (t : Bool) → eqb (count w) (cellsOfLength R (length w)) ≡ t → 0 < cond t (cellsOfLength R (length w)) 0
-          → Sized R (length w) (cond t (cellsOfLength R (length w)) 0) × (count w ≡ cond t (cellsOfLength R (length w)) 0)
+      go : (t : Bool) → eqb (count w) (cellCountOfLength R (length w)) ≡ t → 0 < cond t (cellCountOfLength R (length w)) 0
+          → Sized R (length w) (cond t (cellCountOfLength R (length w)) 0) × (count w ≡ cond t (cellCountOfLength R (length w)) 0)
       go true e h = (length-sized R (length w) h, eqb-true _ _ e)
       go false e h = absurd (omega arith)
 
   -- the same of a number of cells that is not 0
-  pub some-cells : (n : ℕ) → n ≡ cellsOf R w → (n ≡ 0 → ⊥) → Sized R (length w) n
+  pub some-cells : (n : ℕ) → n ≡ cellCount R w → (n ≡ 0 → ⊥) → Sized R (length w) n
   some-cells n e some = rw e (cells-sized (omega (arith, some)) .0)
 
 -- words of the same length with the same word 0 are pools of as many cells
-pub cells-same : (R : ℕ) (w w' : List ℕ) → length w ≡ length w' → count w ≡ count w' → cellsOf R w ≡ cellsOf R w'
-unfolding cellsOf
+pub cells-same : (R : ℕ) (w w' : List ℕ) → length w ≡ length w' → count w ≡ count w' → cellCount R w ≡ cellCount R w'
+unfolding cellCount
 cells-same R w w' len first = rw (len, first)

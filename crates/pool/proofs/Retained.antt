@@ -11,7 +11,7 @@ use lib.Dec.{ltb, leb}
 use borrow.Author.Tests.{lt-ltb, le-ltb, le-leb, lt-leb, eq-eqb, ne-eqb}
 use Rattle.pool.specs.Words.{tabulate}
 use Rattle.pool.specs.Layout.{poolLength, cellAt, cell, setCell, head, setHead, count, register}
-use Rattle.pool.specs.Retain.{lowestFree, freeAbove, keptField, freeField, retainedField, retainedWord, retain, keptCount, freeCell, marked, sweepOf}
+use Rattle.pool.specs.Retain.{lowestFree, freeAbove, keptField, freeField, retainedField, retainedWord, retain, keptCount, freeCell, isMarked, sweepOf}
 use Rattle.pool.proofs.Laws.{cell-same, cell-other, length-setCell, length-setHead}
 use Rattle.pool.proofs.Every.{length-tabulate, getD-tabulate, tabulate-list, tabulate-cong}
 
@@ -233,16 +233,16 @@ kept-most keep (suc n) = go (keep (suc n)) (kept-most keep n)
 -- what the loop of the sweep keeps: the cells above i are done, next is the lowest free one of them, and kept counts the others
 pub record Turn (R n : ℕ) (w₀ w : List ℕ) (i next kept : ℕ) : Type 0 where
   pub few : kept + i ≤ n
-  pub swept : Swept R n (marked R w₀) w₀ w i
-  pub chain : next ≡ freeAbove (marked R w₀) n i
-  pub counted : keptCount (marked R w₀) n ≡ kept + keptCount (marked R w₀) i
+  pub swept : Swept R n (isMarked R w₀) w₀ w i
+  pub chain : next ≡ freeAbove (isMarked R w₀) n i
+  pub counted : keptCount (isMarked R w₀) n ≡ kept + keptCount (isMarked R w₀) i
 
 module _ (R n : ℕ) (w₀ : List ℕ) (room : poolLength R n ≤ length w₀) where
   pub turn-first : Turn R n w₀ w₀ n 0 0
   unfolding lowestFree
   turn-first =
       let none : n - n ≡ 0 = omega arith in
-      record { few = omega arith; swept = swept-none R n (marked R w₀) w₀; chain = rw none; counted = omega arith }
+      record { few = omega arith; swept = swept-none R n (isMarked R w₀) w₀; chain = rw none; counted = omega arith }
 
   module _ (w : List ℕ) (i next kept : ℕ) (some : 0 < i) (t : Turn R n w₀ w i next kept) where
     top : i - 1 < n
@@ -257,31 +257,31 @@ module _ (R n : ℕ) (w₀ : List ℕ) (room : poolLength R n ≤ length w₀) w
 
     pub turn-kept : (s : ℕ) (w' : List ℕ) → s ≡ cell R w i 0 → s ≡ 3 → w' ≡ setCell R w i 0 0 → Turn R n w₀ w' (i - 1) next (kept + 1)
     turn-kept s w' read three write =
-        let keep : marked R w₀ (suc (i - 1)) ≡ true = eq-eqb (cell R w₀ (suc (i - 1)) 0) 3 (state-read s read ∙ three) in
+        let keep : isMarked R w₀ (suc (i - 1)) ≡ true = eq-eqb (cell R w₀ (suc (i - 1)) 0) 3 (state-read s read ∙ three) in
         record {
           few = omega (arith, t .few);
           swept = rw (write ∙ ap (λ (k : ℕ). setCell R w k 0 0) (sym this))
-              (swept-kept R n (marked R w₀) w₀ w (i - 1) top room (rw this (t .swept)) keep);
-          chain = t .chain ∙ sym (free-kept (marked R w₀) n (i - 1) top keep ∙ ap (freeAbove (marked R w₀) n) this);
-          counted = omega (arith, t .counted, kept-more (marked R w₀) i some (rw this at keep));
+              (swept-kept R n (isMarked R w₀) w₀ w (i - 1) top room (rw this (t .swept)) keep);
+          chain = t .chain ∙ sym (free-kept (isMarked R w₀) n (i - 1) top keep ∙ ap (freeAbove (isMarked R w₀) n) this);
+          counted = omega (arith, t .counted, kept-more (isMarked R w₀) i some (rw this at keep));
         }
 
     pub turn-free : (s : ℕ) (w' : List ℕ) → s ≡ cell R w i 0 → (s ≡ 3 → ⊥) → w' ≡ freeCell R w i next → Turn R n w₀ w' (i - 1) i kept
     turn-free s w' read other write =
-        let drop : marked R w₀ (suc (i - 1)) ≡ false = ne-eqb (cell R w₀ (suc (i - 1)) 0) 3 (λ e. other (sym (state-read s read) ∙ e)) in
+        let drop : isMarked R w₀ (suc (i - 1)) ≡ false = ne-eqb (cell R w₀ (suc (i - 1)) 0) 3 (λ e. other (sym (state-read s read) ∙ e)) in
         record {
           few = omega (arith, t .few);
           swept = rw (write ∙ ap (λ (k : ℕ). freeCell R w k next) (sym this))
-              (swept-free R n (marked R w₀) w₀ w (i - 1) top room (rw this (t .swept)) next drop (t .chain ∙ ap (freeAbove (marked R w₀) n) (sym this)));
-          chain = sym (free-here (marked R w₀) n (i - 1) top drop ∙ this);
-          counted = omega (arith, t .counted, kept-same (marked R w₀) i some (rw this at drop));
+              (swept-free R n (isMarked R w₀) w₀ w (i - 1) top room (rw this (t .swept)) next drop (t .chain ∙ ap (freeAbove (isMarked R w₀) n) (sym this)));
+          chain = sym (free-here (isMarked R w₀) n (i - 1) top drop ∙ this);
+          counted = omega (arith, t .counted, kept-same (isMarked R w₀) i some (rw this at drop));
         }
 
   pub turn-last : (w w' : List ℕ) (i next kept : ℕ) → i ≤ 0 → Turn R n w₀ w i next kept → w' ≡ setHead w next
       → _≡_ {A = ℕ × List ℕ} (kept, w') (sweepOf R n w₀)
   unfolding keptCount
   turn-last w w' zero next kept last t write =
-      ap₂ (λ (k : ℕ) (l : List ℕ). (k, l)) (omega (arith, t .counted)) (write ∙ (ap (setHead w) (t .chain) ∙ swept-all R n (marked R w₀) w₀ w room (t .swept)))
+      ap₂ (λ (k : ℕ) (l : List ℕ). (k, l)) (omega (arith, t .counted)) (write ∙ (ap (setHead w) (t .chain) ∙ swept-all R n (isMarked R w₀) w₀ w room (t .swept)))
   turn-last w w' (suc i) next kept last t write = absurd (omega arith)
 
 -- the lowest free cell, and the number of kept ones, are the same where the same cells from 1 to n are kept

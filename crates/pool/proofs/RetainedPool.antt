@@ -7,38 +7,38 @@ use mathlib.Core.Bool.{Bool, true, false}
 use lib.ListN.{length}
 use lib.Dec.{eqb·suc-zero}
 use Rattle.pool.specs.Layout.{poolLength, register, cell, state, left, right}
-use Rattle.pool.specs.Retain.{lowestFree, follow, freeCells, retain}
+use Rattle.pool.specs.Retain.{lowestFree, chainFrom, freeCells, retain}
 use Rattle.pool.specs.FreshPool.{RetainedFreeList}
 use Rattle.pool.proofs.Retained.{retain-head, retain-register, retain-cell}
 use Rattle.pool.proofs.WellFormed.{Link, Cell, WellFormed}
 
 -- the free list of a retained pool, from any cell on
 module _ (R n : ℕ) (keep : ℕ → Bool) (w : List ℕ) (room : poolLength R n ≤ length w) where
-  follow-nil : (fuel : ℕ) → follow R fuel (retain R n keep w) 0 ≡ []
-  unfolding follow
+  follow-nil : (fuel : ℕ) → chainFrom R fuel (retain R n keep w) 0 ≡ []
+  unfolding chainFrom
   follow-nil zero = refl
   follow-nil (suc fuel) = refl
 
   -- a free cell, and behind it what its left link leads to
   follow-cell : (k i fuel : ℕ) → i + suc k ≡ n → keep (suc i) ≡ false
-      → follow R (suc fuel) (retain R n keep w) (suc i) ≡ suc i ∷ follow R fuel (retain R n keep w) (lowestFree keep k (suc (suc i)))
-  unfolding follow
+      → chainFrom R (suc fuel) (retain R n keep w) (suc i) ≡ suc i ∷ chainFrom R fuel (retain R n keep w) (lowestFree keep k (suc (suc i)))
+  unfolding chainFrom
   follow-cell k i fuel last e =
       let rest : n - suc i ≡ k = omega arith in
       let link : left R (retain R n keep w) (suc i) ≡ lowestFree keep k (suc (suc i)) =
       retain-cell R n keep w room (suc i) 1 (omega arith) (omega arith) (omega arith) ∙ rw (e, rest) in
-      rw (eqb·suc-zero i, follow) (ap (λ (x : ℕ). suc i ∷ follow R fuel (retain R n keep w) x) link)
+      rw (eqb·suc-zero i, chainFrom) (ap (λ (x : ℕ). suc i ∷ chainFrom R fuel (retain R n keep w) x) link)
 
   follow-from : (k i fuel : ℕ) → i + k ≡ n → k ≤ fuel
-      → follow R fuel (retain R n keep w) (lowestFree keep k (suc i)) ≡ freeCells keep k (suc i)
+      → chainFrom R fuel (retain R n keep w) (lowestFree keep k (suc i)) ≡ freeCells keep k (suc i)
   unfolding lowestFree freeCells
   follow-from zero i fuel last enough = follow-nil fuel
   follow-from (suc k) i zero last enough = absurd (omega arith)
   follow-from (suc k) i (suc fuel) last enough = go (keep (suc i)) refl (λ f e. follow-from k (suc i) f (omega arith) e)
     where
       go : (t : Bool) → keep (suc i) ≡ t
-          → ((f : ℕ) → k ≤ f → follow R f (retain R n keep w) (lowestFree keep k (suc (suc i))) ≡ freeCells keep k (suc (suc i)))
-          → follow R (suc fuel) (retain R n keep w) (lowestFree keep (suc k) (suc i)) ≡ freeCells keep (suc k) (suc i)
+          → ((f : ℕ) → k ≤ f → chainFrom R f (retain R n keep w) (lowestFree keep k (suc (suc i))) ≡ freeCells keep k (suc (suc i)))
+          → chainFrom R (suc fuel) (retain R n keep w) (lowestFree keep (suc k) (suc i)) ≡ freeCells keep (suc k) (suc i)
       go true e rest = rw (e, lowestFree, freeCells) (rest (suc fuel) (omega arith))
       go false e rest = rw (e, lowestFree, freeCells) (follow-cell k i fuel last e ∙ ap (λ (l : List ℕ). suc i ∷ l) (rest fuel (omega arith)))
 

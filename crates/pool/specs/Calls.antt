@@ -10,14 +10,14 @@ use Rattle.pool.specs.declared.Admitted.the-variants as admitted
 use Rattle.pool.specs.declared.Named.{Named}
 use Rattle.pool.specs.declared.Held.{Held}
 use Rattle.pool.specs.declared.Held.the-variants as held
-use Rattle.pool.specs.Layout.{cellLimit, registerCount, cellsOfLength, cellsOf, register}
+use Rattle.pool.specs.Layout.{cellLimit, registerCount, cellCountOfLength, cellCount, register}
 use Rattle.pool.specs.Validity.{validLink}
 use Rattle.pool.specs.Retain.{freshWords}
 use Rattle.answers.specs.Outcome.{Outcome, answered, refused, refusalNumber}
 
 -- Fresh: "N from the length alone", refusal 1 where there is none; refused, nothing changes.
 abbrev pub freshOf : List ℕ → Outcome × List ℕ
-freshOf w = let n = cellsOfLength registerCount (length w) in cond (ltb 0 n) (answered (n ∷ []), freshWords registerCount n) (refused 1, w)
+freshOf w = let n = cellCountOfLength registerCount (length w) in cond (ltb 0 n) (answered (n ∷ []), freshWords registerCount n w) (refused 1, w)
 
 -- Occupancy (01: gauge): "kept and N give the percent 100 × kept / N, rounded down"; "is N within limits, and for gauge kept at most N? No: 1".
 abbrev pub occupancyOf : ℕ → ℕ → Outcome
@@ -26,7 +26,7 @@ occupancyOf kept n = cond (leb 1 n && leb n cellLimit && leb kept n) (answered (
 -- The first question: "Is the length 18 + 4 × N, N within limits, and (in every call but fresh and load) word 0 that N? .. No: 1." It hands on the number
 -- of cells.
 abbrev pub sizedOf : List ℕ → Admitted
-sizedOf w = cond (ltb 0 (cellsOf registerCount w)) (admitted.Cells (cellsOf registerCount w)) (admitted.Refused refusal.Size)
+sizedOf w = cond (ltb 0 (cellCount registerCount w)) (admitted.Cells (cellCount registerCount w)) (admitted.Refused refusal.Size)
 
 -- The second: "Is every register number below 16? No: 2." A call that names fewer than three registers repeats one.
 abbrev pub areRegisters : Named → Bool

@@ -15,23 +15,33 @@ cellLimit = 4000
 abbrev pub registerCount : ℕ
 registerCount = 16
 
+-- Registers stand from word 2 on, and cells from the word behind them: "from word 18".
+abbrev pub firstRegister : ℕ
+firstRegister = 2
+
+abbrev pub firstCell : ℕ → ℕ
+firstCell R = firstRegister + R
+
 -- "18 + 4 × N long"
 abbrev pub poolLength : ℕ → ℕ → ℕ
-poolLength R n = 2 + R + 4 * n
+poolLength R n = firstCell R + 4 * n
 
 -- N "from the length alone": the number of cells of a pool of that many words, 0 where no pool has that length.
-unfoldable pub cellsOfLength : ℕ → ℕ → ℕ
-cellsOfLength R len =
-    cond (leb (poolLength R 1) len && leb len (poolLength R cellLimit) && eqb ((len - (2 + R)) % 4) 0) ((len - (2 + R)) / 4) 0
+unfoldable pub cellCountOfLength : ℕ → ℕ → ℕ
+cellCountOfLength R len =
+    cond (leb (poolLength R 1) len && leb len (poolLength R cellLimit) && eqb ((len - firstCell R) % 4) 0) ((len - firstCell R) / 4) 0
 
 -- "Word 0 is N."
 unfoldable pub count : List ℕ → ℕ
 count w = getD w 0 0
 
+unfoldable pub setCount : List ℕ → ℕ → List ℕ
+setCount w n = set w 0 n
+
 -- The first question: "Is the length 18 + 4 × N, N within limits, and .. word 0 that N?" The number of cells of the pool, 0 where the words are
 -- no pool.
-unfoldable pub cellsOf : ℕ → List ℕ → ℕ
-cellsOf R w = let n = cellsOfLength R (length w) in cond (eqb (count w) n) n 0
+unfoldable pub cellCount : ℕ → List ℕ → ℕ
+cellCount R w = let n = cellCountOfLength R (length w) in cond (eqb (count w) n) n 0
 
 -- "Word 1 is the head of the free chain, 0 for none."
 unfoldable pub head : List ℕ → ℕ
@@ -40,16 +50,16 @@ head w = getD w 1 0
 unfoldable pub setHead : List ℕ → ℕ → List ℕ
 setHead w v = set w 1 v
 
--- Registers stand from word 2 on.
+-- "Words 2 to 17 are registers 0 to 15": what register k holds, and the words in which it holds v.
 unfoldable pub register : List ℕ → ℕ → ℕ
-register w k = getD w (2 + k) 0
+register w k = getD w (firstRegister + k) 0
 
 unfoldable pub setRegister : List ℕ → ℕ → ℕ → List ℕ
-setRegister w k v = set w (2 + k) v
+setRegister w k v = set w (firstRegister + k) v
 
 -- "Cell i (1 to N) has four words from word 18 + 4 × (i − 1): state, left, right, value." Field 0 is the state, 1 left, 2 right, 3 the value.
 abbrev pub cellAt : ℕ → ℕ → ℕ → ℕ
-cellAt R i f = 2 + R + 4 * (i - 1) + f
+cellAt R i f = firstCell R + 4 * (i - 1) + f
 
 unfoldable pub cell : ℕ → List ℕ → ℕ → ℕ → ℕ
 cell R w i f = getD w (cellAt R i f) 0

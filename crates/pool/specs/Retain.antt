@@ -1,12 +1,12 @@
 -- The pool that keeps some cells and frees all others (01: "the ascending chain"). Fresh keeps none, a collection keeps what is reached, and
 -- a loaded image keeps its own cells.
 use Prim.Native.Nat.{ℕ, zero, suc, _+_, _*_, _-_, _/_, _%_}
-use mathlib.Core.List.{List, [], _∷_}
+use mathlib.Core.List.{List, [], _∷_, _++_}
 use mathlib.Core.Bool.{Bool, true, false, cond, _||_}
-use lib.ListN.{length, getD, replicate}
+use lib.ListN.{length, getD, drop, replicate}
 use lib.Dec.{eqb, leb, ltb}
 use Rattle.pool.specs.Words.{tabulate}
-use Rattle.pool.specs.Layout.{poolLength, cell, setCell, state, left, head}
+use Rattle.pool.specs.Layout.{firstCell, poolLength, setCount, cell, setCell, state, left, head}
 
 -- The lowest of the k cells from i on that is not kept, 0 where all of them are kept.
 unfoldable pub lowestFree : (ℕ → Bool) → ℕ → ℕ → ℕ
@@ -36,8 +36,8 @@ retainedField R n keep w i f = cond (keep i) (keptField R w i f) (freeField keep
 abbrev pub retainedWord : ℕ → ℕ → (ℕ → Bool) → List ℕ → ℕ → ℕ
 retainedWord R n keep w k =
     cond (eqb k 1) (freeAbove keep n 0)
-    (cond (ltb k (2 + R) || leb (poolLength R n) k) (getD w k 0)
-    (retainedField R n keep w (suc ((k - (2 + R)) / 4)) ((k - (2 + R)) % 4)))
+    (cond (ltb k (firstCell R) || leb (poolLength R n) k) (getD w k 0)
+    (retainedField R n keep w (suc ((k - firstCell R) / 4)) ((k - firstCell R) % 4)))
 
 -- The words of a pool of n cells after every cell that `keep` names is kept and every other one is on the ascending chain.
 unfoldable pub retain : ℕ → ℕ → (ℕ → Bool) → List ℕ → List ℕ
@@ -48,25 +48,29 @@ unfoldable pub keptCount : (ℕ → Bool) → ℕ → ℕ
 keptCount keep zero = 0
 keptCount keep (suc n) = cond (keep (suc n)) 1 0 + keptCount keep n
 
--- "All registers become nil, cells 1 to N free."
-abbrev pub freshWords : ℕ → ℕ → List ℕ
-freshWords R n = retain R n (λ i. false) (n ∷ replicate (1 + R + 4 * n) 0)
+-- The lent words w with n in word 0 and 0 in every other word of a pool of n cells.
+abbrev pub blankWords : ℕ → ℕ → List ℕ → List ℕ
+blankWords R n w = setCount (replicate (poolLength R n) 0 ++ drop (poolLength R n) w) n
+
+-- "All registers become nil, cells 1 to N free." Words behind the cells stay as they were lent.
+abbrev pub freshWords : ℕ → ℕ → List ℕ → List ℕ
+freshWords R n w = retain R n (λ i. false) (blankWords R n w)
 
 -- The free list: the cells met from a link on by following left links, at most k of them.
-unfoldable pub follow : ℕ → ℕ → List ℕ → ℕ → List ℕ
-follow R zero w i = []
-follow R (suc k) w i = elim (eqb i 0) [ true ↦ [] | false ↦ i ∷ follow R k w (left R w i) ]
+unfoldable pub chainFrom : ℕ → ℕ → List ℕ → ℕ → List ℕ
+chainFrom R zero w i = []
+chainFrom R (suc k) w i = elim (eqb i 0) [ true ↦ [] | false ↦ i ∷ chainFrom R k w (left R w i) ]
 
 abbrev pub freeList : ℕ → ℕ → List ℕ → List ℕ
-freeList R n w = follow R n w (head w)
+freeList R n w = chainFrom R n w (head w)
 
 -- State 3: a cell that a marker has marked. "The sweep sets state 3 to 0, frees every other cell".
-abbrev pub marked : ℕ → List ℕ → ℕ → Bool
-marked R w i = eqb (state R w i) 3
+abbrev pub isMarked : ℕ → List ℕ → ℕ → Bool
+isMarked R w i = eqb (state R w i) 3
 
 -- What the sweep of a pool of n cells answers and leaves: the number of marked cells, and the pool that keeps just these.
 abbrev pub sweepOf : ℕ → ℕ → List ℕ → ℕ × List ℕ
-sweepOf R n w = (keptCount (marked R w) n, retain R n (marked R w) w)
+sweepOf R n w = (keptCount (isMarked R w) n, retain R n (isMarked R w) w)
 
 -- A cell freed, and linked to the next free one.
 abbrev pub freeCell : ℕ → List ℕ → ℕ → ℕ → List ℕ

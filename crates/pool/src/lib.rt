@@ -7,7 +7,7 @@ use answers::Refusal;
 ghost use mathlib.Core.Path.{_≡_};
 ghost use Prim.Native.Nat.{_+_, _<_, _≤_};
 ghost use lib.ListN.{length, replicate};
-ghost use Rattle.pool.specs.Layout.{registerCount, poolLength, cellsOfLength, cell, setCell, register, setRegister, head, setHead};
+ghost use Rattle.pool.specs.Layout.{registerCount, poolLength, cellCountOfLength, cell, setCell, register, setRegister, head, setHead};
 ghost use Rattle.pool.specs.Validity.{validLink, validCell, registersValid, cellsValid, wellFormed};
 ghost use Rattle.pool.specs.Retain.{sweepOf, freeCell};
 ghost use Rattle.answers.specs.Outcome.{answerOutcome};
@@ -72,7 +72,7 @@ impl Pool {
     pub fn fresh(words: &mut [u32]) -> Answer
         ensures { λ r. ⌜ (answerOutcome r, now (words .exit)) ≡ freshOf (now (words .entry)) ⌝ }
     {
-        let n = cells_of_length(words.len());
+        let n = cell_count_of_length(words.len());
         if n == 0 {
             return Answer::Refused(Refusal::Size);
         }
@@ -84,8 +84,8 @@ impl Pool {
 }
 
 // The number of cells of a pool of that many words, or 0 where no pool has that length.
-pub fn cells_of_length(len: usize) -> u32
-    ensures { λ r. ⌜ r ≡ cellsOfLength registerCount len ⌝ }
+pub fn cell_count_of_length(len: usize) -> u32
+    ensures { λ r. ⌜ r ≡ cellCountOfLength registerCount len ⌝ }
 {
     if len < Pool::FIRST_CELL + Pool::CELL_WORDS {
         return 0;
@@ -103,7 +103,7 @@ pub fn cells_of_length(len: usize) -> u32
 pub fn sized(words: &[u32]) -> Admitted
     ensures { λ q. ⌜ q ≡ sizedOf (now (words .entry)) ⌝ }
 {
-    let n = cells_of_length(words.len());
+    let n = cell_count_of_length(words.len());
     if n == 0 {
         return Admitted::Refused(Refusal::Size);
     }

@@ -7,7 +7,7 @@ use mathlib.Core.Bool.{true, false, true≢false, false≢true}
 use lib.ListN.{length, length-append}
 use Rattle.graph.specs.Graph.{Graph}
 use Rattle.graph.specs.Dfs.{mark, marks, Dfs}
-use Rattle.graph.specs.Marking.{marked}
+use Rattle.graph.specs.Marking.{markedCount}
 use Rattle.graph.proofs.Lists.{each-nil, each-cons}
 use Rattle.graph.proofs.Marks.{Cells, cells-mark, mark-self}
 use Rattle.graph.proofs.Count.{marked-mark, marked-le, counts}
@@ -17,9 +17,9 @@ use Rattle.collector.specs.Reversal.{unmarked, markAll}
 use Rattle.collector.specs.ReversalTheorem.{Agreement}
 use Rattle.collector.proofs.MarkAll.{markAll-append, field-markAll}
 use Rattle.collector.proofs.Agreement.{unmarked-cell, unmarked-false, unmarked-true, agreement-markAll, agreement-dfs, away}
-use Rattle.recursive_marker.specs.Recursive.{Visitable, visited}
+use Rattle.recursive_marker.specs.Recursive.{Markable, visited}
 
-module _ (R n depth p visits : ℕ) (w : List ℕ) (h : Visitable R n depth p visits w) where
+module _ (R n depth p visits : ℕ) (w : List ℕ) (h : Markable R n depth p visits w) where
   abbrev g : Graph
   g = h .graph
 
@@ -41,7 +41,7 @@ module _ (R n depth p visits : ℕ) (w : List ℕ) (h : Visitable R n depth p vi
   visit-none e = go (h .dfs) refl
     where
       go : {t : List ℕ} → Dfs g m p t → h .cells ≡ t → _≡_ {A = ℕ × List ℕ} (visits, w) (visited R n depth p visits w h)
-      go (Dfs.stop marked) same = rw same (ap (λ (v : ℕ). (v, w)) (omega arith))
+      go (Dfs.stop before) same = rw same (ap (λ (v : ℕ). (v, w)) (omega arith))
       go (Dfs.step z dl dr) same = absurd (false≢true (sym e ∙ unmarked-true R n g (h .agree) p z))
 
   module _ (here : unmarked R w p ≡ true) where
@@ -49,7 +49,7 @@ module _ (R n depth p visits : ℕ) (w : List ℕ) (h : Visitable R n depth p vi
     parts = go (h .dfs) refl
       where
         go : {t : List ℕ} → Dfs g m p t → h .cells ≡ t → Parts
-        go (Dfs.stop marked) same = absurd (true≢false (sym here ∙ unmarked-false R n g (h .agree) p (h .bounded) marked))
+        go (Dfs.stop before) same = absurd (true≢false (sym here ∙ unmarked-false R n g (h .agree) p (h .bounded) before))
         go (Dfs.step {t = t} {u = u} z dl dr) same = record { t = t; u = u; all = same; fresh = z; dl = dl; dr = dr }
 
     cell : (0 < p) × (p ≤ n)
@@ -58,7 +58,7 @@ module _ (R n depth p visits : ℕ) (w : List ℕ) (h : Visitable R n depth p vi
     cells : Cells n m
     cells = record { above = λ x e. unmarked-cell R n g (h .agree) x e .0; below = λ x e. unmarked-cell R n g (h .agree) x e .1 }
 
-    one-more : marked n (mark m p) ≡ suc (marked n m)
+    one-more : markedCount n (mark m p) ≡ suc (markedCount n m)
     one-more = marked-mark n m p (cell .0) (cell .1) (parts .fresh)
 
     count : 3 * length (h .cells) ≡ 3 + 3 * length (parts .t) + 3 * length (parts .u)
@@ -78,7 +78,7 @@ module _ (R n depth p visits : ℕ) (w : List ℕ) (h : Visitable R n depth p vi
       link f hf hf′ x e = rw wrote (cell-other R w p 0 3 p f (cell .0) (omega arith) (cell .0) hf′ (omega arith) ∙ e)
 
       -- what the visit of the left link may rely on
-      pub visit-left : Visitable R n (depth - 1) l (visits + 1) w₁
+      pub visit-left : Markable R n (depth - 1) l (visits + 1) w₁
       visit-left =
           let before = h .agree .unmarked p (parts .fresh) in
           let l-is : l ≡ g .left p = read ∙ link 1 (omega arith) (omega arith) (g .left p) (before .left) in
@@ -94,7 +94,7 @@ module _ (R n depth p visits : ℕ) (w : List ℕ) (h : Visitable R n depth p vi
           }
 
       module _ (v : ℕ) (w₂ : List ℕ) (r : ℕ)
-          (made : (a : Visitable R n (depth - 1) l (visits + 1) w₁) → _≡_ {A = ℕ × List ℕ} (v, w₂) (visited R n (depth - 1) l (visits + 1) w₁ a))
+          (made : (a : Markable R n (depth - 1) l (visits + 1) w₁) → _≡_ {A = ℕ × List ℕ} (v, w₂) (visited R n (depth - 1) l (visits + 1) w₁ a))
           (read₂ : r ≡ right R w₂ p) where
         v-is : v ≡ visits + 1 + 3 * length (parts .t)
         unfolding visit-left
@@ -105,7 +105,7 @@ module _ (R n depth p visits : ℕ) (w : List ℕ) (h : Visitable R n depth p vi
         w₂-is = ap (λ (x : ℕ × List ℕ). x .1) (made visit-left)
 
         -- what the visit of the right link may rely on
-        pub visit-right : Visitable R n (depth - 1) r (v + 1) w₂
+        pub visit-right : Markable R n (depth - 1) r (v + 1) w₂
         visit-right =
             let before = h .agree .unmarked p (parts .fresh) in
             let r-is : r ≡ g .right p =
@@ -127,7 +127,7 @@ module _ (R n depth p visits : ℕ) (w : List ℕ) (h : Visitable R n depth p vi
         visit-fits = omega (arith, count, h .fits, v-is)
 
         module _ (v₃ : ℕ) (w₃ : List ℕ)
-            (made₃ : (a : Visitable R n (depth - 1) r (v + 1) w₂) → _≡_ {A = ℕ × List ℕ} (v₃, w₃) (visited R n (depth - 1) r (v + 1) w₂ a)) where
+            (made₃ : (a : Markable R n (depth - 1) r (v + 1) w₂) → _≡_ {A = ℕ × List ℕ} (v₃, w₃) (visited R n (depth - 1) r (v + 1) w₂ a)) where
           v₃-is : v₃ ≡ v + 1 + 3 * length (parts .u)
           unfolding visit-right
           v₃-is = ap (λ (x : ℕ × List ℕ). x .0) (made₃ visit-right)

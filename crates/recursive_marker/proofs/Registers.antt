@@ -1,4 +1,4 @@
--- The loop over the registers: it makes the visits of the depth-first order, in the order of the registers.
+-- The loop over the registers: it makes the visits of the depth-first preorder, in the order of the registers.
 use Prim.Native.Nat.{ℕ, _+_, _*_, _^_, _<_, _≤_}
 use native.Mathlib.Omega.{arith}
 use native.Mathlib.Numerals.{add-one}
@@ -11,7 +11,7 @@ use Rattle.graph.specs.Graph.{Graph}
 use Rattle.graph.specs.Dfs.{marks, Dfs, DfsAll}
 use Rattle.graph.proofs.Depth.{order-dfs}
 use Rattle.graph.proofs.Congruence.{dfs-all-alike}
-use Rattle.graph.proofs.Theorems.{order-length}
+use Rattle.graph.proofs.Theorems.{preorder-length}
 use Rattle.pool.specs.Layout.{poolLength, register, rootsOf, graphOf}
 use Rattle.pool.specs.Validity.{wellFormed}
 use Rattle.pool.proofs.Every.{length-tabulate, getD-tabulate, member-tabulate}
@@ -23,7 +23,7 @@ use Rattle.collector.specs.ReversalTheorem.{Agreement, markedOf}
 use Rattle.collector.proofs.MarkAll.{markAll-append, length-markAll, register-markAll}
 use Rattle.collector.proofs.PoolMarks.{stateMarks, agreement, alike}
 use Rattle.collector.proofs.Agreement.{agreement-dfs}
-use Rattle.recursive_marker.specs.Recursive.{Visitable, visited}
+use Rattle.recursive_marker.specs.Recursive.{Markable, visited}
 
 -- the visits of the first of several links, and those of the others
 record Next (g : Graph) (m : ℕ → ℕ) (p : ℕ) (ps new : List ℕ) : Type 0 where
@@ -92,13 +92,13 @@ module _ (R n : ℕ) (w₀ : List ℕ) where
       few =
           omega (
             arith,
-            order-length n (graphOf R w₀) (rootsOf R w₀) (pool-within (well-formed-read R n w₀ well)),
+            preorder-length n (graphOf R w₀) (rootsOf R w₀) (pool-within (well-formed-read R n w₀ well)),
             simp length-append at (ap length (g .all)),
             simp length-append at (ap length (from .all)),
           )
 
       -- what the visit of a register's link may rely on
-      pub marking-visit : n < 2 ^ 16 → Visitable R n depth p visits w
+      pub marking-visit : n < 2 ^ 16 → Markable R n depth p visits w
       marking-visit limit =
           record {
             graph = graphOf R w₀;
@@ -112,7 +112,7 @@ module _ (R n : ℕ) (w₀ : List ℕ) where
           }
 
       pub marking-next : n < 2 ^ 16 → (visits' : ℕ) (w' : List ℕ)
-          → ((h : Visitable R n depth p visits w) → _≡_ {A = ℕ × List ℕ} (visits', w') (visited R n depth p visits w h)) → Marking w' visits' (k + 1)
+          → ((h : Markable R n depth p visits w) → _≡_ {A = ℕ × List ℕ} (visits', w') (visited R n depth p visits w h)) → Marking w' visits' (k + 1)
       unfolding marking-visit
       marking-next limit visits' w' made =
           let words' : w' ≡ markAll R w (from .t) = ap (λ (x : ℕ × List ℕ). x .1) (made (marking-visit limit)) in

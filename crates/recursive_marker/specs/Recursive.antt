@@ -6,7 +6,7 @@ use lib.ListN.{length}
 use lib.Dec.{leb}
 use Rattle.graph.specs.Graph.{Graph}
 use Rattle.graph.specs.Dfs.{Dfs}
-use Rattle.graph.specs.Marking.{marked}
+use Rattle.graph.specs.Marking.{markedCount}
 use Rattle.pool.specs.Layout.{registerCount}
 use Rattle.pool.specs.Calls.{sizedOf, admittedTo}
 use Rattle.answers.specs.Outcome.{Outcome, refused}
@@ -24,16 +24,16 @@ recursiveOf w = admittedTo (λ n. cond (leb n recursionLimit) (collectIn n w) (r
 
 -- What a visit of the link p may rely on: the words hold the n cells of a graph, of which some are marked; the visit newly marks `cells`; the
 -- depth left is no less than the number of unmarked cells, so it does not run out; and three visits for each cell still fit.
-pub record Visitable (R n depth p visits : ℕ) (w : List ℕ) : Type 0 where
+pub record Markable (R n depth p visits : ℕ) (w : List ℕ) : Type 0 where
   pub graph : Graph
   pub marks : ℕ → ℕ
   pub cells : List ℕ
   pub agree : Agreement R n graph marks w
   pub dfs : Dfs graph marks p cells
   pub bounded : p ≤ n
-  pub deep : n ≤ depth + marked n marks
+  pub deep : n ≤ depth + markedCount n marks
   pub fits : visits + 3 * length cells < 2 ^ 32
 
 -- What it does: three visits for each cell that it newly marks, and state 3 in each of these; no other word is changed.
-abbrev pub visited : (R n depth p visits : ℕ) (w : List ℕ) → Visitable R n depth p visits w → ℕ × List ℕ
+abbrev pub visited : (R n depth p visits : ℕ) (w : List ℕ) → Markable R n depth p visits w → ℕ × List ℕ
 visited R n depth p visits w h = (visits + 3 * length (h .cells), markAll R w (h .cells))

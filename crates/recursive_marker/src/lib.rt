@@ -13,7 +13,7 @@ ghost use Rattle.pool.specs.Validity.{wellFormed};
 ghost use Rattle.collector.specs.ReversalTheorem.{markedOf};
 ghost use Rattle.answers.specs.Outcome.{answerOutcome};
 ghost use Rattle.collector.specs.Collect.{collectIn};
-ghost use Rattle.recursive_marker.specs.Recursive.{recursionLimit, recursiveOf, Visitable, visited};
+ghost use Rattle.recursive_marker.specs.Recursive.{recursionLimit, recursiveOf, Markable, visited};
 
 // The most cells of a pool that is marked so. In a chain of so many the visit of the first cell has depth 64, that of the last depth 1, and the
 // visits of its links, which are nil, depth 0.
@@ -22,8 +22,8 @@ const DEPTH: u32 = 64;
 // Marks the link's cell, if it is unmarked, and what its links lead to, with so much depth left. (000 tests a link before the call, this in the
 // call.) Gives the visits made so far: one of the cell itself, one after its left link and one after its right link.
 fn visit(words: &mut [u32], n: u32, depth: u32, p: u32, visits: u32) -> u32
-    requires { ⌜ Visitable registerCount n depth p visits (now words) ⌝ }
-    ensures { λ r. ⌜ ((h : Visitable registerCount n depth p visits (now (words .entry))) → _≡_ {A = ℕ × List ℕ} (r, now (words .exit)) (visited registerCount n depth p visits (now (words .entry)) h)) ⌝ }
+    requires { ⌜ Markable registerCount n depth p visits (now words) ⌝ }
+    ensures { λ r. ⌜ ((h : Markable registerCount n depth p visits (now (words .entry))) → _≡_ {A = ℕ × List ℕ} (r, now (words .exit)) (visited registerCount n depth p visits (now (words .entry)) h)) ⌝ }
 {
     if collector::is_unmarked(words, p) {
         pool::write_cell(words, p, Pool::STATE, Pool::MARKED);

@@ -11,7 +11,7 @@ use borrow.Author.Tests.{ne-eqb}
 use Rattle.graph.specs.Theorems.{Distinct}
 use Rattle.graph.proofs.Lists.{Each, each-nil, each-cons}
 use Rattle.pool.specs.Layout.{registerCount, poolLength, head, state, left}
-use Rattle.pool.specs.Retain.{lowestFree, freeCells, follow, freeList, retain}
+use Rattle.pool.specs.Retain.{lowestFree, freeCells, chainFrom, freeList, retain}
 use Rattle.pool.proofs.Retained.{retain-head, retain-cell}
 use Rattle.pool.proofs.RetainedPool.{retained-used, retained-free}
 use Rattle.reference.specs.Equivalence.{ExactFreeList}
@@ -68,13 +68,13 @@ module _ {N : ℕ} {w : List ℕ} where
       link {l = l} low high (here .0) (rw (here .1) behind)
 
   -- Following left links finds the chain.
-  chain-follow : (k : ℕ) {i : ℕ} {l : List ℕ} → Chain N w i l → length l ≤ k → follow registerCount k w i ≡ l
-  unfolding follow
+  chain-follow : (k : ℕ) {i : ℕ} {l : List ℕ} → Chain N w i l → length l ≤ k → chainFrom registerCount k w i ≡ l
+  unfolding chainFrom
   chain-follow zero none enough = refl
   chain-follow (suc k) none enough = refl
   chain-follow zero (link low high free rest) enough = absurd (omega arith)
   chain-follow (suc k) (link {i = i} low high free rest) enough =
-      rw (ne-eqb i 0 (omega arith), follow) (ap (λ (t : List ℕ). i ∷ t) (chain-follow k rest (omega arith)))
+      rw (ne-eqb i 0 (omega arith), chainFrom) (ap (λ (t : List ℕ). i ∷ t) (chain-follow k rest (omega arith)))
 
   pub exact-free-list : Free N w → ExactFreeList N w
   exact-free-list f =

@@ -7,7 +7,7 @@ use mathlib.Core.Bool.{Bool, true, false, false≢true, cond, _&&_}
 use lib.ListN.{length, getD}
 use lib.Seq.{ext-getD}
 use lib.Dec.{eqb, leb, ltb}
-use Rattle.pool.specs.Layout.{registerCount, cellsOf, register, setRegister, cell, setCell, value, head}
+use Rattle.pool.specs.Layout.{registerCount, cellCount, register, setRegister, cell, setCell, value, head}
 use Rattle.pool.specs.Validity.{validLink, wellFormed}
 use Rattle.pool.specs.Calls.{areRegisters, askedNext, admittedTo, holdsLink}
 use Rattle.answers.specs.Outcome.{Outcome, answered, allocated, refused, status, given}
@@ -20,8 +20,8 @@ use Rattle.calls.specs.declared.Call.the-variants as call
 use Rattle.calls.specs.Calls.{registersOf, bodyOf, withCell, followIn, linkIn, callOf, allocates}
 use Rattle.batch.specs.Run.{answersOf, answerWords}
 use Rattle.reference.specs.Model.{Model, held, live, onCell, modelBody, modelOf}
-use Rattle.reference.specs.Equivalence.{compared, poolAnswers, modelAnswers}
-use Rattle.reference.specs.RunEquivalence.{comparedWords}
+use Rattle.reference.specs.Equivalence.{observed, poolAnswers, modelAnswers}
+use Rattle.reference.specs.RunEquivalence.{observedWords}
 
 -- the numbers that an accepted call gives, an allocation's visits left out
 abbrev pub numbersOf : Call → ℕ
@@ -69,11 +69,11 @@ gives-cond P false p q a b = b
 
 -- an answer behind the first two questions
 gives-called : (P : Outcome → Type 0) (c : Call) (w : List ℕ) → P (refused 1) → P (refused 2) → ((n : ℕ) → P (bodyOf c n w .0)) → P (callOf c w .0)
-gives-called P c w one two accepted = go (ltb 0 (cellsOf registerCount w)) (areRegisters (registersOf c))
+gives-called P c w one two accepted = go (ltb 0 (cellCount registerCount w)) (areRegisters (registersOf c))
   where
     go : (s t : Bool)
-        → P (admittedTo (λ n. bodyOf c n w) (λ k. (refused k, w)) (askedNext t (cond s (admitted.Cells (cellsOf registerCount w)) (admitted.Refused refusal.Size))) .0)
-    go true true = accepted (cellsOf registerCount w)
+        → P (admittedTo (λ n. bodyOf c n w) (λ k. (refused k, w)) (askedNext t (cond s (admitted.Cells (cellCount registerCount w)) (admitted.Refused refusal.Size))) .0)
+    go true true = accepted (cellCount registerCount w)
     go true false = two
     go false t = one
 
@@ -144,12 +144,12 @@ module _ (m : Model) where
 
 -- what is compared of an outcome gives as many numbers, and its words are those that are compared
 module _ (new : Bool) (n : ℕ) where
-  compared-gives : (o : Outcome) → Gives Positive new n o → Gives Positive false n (compared o)
+  compared-gives : (o : Outcome) → Gives Positive new n o → Gives Positive false n (observed o)
   compared-gives (answered xs) g = (g .0, refl)
   compared-gives (allocated visits) g = (sym (g .1), refl)
   compared-gives (refused k) g = g
 
-  compared-first : (o : Outcome) → Gives Positive new n o → cond new 0 (given o 0 0) ≡ given (compared o) 0 0
+  compared-first : (o : Outcome) → Gives Positive new n o → cond new 0 (given o 0 0) ≡ given (observed o) 0 0
   compared-first (answered xs) g = rw (g .1)
   compared-first (allocated visits) g = rw (g .0)
   compared-first (refused k) g = go new
@@ -158,18 +158,18 @@ module _ (new : Bool) (n : ℕ) where
       go true = refl
       go false = refl
 
-compared-status : (o : Outcome) → status o ≡ status (compared o)
+compared-status : (o : Outcome) → status o ≡ status (observed o)
 compared-status (answered xs) = refl
 compared-status (allocated visits) = refl
 compared-status (refused k) = refl
 
-compared-second : (o : Outcome) → given o 1 0 ≡ given (compared o) 1 0
+compared-second : (o : Outcome) → given o 1 0 ≡ given (observed o) 1 0
 compared-second (answered xs) = refl
 compared-second (allocated visits) = refl
 compared-second (refused k) = refl
 
 -- an answer of the model is compared as it is
-pub compared-plain : (n : ℕ) (o : Outcome) → Gives Mild false n o → compared o ≡ o
+pub compared-plain : (n : ℕ) (o : Outcome) → Gives Mild false n o → observed o ≡ o
 compared-plain n (answered xs) g = refl
 compared-plain n (allocated visits) g = absurd (false≢true (g .0))
 compared-plain n (refused k) g = refl
@@ -202,8 +202,8 @@ words-length [] w = refl
 words-length (c ∷ cs) w = omega (arith, words-length cs (callOf c w .1))
 
 -- the words of the answers of a run, as they are compared, are those of the pool's answers, whatever stands behind them
-pub compared-words : (cs : List Call) (w back : List ℕ) → comparedWords cs (answerWords (answersOf cs w) ++ back) ≡ answerWords (poolAnswers cs w)
-unfolding comparedWords answersOf answerWords poolAnswers
+pub compared-words : (cs : List Call) (w back : List ℕ) → observedWords cs (answerWords (answersOf cs w) ++ back) ≡ answerWords (poolAnswers cs w)
+unfolding observedWords answersOf answerWords poolAnswers
 compared-words [] w back = refl
 compared-words (c ∷ cs) w back =
     let o = callOf c w .0 in
@@ -220,7 +220,7 @@ pub answers-by-words : (L : ℕ) (cs : List Call) (w : List ℕ) (m : Model)
 unfolding answerWords poolAnswers modelAnswers
 answers-by-words L [] w m e = refl
 answers-by-words L (c ∷ cs) w m e =
-    let o = compared (callOf c w .0) in
+    let o = observed (callOf c w .0) in
     let p = modelOf L c m .0 in
     let first : status o ≡ status p = cc in
     let second : given o 0 0 ≡ given p 0 0 = cc in

@@ -5,7 +5,7 @@ use native.Mathlib.Decide.{ℕ-discrete}
 use mathlib.Core.Path.{_≡_, sym, _∙_}
 use mathlib.Core.List.{List}
 use lib.ListN.{length}
-use Rattle.pool.specs.Layout.{registerCount, poolLength, cellsOfLength, cellsOf, count, head, register, setRegister, cell, setCell, state, left, right}
+use Rattle.pool.specs.Layout.{registerCount, poolLength, cellCountOfLength, cellCount, count, head, register, setRegister, cell, setCell, state, left, right}
 use Rattle.pool.proofs.Laws.{length-setRegister, count-setRegister, head-setRegister, cell-setRegister, register-same, register-other, length-setCell, count-setCell, head-setCell, register-setCell, cell-same, cell-other}
 use Rattle.pool.proofs.Questions.{Sized, sized-length, same-count}
 use Rattle.pool.proofs.WellFormed.{Link, Cell, WellFormed}
@@ -18,10 +18,10 @@ pub record Invariant (N : ℕ) (w : List ℕ) : Type 0 where
   pub well : WellFormed registerCount N w
   pub free : Free N w
 
-pub inv-cells : {N : ℕ} {w : List ℕ} → Invariant N w → cellsOf registerCount w ≡ N
+pub inv-cells : {N : ℕ} {w : List ℕ} → Invariant N w → cellCount registerCount w ≡ N
 inv-cells {N} {w} inv =
     let size = inv .sized in
-    let cells : cellsOfLength registerCount (length w) ≡ N = rw (size .exact) (sized-length registerCount N (size .least) (size .most)) in
+    let cells : cellCountOfLength registerCount (length w) ≡ N = rw (size .exact) (sized-length registerCount N (size .least) (size .most)) in
     same-count registerCount w (inv .counted ∙ sym cells) ∙ cells
 
 -- The first free cell, where there is one.

@@ -9,17 +9,17 @@ use borrow.Author.Tests.{eq-eqb, ne-eqb, le-leb}
 use Rattle.graph.specs.Theorems.{Distinct}
 use Rattle.graph.proofs.Lists.{each-cons}
 use Rattle.graph.proofs.Marks.{zero-or-above}
-use Rattle.graph.proofs.Theorems.{order-reached, order-distinct}
+use Rattle.graph.proofs.Theorems.{preorder-reached, preorder-distinct}
 use Rattle.pool.specs.Layout.{registerCount, head, register, state, left, graphOf, rootsOf}
 use Rattle.answers.specs.Outcome.{answered, allocated, refused}
 use Rattle.pool.proofs.PoolGraph.{reached-used, pool-within}
 use Rattle.pool.proofs.Retained.{retain-register}
 use Rattle.pool.proofs.WellFormed.{well-formed-made}
-use Rattle.collector.specs.Collect.{isReached, reachedCells, keptCells, collected}
+use Rattle.collector.specs.Collect.{isReached, reachedCells, reachedCount, collected}
 use Rattle.collector.proofs.Collected.{head-nil-full}
 use Rattle.allocator.specs.Allocation.{newIn, goodHead, take}
 use Rattle.reference.specs.Model.{Model, live, append}
-use Rattle.reference.specs.Equivalence.{compared}
+use Rattle.reference.specs.Equivalence.{observed}
 use Rattle.reference.proofs.Pigeonhole.{distinct-length}
 use Rattle.reference.proofs.FreeList.{chain-within}
 use Rattle.reference.proofs.Invariant.{Invariant, inv-first, inv-room}
@@ -31,14 +31,14 @@ use Rattle.reference.proofs.Collecting.{collected-inv, collected-rep}
 
 module _ {N : ℕ} {w : List ℕ} (inv : Invariant N w) where
   -- A free cell is not kept, so fewer than N are.
-  free-fewer : (i : ℕ) → 0 < i → i ≤ N → state registerCount w i ≡ 4 → keptCells registerCount N w < N
+  free-fewer : (i : ℕ) → 0 < i → i ≤ N → state registerCount w i ≡ 4 → reachedCount registerCount N w < N
   free-fewer i low high free =
       let g = graphOf registerCount w in
       let roots = rootsOf registerCount w in
-      let reach = order-reached N g roots (pool-within (inv .well)) in
+      let reach = preorder-reached N g roots (pool-within (inv .well)) in
       distinct-length N
       (Distinct.more (λ (mem : List·Memᴰ i (reachedCells registerCount N w)). omega (arith, reached-used (inv .well) (reach i .0 mem) .state))
-      (order-distinct N g roots (pool-within (inv .well))))
+      (preorder-distinct N g roots (pool-within (inv .well))))
       (each-cons (λ x. (0 < x) × (x ≤ N)) (low, high)
       (λ x mem. let used = reached-used (inv .well) (reach x .0 mem) in (used .positive, used .bounded)))
 
@@ -46,7 +46,7 @@ module _ {N : ℕ} {w : List ℕ} {m : Model} (inv : Invariant N w) (rep : Repre
     (ha : a < registerCount) (hb : b < registerCount) where
   -- The head cell is taken.
   take-step : 0 < head w → (visits : ℕ)
-      → Step N (compared (allocated visits), take w r (register w a) (register w b) v) (answered [], append m r a b v)
+      → Step N (observed (allocated visits), take w r (register w a) (register w b) v) (answered [], append m r a b v)
   take-step some visits =
       record {
         answer = refl;
@@ -57,7 +57,7 @@ module _ {N : ℕ} {w : List ℕ} {m : Model} (inv : Invariant N w) (rep : Repre
 -- What `new` with valid registers does: it is accepted, or refused with 5.
 pub data NewCase (N : ℕ) (w : List ℕ) (m : Model) (r a b v : ℕ) : Type 0 where
   accepted : live m < N
-      → Step N (compared ((newIn N w r a b v) .0), (newIn N w r a b v) .1) (answered [], append m r a b v) → NewCase N w m r a b v
+      → Step N (observed ((newIn N w r a b v) .0), (newIn N w r a b v) .1) (answered [], append m r a b v) → NewCase N w m r a b v
   full : N ≤ live m → newIn N w r a b v ≡ (refused 5, w) → NewCase N w m r a b v
 
 module _ {N : ℕ} {w : List ℕ} {m : Model} (inv : Invariant N w) (rep : Represents w m) (r a b v : ℕ) (hr : r < registerCount)
@@ -105,4 +105,4 @@ module _ {N : ℕ} {w : List ℕ} {m : Model} (inv : Invariant N w) (rep : Repre
                 well-formed-made registerCount N w (inv .well),
                 ne-eqb (head (collected registerCount N w)) 0 (λ e. omega arith),
               )
-              (rw (held a ha, held b hb) at (take-step inv' rep' r a b v hr ha hb low (3 * keptCells registerCount N w))))
+              (rw (held a ha, held b hb) at (take-step inv' rep' r a b v hr ha hb low (3 * reachedCount registerCount N w))))

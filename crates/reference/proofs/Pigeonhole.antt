@@ -5,7 +5,7 @@ use mathlib.Core.Path.{_≡_, refl, subst}
 use mathlib.Core.Logic.{⊎-elim}
 use mathlib.Core.List.{List, List·Memᴰ, List·Memᴰ·head, List·Memᴰ·tail}
 use lib.ListN.{length}
-use Rattle.graph.specs.Marking.{marked}
+use Rattle.graph.specs.Marking.{markedCount}
 use Rattle.graph.specs.Theorems.{Distinct}
 use Rattle.graph.specs.Dfs.{mark, marks}
 use Rattle.graph.proofs.Lists.{Each}
@@ -14,7 +14,7 @@ use Rattle.graph.proofs.Count.{marked-le, marked-mark}
 
 -- Marking the members of such a list one after the other marks one cell more each time.
 marks-count : (n : ℕ) {t : List ℕ} → Distinct t → (m : ℕ → ℕ) → Each (λ x. (0 < x) × (x ≤ n) × (m x ≡ 0)) t
-    → marked n (marks m t) ≡ length t + marked n m
+    → markedCount n (marks m t) ≡ length t + markedCount n m
 unfolding marks
 marks-count n Distinct.none m cells = omega arith
 marks-count n (Distinct.more {x = x} {xs = t} new rest) m cells =

@@ -12,7 +12,7 @@ use Rattle.pool.specs.Layout.{registerCount, register, cell, value, graphOf, ro
 use Rattle.pool.proofs.Every.{length-tabulate, getD-tabulate}
 use Rattle.pool.proofs.WellFormed.{Link}
 use Rattle.pool.proofs.PoolGraph.{Used, reached-used, pool-within}
-use Rattle.collector.specs.Collect.{keptCells}
+use Rattle.collector.specs.Collect.{reachedCount}
 use Rattle.reference.specs.Model.{Model, entry, held, modelGraph, live}
 use Rattle.reference.proofs.Places.{each-place}
 use Rattle.reference.proofs.Invariant.{Invariant}
@@ -121,7 +121,7 @@ module _ {w : List ℕ} {m : Model} (rep : Represents w m) where
         (zero-or-above x)
 
     -- As many cells are live as the pool keeps.
-    pub kept-live : keptCells registerCount N w ≡ live m
+    pub kept-live : reachedCount registerCount N w ≡ live m
     kept-live =
         length-paired N (graphOf registerCount w) (rootsOf registerCount w) (length (m .cells)) (modelGraph m) (m .registers)
         (pool-within (inv .well)) (model-within (rep .bounded))

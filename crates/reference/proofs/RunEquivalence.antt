@@ -13,9 +13,9 @@ use Rattle.reference.proofs.Given.{words-length, compared-words, answer
 use Rattle.reference.proofs.Theorems.{equivalence}
 
 pub run-equivalence : RunEquivalence
-run-equivalence N L list out cs least most program room =
-    let w = freshWords registerCount N in
-    let same = equivalence N L cs least most in
+run-equivalence N L lent list out cs least most exact program room =
+    let w = freshWords registerCount N lent in
+    let same = equivalence N L lent cs least most exact in
     rw (runs-one-after-the-other list cs w out program room)
     (record {
       all = refl;

@@ -18,7 +18,7 @@ use Rattle.pool.proofs.Admission.{Registers, registers-there}
 use Rattle.calls.specs.Calls.{names, registersOf, bodyOf, allocates, callOf}
 use Rattle.reference.specs.Model.{Model, live, modelBody, modelOf}
 use Rattle.batch.specs.Run.{afterAll}
-use Rattle.reference.specs.Equivalence.{compared, poolAnswers, modelAnswers, tells, noneTells}
+use Rattle.reference.specs.Equivalence.{observed, poolAnswers, modelAnswers, distinguishes, noneDistinguishes}
 use Rattle.reference.proofs.Invariant.{Invariant}
 use Rattle.reference.proofs.Fields.{Field}
 use Rattle.reference.proofs.Represents.{Represents}
@@ -29,8 +29,8 @@ use Rattle.reference.proofs.Given.{numbersOf, model-body-gives, compare
 
 -- A call that does not tell the pool from the limit is answered alike, and one that does is not.
 pub data Told (N L : ℕ) (c : Call) (w : List ℕ) (m : Model) : Type 0 where
-  alike : tells N L c m ≡ false → Step N (compared ((callOf c w) .0), (callOf c w) .1) (modelOf L c m) → Told N L c w m
-  apart : tells N L c m ≡ true → (compared ((callOf c w) .0) ≡ (modelOf L c m) .0 → ⊥) → Told N L c w m
+  alike : distinguishes N L c m ≡ false → Step N (observed ((callOf c w) .0), (callOf c w) .1) (modelOf L c m) → Told N L c w m
+  apart : distinguishes N L c m ≡ true → (observed ((callOf c w) .0) ≡ (modelOf L c m) .0 → ⊥) → Told N L c w m
 
 pub done-or-refused : (xs : List ℕ) (k : ℕ) → answered xs ≡ refused k → ⊥
 done-or-refused xs k e = let z : _≡_ {A = ℕ} 0 1 = cc in omega arith
@@ -43,7 +43,7 @@ module _ {N : ℕ} (L : ℕ) {w : List ℕ} {m : Model} (inv : Invariant N w) (r
       asked = called inv (call.New r a b v)
 
       tests : (s t u : Bool) → areRegisters (names r a b) ≡ s → leb (min N L) (live m) ≡ t → ltb (live m) (max N L) ≡ u
-          → tells N L (call.New r a b v) m ≡ (s && t && u)
+          → distinguishes N L (call.New r a b v) m ≡ (s && t && u)
       tests s t u p q k = rw (p, q, k)
 
       ask : areRegisters (names r a b) ≡ true → NewCase N w m r a b v → Dec (live m < L) → Told N L (call.New r a b v) w m
@@ -72,16 +72,16 @@ module _ {N : ℕ} (L : ℕ) {w : List ℕ} {m : Model} (inv : Invariant N w) (r
   alike-told : (c : Call) → allocates c ≡ false → (Registers (registersOf c) → Step N (bodyOf c N w) (modelBody L c m)) → Told N L c w m
   alike-told c quiet next = alike (rw quiet) (rw (called inv c) (go (areRegisters (registersOf c)) refl))
     where
-      plain : Step N (bodyOf c N w) (modelBody L c m) → Step N (compared ((bodyOf c N w) .0), (bodyOf c N w) .1) (modelBody L c m)
+      plain : Step N (bodyOf c N w) (modelBody L c m) → Step N (observed ((bodyOf c N w) .0), (bodyOf c N w) .1) (modelBody L c m)
       plain step =
           record {
-            answer = ap compared (step .answer) ∙ compared-plain (numbersOf c) ((modelBody L c m) .0) (model-body-gives m L c);
+            answer = ap observed (step .answer) ∙ compared-plain (numbersOf c) ((modelBody L c m) .0) (model-body-gives m L c);
             inv = step .inv;
             rep = step .rep;
           }
 
       go : (t : Bool) → areRegisters (registersOf c) ≡ t
-          → Step N (compared ((cond t (bodyOf c N w) (refused 2, w)) .0), (cond t (bodyOf c N w) (refused 2, w)) .1) (cond t (modelBody L c m) (refused 2, m))
+          → Step N (observed ((cond t (bodyOf c N w) (refused 2, w)) .0), (cond t (bodyOf c N w) (refused 2, w)) .1) (cond t (modelBody L c m) (refused 2, m))
       go true e = plain (next (registers-there (registersOf c) e))
       go false e = unchanged inv rep (refused 2)
 
@@ -109,20 +109,20 @@ module _ {o p : Outcome} {os ps : List Outcome} {t : Bool} (s : Bool) where
 
 -- The answers to a list of calls are equal exactly where no call tells.
 pub equivalent : (N L : ℕ) (calls : List Call) {w : List ℕ} {m : Model} → Invariant N w → Represents w m
-    → (poolAnswers calls w ≡ modelAnswers L calls m) ↔ (noneTells N L calls m ≡ true)
-unfolding poolAnswers modelAnswers noneTells
+    → (poolAnswers calls w ≡ modelAnswers L calls m) ↔ (noneDistinguishes N L calls m ≡ true)
+unfolding poolAnswers modelAnswers noneDistinguishes
 equivalent N L [] inv rep = (λ h. refl, λ h. refl)
 equivalent N L (c ∷ cs) {w} {m} inv rep = go (told L inv rep c) (λ inv' rep'. equivalent N L cs inv' rep')
   where
     go : Told N L c w m
         → (Invariant N ((callOf c w) .1) → Represents ((callOf c w) .1) ((modelOf L c m) .1)
-        → (poolAnswers cs ((callOf c w) .1) ≡ modelAnswers L cs ((modelOf L c m) .1)) ↔ (noneTells N L cs ((modelOf L c m) .1) ≡ true))
-        → (poolAnswers (c ∷ cs) w ≡ modelAnswers L (c ∷ cs) m) ↔ (noneTells N L (c ∷ cs) m ≡ true)
-    go (alike e next) rest = more-alike (noneTells N L cs ((modelOf L c m) .1)) e (next .answer) (rest (next .inv) (next .rep))
-    go (apart e differ) rest = more-apart (noneTells N L cs ((modelOf L c m) .1)) e differ
+        → (poolAnswers cs ((callOf c w) .1) ≡ modelAnswers L cs ((modelOf L c m) .1)) ↔ (noneDistinguishes N L cs ((modelOf L c m) .1) ≡ true))
+        → (poolAnswers (c ∷ cs) w ≡ modelAnswers L (c ∷ cs) m) ↔ (noneDistinguishes N L (c ∷ cs) m ≡ true)
+    go (alike e next) rest = more-alike (noneDistinguishes N L cs ((modelOf L c m) .1)) e (next .answer) (rest (next .inv) (next .rep))
+    go (apart e differ) rest = more-apart (noneDistinguishes N L cs ((modelOf L c m) .1)) e differ
 
 -- With L = N no call tells.
-never-told : (N : ℕ) (c : Call) (m : Model) → tells N N c m ≡ true → ⊥
+never-told : (N : ℕ) (c : Call) (m : Model) → distinguishes N N c m ≡ true → ⊥
 never-told N c m e =
     let outer = both (allocates c && areRegisters (registersOf c) && leb (min N N) (live m)) (ltb (live m) (max N N)) e in
     let inner = both (allocates c && areRegisters (registersOf c)) (leb (min N N) (live m)) (outer .0) in
@@ -134,10 +134,10 @@ pub along : (N : ℕ) (calls : List Call) {w : List ℕ} {m : Model} → Invaria
 unfolding poolAnswers modelAnswers afterAll
 along N [] inv rep = (refl, inv)
 along N (c ∷ cs) {w} {m} inv rep =
-    let next : Step N (compared ((callOf c w) .0), (callOf c w) .1) (modelOf N c m) = step (told N inv rep c) in
+    let next : Step N (observed ((callOf c w) .0), (callOf c w) .1) (modelOf N c m) = step (told N inv rep c) in
     let rest = along N cs (next .inv) (next .rep) in
     (ap₂ (λ (o : Outcome) (os : List Outcome). o ∷ os) (next .answer) (rest .0), rest .1)
   where
-    step : Told N N c w m → Step N (compared ((callOf c w) .0), (callOf c w) .1) (modelOf N c m)
+    step : Told N N c w m → Step N (observed ((callOf c w) .0), (callOf c w) .1) (modelOf N c m)
     step (alike e next) = next
     step (apart e differ) = absurd (never-told N c m e)

@@ -20,15 +20,15 @@ use Rattle.reference.proofs.Runs.{done-or-refused, equivalent, along}
 use Rattle.reference.proofs.Given.{Gives, Mild, numbersOf, model-gives}
 
 pub equivalence : Equivalence
-equivalence N L calls low high = equivalent N L calls (fresh-inv N low high) (fresh-rep N low high)
+equivalence N L lent calls low high exact = equivalent N L calls (fresh-inv N lent low high exact) (fresh-rep N lent low high exact)
 
 pub equivalence-at-limit : EquivalenceAtLimit
-equivalence-at-limit N calls low high = along N calls (fresh-inv N low high) (fresh-rep N low high) .0
+equivalence-at-limit N lent calls low high exact = along N calls (fresh-inv N lent low high exact) (fresh-rep N lent low high exact) .0
 
 pub reached-pools : ReachedPools
-reached-pools N calls low high =
-    let inv = along N calls (fresh-inv N low high) (fresh-rep N low high) .1 in
-    (inv-cells inv, well-formed-made registerCount N (afterAll calls (freshWords registerCount N)) (inv .well), exact-free-list (inv .free))
+reached-pools N lent calls low high exact =
+    let inv = along N calls (fresh-inv N lent low high exact) (fresh-rep N lent low high exact) .1 in
+    (inv-cells inv, well-formed-made registerCount N (afterAll calls (freshWords registerCount N lent)) (inv .well), exact-free-list (inv .free))
 
 -- An answer that is neither refusal 1 nor refusal 3.
 abbrev NotMalformed : Outcome → Type 0
@@ -48,4 +48,5 @@ answers-mild L (c ∷ cs) m o mem =
     (answers-mild L cs ((modelOf L c m) .1) o) (List·Memᴰ·cases-cons mem)
 
 pub never-malformed : NeverMalformed
-never-malformed N calls low high o mem = answers-mild N calls empty o (subst (List·Memᴰ o) (equivalence-at-limit N calls low high) mem)
+never-malformed N lent calls low high exact o mem =
+    answers-mild N calls empty o (subst (List·Memᴰ o) (equivalence-at-limit N lent calls low high exact) mem)

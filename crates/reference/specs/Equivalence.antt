@@ -4,9 +4,10 @@ use mathlib.Core.Path.{_≡_}
 use mathlib.Core.Logic.{_↔_}
 use mathlib.Core.List.{List, [], _∷_, List·Memᴰ}
 use mathlib.Core.Bool.{Bool, true, false, _&&_, not}
+use lib.ListN.{length}
 use lib.Dec.{leb, ltb}
 use Rattle.graph.specs.Theorems.{Distinct}
-use Rattle.pool.specs.Layout.{registerCount, cellLimit, cellsOf, state}
+use Rattle.pool.specs.Layout.{registerCount, cellLimit, poolLength, cellCount, state}
 use Rattle.pool.specs.Validity.{wellFormed}
 use Rattle.pool.specs.Calls.{areRegisters}
 use Rattle.pool.specs.Retain.{freshWords, freeList}
@@ -18,15 +19,15 @@ use Rattle.reference.specs.Model.{Model, empty, live, modelOf}
 
 -- What of a call's answer is compared with the reference model: "An answer is done (an accepted "new" too, its visits left out), the number or numbers
 -- given, or the refusal."
-abbrev pub compared : Outcome → Outcome
-compared (answered numbers) = answered numbers
-compared (allocated visits) = answered []
-compared (refused k) = refused k
+abbrev pub observed : Outcome → Outcome
+observed (answered numbers) = answered numbers
+observed (allocated visits) = answered []
+observed (refused k) = refused k
 
 -- "each call gets what the one before it left, refused or not": the answers of the pool, as they are compared.
 unfoldable pub poolAnswers : List Call → List ℕ → List Outcome
 poolAnswers [] w = []
-poolAnswers (c ∷ cs) w = compared ((callOf c w) .0) ∷ poolAnswers cs ((callOf c w) .1)
+poolAnswers (c ∷ cs) w = observed ((callOf c w) .0) ∷ poolAnswers cs ((callOf c w) .1)
 
 -- The answers of the reference model with limit L.
 unfoldable pub modelAnswers : ℕ → List Call → Model → List Outcome
@@ -35,25 +36,26 @@ modelAnswers L (c ∷ cs) m = (modelOf L c m) .0 ∷ modelAnswers L cs ((modelOf
 
 -- Does this call tell a pool of N cells from a limit of L? Demand 3: a "new" with valid registers does, where it finds at least the smaller and
 -- fewer than the larger of N and L live cells.
-abbrev pub tells : ℕ → ℕ → Call → Model → Bool
-tells N L c m = allocates c && areRegisters (registersOf c) && leb (min N L) (live m) && ltb (live m) (max N L)
+abbrev pub distinguishes : ℕ → ℕ → Call → Model → Bool
+distinguishes N L c m = allocates c && areRegisters (registersOf c) && leb (min N L) (live m) && ltb (live m) (max N L)
 
 -- No call of the list tells them apart, in the run of the reference model.
-unfoldable pub noneTells : ℕ → ℕ → List Call → Model → Bool
-noneTells N L [] m = true
-noneTells N L (c ∷ cs) m = not (tells N L c m) && noneTells N L cs ((modelOf L c m) .1)
+unfoldable pub noneDistinguishes : ℕ → ℕ → List Call → Model → Bool
+noneDistinguishes N L [] m = true
+noneDistinguishes N L (c ∷ cs) m = not (distinguishes N L c m) && noneDistinguishes N L cs ((modelOf L c m) .1)
 
 -- Demand 3: the answers of a pool of N cells equal those of the ledger with limit L exactly when no "new" with valid registers finds at least the
 -- smaller and fewer than the larger of N and L live cells. One statement about the whole list, for every N, L and list.
 abbrev pub Equivalence : Type 0
 Equivalence =
-    (N L : ℕ) (calls : List Call) → 1 ≤ N → N ≤ cellLimit
-    → (poolAnswers calls (freshWords registerCount N) ≡ modelAnswers L calls empty) ↔ (noneTells N L calls empty ≡ true)
+    (N L : ℕ) (lent : List ℕ) (calls : List Call) → 1 ≤ N → N ≤ cellLimit → length lent ≡ poolLength registerCount N
+    → (poolAnswers calls (freshWords registerCount N lent) ≡ modelAnswers L calls empty) ↔ (noneDistinguishes N L calls empty ≡ true)
 
 -- With L = N they are always equal.
 abbrev pub EquivalenceAtLimit : Type 0
 EquivalenceAtLimit =
-    (N : ℕ) (calls : List Call) → 1 ≤ N → N ≤ cellLimit → poolAnswers calls (freshWords registerCount N) ≡ modelAnswers N calls empty
+    (N : ℕ) (lent : List ℕ) (calls : List Call) → 1 ≤ N → N ≤ cellLimit → length lent ≡ poolLength registerCount N
+    → poolAnswers calls (freshWords registerCount N lent) ≡ modelAnswers N calls empty
 
 -- The free list has every free cell once, and nothing else.
 pub record ExactFreeList (n : ℕ) (w : List ℕ) : Type 0 where
@@ -64,13 +66,14 @@ pub record ExactFreeList (n : ℕ) (w : List ℕ) : Type 0 where
 -- Every pool that calls lead to from fresh words is a pool of N cells, well-formed, and its free list has every free cell once.
 abbrev pub ReachedPools : Type 0
 ReachedPools =
-    (N : ℕ) (calls : List Call) → 1 ≤ N → N ≤ cellLimit
-    → (cellsOf registerCount (afterAll calls (freshWords registerCount N)) ≡ N)
-    × (wellFormed registerCount N (afterAll calls (freshWords registerCount N)) ≡ true)
-    × ExactFreeList N (afterAll calls (freshWords registerCount N))
+    (N : ℕ) (lent : List ℕ) (calls : List Call) → 1 ≤ N → N ≤ cellLimit → length lent ≡ poolLength registerCount N
+    → (cellCount registerCount (afterAll calls (freshWords registerCount N lent)) ≡ N)
+    × (wellFormed registerCount N (afterAll calls (freshWords registerCount N lent)) ≡ true)
+    × ExactFreeList N (afterAll calls (freshWords registerCount N lent))
 
 -- "Refusals .. 1 and 3 never come": no list of calls on a fresh pool is ever refused with 1 or 3.
 abbrev pub NeverMalformed : Type 0
 NeverMalformed =
-    (N : ℕ) (calls : List Call) → 1 ≤ N → N ≤ cellLimit → (o : Outcome) → List·Memᴰ o (poolAnswers calls (freshWords registerCount N))
+    (N : ℕ) (lent : List ℕ) (calls : List Call) → 1 ≤ N → N ≤ cellLimit → length lent ≡ poolLength registerCount N
+    → (o : Outcome) → List·Memᴰ o (poolAnswers calls (freshWords registerCount N lent))
     → (o ≡ refused 1 → ⊥) × (o ≡ refused 3 → ⊥)

@@ -9,14 +9,14 @@ use Rattle.answers.specs.Outcome.{Outcome, answered, refused}
 use Rattle.calls.specs.declared.Call.{Call}
 use Rattle.calls.specs.declared.Call.the-variants as call
 use Rattle.reference.specs.Model.{empty}
-use Rattle.reference.specs.Equivalence.{poolAnswers, modelAnswers, noneTells}
+use Rattle.reference.specs.Equivalence.{poolAnswers, modelAnswers, noneDistinguishes}
 
 -- The answers of a pool of N cells, those of the reference model with limit L, and whether no call tells them apart.
 abbrev pub Answers : ℕ → ℕ → List Call → List Outcome → List Outcome → Bool → Type 0
 Answers N L calls pool model none =
-    (poolAnswers calls (freshWords registerCount N) ≡ pool)
+    (poolAnswers calls (freshWords registerCount N []) ≡ pool)
     × (modelAnswers L calls empty ≡ model)
-    × (noneTells N L calls empty ≡ none)
+    × (noneDistinguishes N L calls empty ≡ none)
 
 -- The calls of the example of 01's runscript, "f 2 / n 0 0 0 7 / n 1 0 0 8 / n 2 1 1 9 / z 0 / z 1 / n 2 1 1 9 / v 2 / g", behind its f 2.
 abbrev pub afterThird : List Call

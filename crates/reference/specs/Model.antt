@@ -5,7 +5,7 @@ use mathlib.Core.Bool.{cond}
 use lib.ListN.{length, getD, set, replicate}
 use lib.Dec.{eqb, leb}
 use Rattle.graph.specs.Graph.{Graph}
-use Rattle.graph.specs.Order.{order}
+use Rattle.graph.specs.Preorder.{preorder}
 use Rattle.pool.specs.Layout.{registerCount}
 use Rattle.pool.specs.Calls.{areRegisters}
 use Rattle.answers.specs.Outcome.{Outcome, answered, refused}
@@ -50,7 +50,7 @@ modelGraph m = record { left = λ x. (entry m x) .left; right = λ x. (entry m x
 
 -- "Live is the number of cells reached from the registers over left and right."
 abbrev pub live : Model → ℕ
-live m = length (order (length (m .cells)) (modelGraph m) (m .registers))
+live m = length (preorder (length (m .cells)) (modelGraph m) (m .registers))
 
 -- "does a hold a cell? No: 4."
 abbrev pub onCell : Model → ℕ → Outcome × Model → Outcome × Model

@@ -8,7 +8,7 @@ use mathlib.Core.Bool.{Bool, true, false}
 use lib.ListN.{length, take}
 use Rattle.pool.specs.Layout.{cellLimit, registerCount, poolLength}
 use Rattle.interpreter.specs.Execute.{printed}
-use Rattle.interpreter.specs.Work.{remaining, handed, start}
+use Rattle.interpreter.specs.Work.{remaining, handed, initial}
 use Rattle.interpreter.specs.declared.Progress.{Progress}
 
 -- A text stands at the start of the bytes.
@@ -61,7 +61,7 @@ pub record RunSoFar (w : List ℕ) (p : Progress) : Type 0 where
 
 -- It is so at the start, with words for the largest pool, and stays so with each part that is read and run.
 abbrev pub StartsRun : Type 0
-StartsRun = (w : List ℕ) → length w ≡ poolLength registerCount cellLimit → RunSoFar w start
+StartsRun = (w : List ℕ) → length w ≡ poolLength registerCount cellLimit → RunSoFar w initial
 
 abbrev pub ContinuesRun : Type 0
 ContinuesRun = (w : List ℕ) (p : Progress) (w′ buffer : List ℕ) (q : Progress) → RunSoFar w p → Continued w p w′ buffer q → RunSoFar w′ q

@@ -13,7 +13,7 @@ use Rattle.leb128.specs.declared.Written.{Written}
 use Rattle.leb128.specs.declared.Written.the-variants as written
 use Rattle.leb128.proofs.Encoding.{encode-size}
 use Rattle.pool.specs.Words.{tabulate}
-use Rattle.collector.specs.Collect.{reachedCells, keptCells}
+use Rattle.collector.specs.Collect.{reachedCells, reachedCount}
 use Rattle.image.specs.Image.{fieldCount, savedField, encodeAll, imageOf}
 
 pub encode-append : (us vs : List ℕ) → encodeAll (us ++ vs) ≡ encodeAll us ++ encodeAll vs
@@ -139,7 +139,7 @@ module _ (k : ℕ) (f : ℕ → ℕ) where
       }
 
 -- The image of the pool is that of its number of cells and all its numbers.
-pub image-start : (R n : ℕ) (w : List ℕ) (k : ℕ) → k ≡ keptCells R n w
+pub image-start : (R n : ℕ) (w : List ℕ) (k : ℕ) → k ≡ reachedCount R n w
     → imageOf R n w ≡ start k (savedField R w (reachedCells R n w)) (fieldCount R k)
 image-start R n w k e = ap (λ (x : ℕ). start x (savedField R w (reachedCells R n w)) (fieldCount R x)) (sym e)
 
@@ -162,7 +162,7 @@ module _ (out last : List ℕ) (at v : ℕ) (r : Written) (room : at + length (e
       let z : _≡_ {A = ℕ} 0 1 = cc in omega arith
 
 -- The whole size, and the whole output.
-module _ (R n : ℕ) (w : List ℕ) (k : ℕ) (kept : k ≡ keptCells R n w) where
+module _ (R n : ℕ) (w : List ℕ) (k : ℕ) (kept : k ≡ reachedCount R n w) where
   pub sizing-last : (size j : ℕ) → Sizing k (savedField R w (reachedCells R n w)) size j → j ≡ fieldCount R k → size ≡ length (imageOf R n w)
   sizing-last size j s all = rw (image-start R n w k kept) (rw all at (s .sum))
 

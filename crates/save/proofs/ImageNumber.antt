@@ -7,11 +7,11 @@ use mathlib.Core.List.{List, List·Memᴰ}
 use lib.ListN.{length, getD}
 use borrow.Author.Tests.{eq-eqb, ne-eqb}
 use Rattle.graph.proofs.Lists.{getD-member}
-use Rattle.graph.proofs.Theorems.{order-reached, order-length}
+use Rattle.graph.proofs.Theorems.{preorder-reached, preorder-length}
 use Rattle.pool.specs.Layout.{register, cell, graphOf, rootsOf}
 use Rattle.pool.proofs.WellFormed.{Link, WellFormed, well-formed-read}
 use Rattle.pool.proofs.PoolGraph.{Used, link-bound, used-links, reached-used, pool-within}
-use Rattle.collector.specs.Collect.{reachedCells, keptCells}
+use Rattle.collector.specs.Collect.{reachedCells, reachedCount}
 use Rattle.image.specs.Image.{numberIn, savedField}
 use Rattle.save.specs.Steps.{Savable, numberAt, Ordered}
 use Rattle.save.proofs.Numbering.{place-none}
@@ -23,10 +23,10 @@ module _ (R n : ℕ) (w s : List ℕ) (savable : Savable R n w (length s)) where
 
   -- What is reached is a used cell, so nil is not.
   pub order-used : (x : ℕ) → List·Memᴰ x (reachedCells R n w) → Used R n w x
-  order-used x m = reached-used well (order-reached n (graphOf R w) (rootsOf R w) (pool-within well) x .0 m)
+  order-used x m = reached-used well (preorder-reached n (graphOf R w) (rootsOf R w) (pool-within well) x .0 m)
 
-  pub few-kept : keptCells R n w ≤ n
-  few-kept = order-length n (graphOf R w) (rootsOf R w) (pool-within well)
+  pub few-kept : reachedCount R n w ≤ n
+  few-kept = preorder-length n (graphOf R w) (rootsOf R w) (pool-within well)
 
   pub register-bound : (j : ℕ) → j < R → register w j ≤ n
   register-bound j low = link-bound (well .registers j low)
@@ -40,7 +40,7 @@ module _ (R n : ℕ) (w s : List ℕ) (savable : Savable R n w (length s)) where
     pub saved-register : (j v : ℕ) → j < R → v ≡ numberAt s (register w j) → v ≡ savedField R w (reachedCells R n w) j
     saved-register j v low e = e ∙ (link-numbered (register w j) (well .registers j low) ∙ sym (field-register R w (reachedCells R n w) j low))
 
-    module _ (p : ℕ) (below : p < keptCells R n w) where
+    module _ (p : ℕ) (below : p < reachedCount R n w) where
       -- The image's cell p.
       abbrev cellHere : ℕ
       cellHere = getD s (n + p) 0

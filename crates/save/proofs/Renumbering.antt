@@ -10,14 +10,14 @@ use Rattle.graph.specs.Compare.{Paired, OneToOne}
 use Rattle.graph.proofs.Lists.{getD-member}
 use Rattle.graph.proofs.Marks.{zero-or-above}
 use Rattle.graph.proofs.Reached.{reach-above}
-use Rattle.graph.proofs.Theorems.{order-reached, order-distinct}
-use Rattle.graph.proofs.Pairing.{paired-least, order-paired, length-paired, pairing-kept}
+use Rattle.graph.proofs.Theorems.{preorder-reached, preorder-distinct}
+use Rattle.graph.proofs.Pairing.{paired-least, preorder-paired, length-paired, pairing-kept}
 use Rattle.pool.specs.Words.{tabulate}
 use Rattle.pool.specs.Layout.{register, cell, left, right, value, graphOf, rootsOf}
 use Rattle.pool.proofs.Every.{length-tabulate, getD-tabulate, tabulate-list}
 use Rattle.pool.proofs.WellFormed.{WellFormed}
 use Rattle.pool.proofs.PoolGraph.{pool-within}
-use Rattle.collector.specs.Collect.{reachedCells, keptCells}
+use Rattle.collector.specs.Collect.{reachedCells, reachedCount}
 use Rattle.image.specs.Image.{numberIn, fieldCount}
 use Rattle.image.specs.Load.{loadedWords}
 use Rattle.save.proofs.Numbering.{place-none, number-member, number-placed, number-at}
@@ -25,7 +25,7 @@ use Rattle.image.proofs.Decoding.{Allowed}
 use Rattle.save.proofs.SavedFields.{field, field-register, field-value, field-link, saved-allowed, savedFields, saved-at}
 use Rattle.image.proofs.LoadedPool.{loaded-register, loaded-cell, loaded-well-formed}
 
-module _ (R n : ℕ) (w : List ℕ) (m : ℕ) (few : keptCells R n w ≤ m) where
+module _ (R n : ℕ) (w : List ℕ) (m : ℕ) (few : reachedCount R n w ≤ m) where
   abbrev order : List ℕ
   order = reachedCells R n w
 
@@ -56,12 +56,12 @@ module _ (R n : ℕ) (w : List ℕ) (m : ℕ) (few : keptCells R n w ≤ m) wher
     loaded-well = loaded-well-formed R m (length order) (savedFields R w order) few fields-allowed
 
     reached-member : (x : ℕ) → Reach (graphOf R w) (rootsOf R w) x → List·Memᴰ x order
-    reached-member x = order-reached n (graphOf R w) (rootsOf R w) (pool-within well) x .1
+    reached-member x = preorder-reached n (graphOf R w) (rootsOf R w) (pool-within well) x .1
 
     nil-number : numberIn order 0 ≡ 0
     nil-number =
         place-none 1 order 0
-        (λ h. omega (arith, reach-above (order-reached n (graphOf R w) (rootsOf R w) (pool-within well) 0 .0 h)))
+        (λ h. omega (arith, reach-above (preorder-reached n (graphOf R w) (rootsOf R w) (pool-within well) 0 .0 h)))
 
     -- A link of the saved pool, nil or reached, and its number.
     abbrev Numbers : ℕ → ℕ → Type 0
@@ -123,8 +123,8 @@ module _ (R n : ℕ) (w : List ℕ) (m : ℕ) (few : keptCells R n w ≤ m) wher
     renumbered-order =
         tabulate-list (length order) suc (reachedCells R m loaded) (sym same-length) λ i below.
         paired-least Numbers roots-numbered links-numbered
-        (order-paired n (graphOf R w) (rootsOf R w) m (graphOf R loaded) (rootsOf R loaded) (pool-within well) (pool-within loaded-well) same-roots pairs i below) .1
-        ∙ number-at (order-distinct n (graphOf R w) (rootsOf R w) (pool-within well)) i below
+        (preorder-paired n (graphOf R w) (rootsOf R w) m (graphOf R loaded) (rootsOf R loaded) (pool-within well) (pool-within loaded-well) same-roots pairs i below) .1
+        ∙ number-at (preorder-distinct n (graphOf R w) (rootsOf R w) (pool-within well)) i below
       where
         same-length : length order ≡ length (reachedCells R m loaded)
         same-length =

@@ -9,17 +9,17 @@ use lib.Dec.{leb, ltb}
 use lib.Seq.{drop-append-seam}
 use borrow.Author.Tests.{lt-ltb, le-leb, ltb-true, leb-true}
 use Rattle.graph.specs.Theorems.{Distinct}
-use Rattle.graph.proofs.Theorems.{order-distinct, order-length}
+use Rattle.graph.proofs.Theorems.{preorder-distinct, preorder-length}
 use Rattle.leb128.specs.Leb128.{encode}
 use Rattle.pool.specs.Words.{tabulate}
-use Rattle.pool.specs.Layout.{registerCount, cellLimit, cellsOfLength, cellsOf, cell, graphOf, rootsOf}
+use Rattle.pool.specs.Layout.{registerCount, cellLimit, cellCountOfLength, cellCount, cell, graphOf, rootsOf}
 use Rattle.pool.specs.Validity.{wellFormed}
 use Rattle.answers.specs.Outcome.{Outcome, answered, status, given}
 use Rattle.pool.proofs.Every.{length-tabulate, getD-tabulate, tabulate-list, tabulate-member}
 use Rattle.pool.proofs.Questions.{length-sized, cells-sized}
 use Rattle.pool.proofs.WellFormed.{WellFormed, well-formed-read, well-formed-made}
 use Rattle.pool.proofs.PoolGraph.{pool-within}
-use Rattle.collector.specs.Collect.{reachedCells, keptCells}
+use Rattle.collector.specs.Collect.{reachedCells, reachedCount}
 use Rattle.image.specs.declared.Loaded.{Loaded}
 use Rattle.image.specs.Image.{numberIn, fieldCount, savedField, encodeAll, imageOf, Image, readImage}
 use Rattle.image.specs.Load.{scanOf, loadedWords, loadOf}
@@ -42,7 +42,7 @@ module _ (R m K : ℕ) (vs : List ℕ) (few : K ≤ m) (size : length vs ≡ fie
 
   counted : Distinct (tabulate K suc)
   counted =
-      rw visited at (order-distinct m (graphOf R pool) (rootsOf R pool) (pool-within (loaded-well-formed R m K vs few allowed)))
+      rw visited at (preorder-distinct m (graphOf R pool) (rootsOf R pool) (pool-within (loaded-well-formed R m K vs few allowed)))
 
   -- Each cell's number is its own.
   own-number : (x : ℕ) → x ≤ K → numberIn (tabulate K suc) x ≡ x
@@ -81,16 +81,16 @@ load-then-save m bytes K start vs end some most e visited s out long =
     (ap (λ (x : List ℕ). saveImage x s out) (saved-again registerCount m K vs few (ap length (sym same) ∙ i .size) allowed visited))
 
 -- The image of the pool w of n cells, loaded into a pool of m cells.
-module _ (n : ℕ) (w : List ℕ) (m : ℕ) (few : keptCells registerCount n w ≤ m) (most : n ≤ cellLimit) (well : WellFormed registerCount n w)
+module _ (n : ℕ) (w : List ℕ) (m : ℕ) (few : reachedCount registerCount n w ≤ m) (most : n ≤ cellLimit) (well : WellFormed registerCount n w)
     (word : Words w) where
   abbrev K : ℕ
-  K = keptCells registerCount n w
+  K = reachedCount registerCount n w
 
   abbrev fields : List ℕ
   fields = savedFields registerCount w (reachedCells registerCount n w)
 
   small : K < 2 ^ 32
-  small = omega (arith, order-length n (graphOf registerCount w) (rootsOf registerCount w) (pool-within well))
+  small = omega (arith, preorder-length n (graphOf registerCount w) (rootsOf registerCount w) (pool-within well))
 
   size : length fields ≡ fieldCount registerCount K
   size = saved-length registerCount w (reachedCells registerCount n w)
@@ -146,8 +146,8 @@ no-answer e low = omega (arith, ap (λ (x : Outcome × List ℕ × List ℕ). st
 
 pub save-then-load : SaveThenLoad
 save-then-load w scratch out size cleared bytes words word saved target few =
-    let n = cellsOf registerCount w in
-    let m = cellsOfLength registerCount (length words) in
+    let n = cellCount registerCount w in
+    let m = cellCountOfLength registerCount (length words) in
     let image = imageOf registerCount n w in
     let some : ltb 0 n ≡ true = true-or (ltb 0 n) (λ e. no-answer (rw e at saved) (omega arith)) in
     let lent : leb (2 * n) (length scratch) ≡ true = true-or (leb (2 * n) (length scratch)) (λ e. no-answer (rw (some, e) at saved) (omega arith)) in

@@ -7,14 +7,14 @@ use mathlib.Core.Bool.{Bool, true, false}
 use lib.ListN.{length, getD, drop, replicate}
 use borrow.Author.Tests.{lt-ltb, le-leb, lt-leb}
 use Rattle.graph.proofs.Lists.{getD-member}
-use Rattle.graph.proofs.Theorems.{order-distinct}
-use Rattle.pool.specs.Layout.{registerCount, cellsOf, graphOf, rootsOf}
+use Rattle.graph.proofs.Theorems.{preorder-distinct}
+use Rattle.pool.specs.Layout.{registerCount, cellCount, graphOf, rootsOf}
 use Rattle.pool.specs.Validity.{wellFormed}
 use Rattle.answers.specs.Outcome.{Outcome, answered, refused}
 use Rattle.pool.proofs.Questions.{cells-sized}
 use Rattle.pool.proofs.WellFormed.{well-formed-read}
 use Rattle.pool.proofs.PoolGraph.{pool-within}
-use Rattle.collector.specs.Collect.{reachedCells, keptCells}
+use Rattle.collector.specs.Collect.{reachedCells, reachedCount}
 use Rattle.image.specs.Image.{numberIn, imageOf}
 use Rattle.save.specs.Save.{saveImage, saveIn}
 use Rattle.save.specs.Steps.{Savable, Clear, Numbered, NumbersWithin, Listed, Ordered}
@@ -40,13 +40,13 @@ module _ (R n : ℕ) (w s : List ℕ) (savable : Savable R n w (length s)) (numb
             (order-used R n w s savable _ (getD-member (reachedCells R n w) p below) .bounded);
       }
     where
-      at : (p : ℕ) → p < keptCells R n w → 0 < getD (reachedCells R n w) p 0 → getD (reachedCells R n w) p 0 ≤ n
+      at : (p : ℕ) → p < reachedCount R n w → 0 < getD (reachedCells R n w) p 0 → getD (reachedCells R n w) p 0 ≤ n
           → getD t (n + p) 0 ≡ getD (reachedCells R n w) p 0
       at p below low high =
           let x = getD (reachedCells R n w) p 0 in
           let within = pool-within (well-formed-read R n w (savable .well-formed)) in
           let number : getD s (x - 1) 0 ≡ suc p =
-          numbered x low high ∙ number-at (order-distinct n (graphOf R w) (rootsOf R w) within) p below in
+          numbered x low high ∙ number-at (preorder-distinct n (graphOf R w) (rootsOf R w) within) p below in
           let place : n + (getD s (x - 1) 0 - 1) ≡ n + p = omega arith in
           let only : (y : ℕ) → y < n → getD s y 0 ≡ getD s (x - 1) 0 → y ≡ x - 1 = λ y less same.
           let is : numberIn (reachedCells R n w) (y + 1) ≡ suc p = sym (number-of y less) ∙ (same ∙ number) in

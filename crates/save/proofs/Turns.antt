@@ -7,7 +7,7 @@ use mathlib.Core.Bool.{Bool, true, false}
 use lib.ListN.{length, getD, set, replicate, length-set}
 use Rattle.pool.specs.Layout.{cellLimit, poolLength, register, left, right}
 use Rattle.pool.proofs.WellFormed.{WellFormed, well-formed-read}
-use Rattle.collector.specs.Collect.{keptCells}
+use Rattle.collector.specs.Collect.{reachedCount}
 use Rattle.save.specs.Steps.{Savable, Clear, isNew, Numbered}
 use Rattle.save.proofs.Walking.{Walking, new-cell, walking-first, walking-few, walking-hand, walking-room, walking-take, walking-pop, walking-root, walking-end}
 
@@ -75,5 +75,5 @@ module _ (R n : ℕ) (w s₀ : List ℕ) (savable : Savable R n w (length s₀))
         turn-root x none more e =
             record { len = t .len; walking = rw e (walking-root R n w well s hand depth count root (t .walking) b is old none more) }
 
-        pub turn-end : depth ≤ 0 → R ≤ root → (count ≡ keptCells R n w) × Numbered R n w s
+        pub turn-end : depth ≤ 0 → R ≤ root → (count ≡ reachedCount R n w) × Numbered R n w s
         turn-end none last = walking-end R n w well s hand depth count root (t .walking) b is old none last

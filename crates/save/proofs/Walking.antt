@@ -17,12 +17,12 @@ use Rattle.graph.specs.Marking.{outside}
 use Rattle.graph.specs.Dfs.{mark, marks}
 use Rattle.graph.proofs.Marks.{outside-nil, outside-cell, marks-append, marks-cases, marks-keeps, marks-member, zero-or-above}
 use Rattle.graph.proofs.Walk.{Walk, order-walk}
-use Rattle.graph.proofs.Theorems.{order-length}
+use Rattle.graph.proofs.Theorems.{preorder-length}
 use Rattle.pool.specs.Layout.{register, left, right, graphOf, rootsOf}
 use Rattle.pool.proofs.Every.{length-tabulate, getD-tabulate}
 use Rattle.pool.proofs.WellFormed.{Link, WellFormed}
 use Rattle.pool.proofs.PoolGraph.{Used, link-bound, used-links, pool-within}
-use Rattle.collector.specs.Collect.{reachedCells, keptCells}
+use Rattle.collector.specs.Collect.{reachedCells, reachedCount}
 use Rattle.image.specs.Image.{placeFrom, numberIn}
 use Rattle.save.specs.Steps.{isNew, Numbered}
 use Rattle.save.proofs.Numbering.{number-member, number-placed, number-last, number-other}
@@ -116,7 +116,7 @@ module _ (R n : ℕ) (w : List ℕ) (well : WellFormed R n w) where
     walking-few =
         omega (
           arith,
-          order-length n (graphOf R w) (rootsOf R w) (pool-within well),
+          preorder-length n (graphOf R w) (rootsOf R w) (pool-within well),
           ap length (k .whole),
           length-append (k .done) (k .rest),
           k .counted,
@@ -144,7 +144,7 @@ module _ (R n : ℕ) (w : List ℕ) (well : WellFormed R n w) where
       walking-room =
           omega (
             arith,
-            order-length n (graphOf R w) (rootsOf R w) (pool-within well),
+            preorder-length n (graphOf R w) (rootsOf R w) (pool-within well),
             ap length (k .whole),
             length-append (k .done) (k .rest),
             k .counted,
@@ -264,7 +264,7 @@ module _ (R n : ℕ) (w : List ℕ) (well : WellFormed R n w) where
               drop-cons (rootsOf R w) root 0 (omega (arith, length-tabulate R (λ j. register w j)))
               ∙ rw (getD-tabulate R (λ j. register w j) root 0 more, add-one root)
 
-      pub walking-end : depth ≤ 0 → R ≤ root → (count ≡ keptCells R n w) × Numbered R n w s
+      pub walking-end : depth ≤ 0 → R ≤ root → (count ≡ reachedCount R n w) × Numbered R n w s
       walking-end none last =
           let past = drop-of-length-le (rootsOf R w) {i = root} (omega (arith, length-tabulate R (λ j. register w j))) in
           let ended = walk-none (rw (stack-empty n s depth none, past) at skipped) in

@@ -6,11 +6,11 @@ use mathlib.Core.Bool.{true}
 use lib.ListN.{length, getD, drop, replicate}
 use lib.Dec.{leb}
 use Rattle.pool.specs.Words.{tabulate}
-use Rattle.pool.specs.Layout.{registerCount, cellLimit, cellsOfLength, cellsOf, register, left, right, value}
+use Rattle.pool.specs.Layout.{registerCount, cellLimit, cellCountOfLength, cellCount, register, left, right, value}
 use Rattle.pool.specs.Validity.{wellFormed}
 use Rattle.pool.specs.Retain.{freeList, freeCells}
 use Rattle.answers.specs.Outcome.{answered}
-use Rattle.collector.specs.Collect.{reachedCells, keptCells}
+use Rattle.collector.specs.Collect.{reachedCells, reachedCount}
 use Rattle.image.specs.Image.{numberIn, encodeAll, Image, readImage}
 use Rattle.image.specs.Load.{loadedWords, loadOf}
 use Rattle.save.specs.Save.{saveImage, saveOf}
@@ -23,14 +23,14 @@ Words w = (i : ℕ) → getD w i 0 < 2 ^ 32
 -- registers renumbered alike."
 pub record Renumbered (n : ℕ) (w : List ℕ) (m : ℕ) (v : List ℕ) : Type 0 where
   pub registers : (k : ℕ) → k < registerCount → register v k ≡ numberIn (reachedCells registerCount n w) (register w k)
-  pub lefts : (i : ℕ) → i < keptCells registerCount n w
+  pub lefts : (i : ℕ) → i < reachedCount registerCount n w
       → left registerCount v (suc i) ≡ numberIn (reachedCells registerCount n w) (left registerCount w (getD (reachedCells registerCount n w) i 0))
-  pub rights : (i : ℕ) → i < keptCells registerCount n w
+  pub rights : (i : ℕ) → i < reachedCount registerCount n w
       → right registerCount v (suc i) ≡ numberIn (reachedCells registerCount n w) (right registerCount w (getD (reachedCells registerCount n w) i 0))
-  pub values : (i : ℕ) → i < keptCells registerCount n w
+  pub values : (i : ℕ) → i < reachedCount registerCount n w
       → value registerCount v (suc i) ≡ value registerCount w (getD (reachedCells registerCount n w) i 0)
   -- The cells are now visited as 1, 2, ..: the i-th cell visited is cell i.
-  pub order : reachedCells registerCount m v ≡ tabulate (keptCells registerCount n w) suc
+  pub order : reachedCells registerCount m v ≡ tabulate (reachedCount registerCount n w) suc
 
 -- A save of the pool w of n cells to the bytes `out` answered `size` and left `bytes` there. Load of these gives the verdict, hands back `rest`, and
 -- leaves the words v, of m cells.
@@ -38,12 +38,12 @@ pub record Restored (n : ℕ) (w out : List ℕ) (size : ℕ) (bytes : List ℕ)
   pub accepted : verdict ≡ 0
   -- The part behind the image is what stood behind it before: "output past the image stays".
   pub part : rest ≡ drop size out
-  pub cells : cellsOf registerCount v ≡ m
+  pub cells : cellCount registerCount v ≡ m
   pub well-formed : wellFormed registerCount m v ≡ true
   pub renumbered : Renumbered n w m v
-  pub kept : keptCells registerCount m v ≡ keptCells registerCount n w
+  pub kept : reachedCount registerCount m v ≡ reachedCount registerCount n w
   -- The free list has every other cell, ascending.
-  pub free : freeList registerCount m v ≡ freeCells (λ i. leb i (keptCells registerCount n w)) m 1
+  pub free : freeList registerCount m v ≡ freeCells (λ i. leb i (reachedCount registerCount n w)) m 1
   -- Save of the loaded words answers the same, and writes the same bytes.
   pub again : (s : List ℕ) → 2 * m ≤ length s → saveOf v s out ≡ (answered (size ∷ []), replicate (length s) 0, bytes)
 
@@ -53,10 +53,10 @@ abbrev pub SaveThenLoad : Type 0
 SaveThenLoad =
     (w scratch out : List ℕ) (size : ℕ) (cleared bytes words : List ℕ) → Words w
     → saveOf w scratch out ≡ (answered (size ∷ []), cleared, bytes)
-    → let n = cellsOf registerCount w in
-    let m = cellsOfLength registerCount (length words) in
+    → let n = cellCount registerCount w in
+    let m = cellCountOfLength registerCount (length words) in
     let loaded = loadOf words bytes in
-    0 < m → keptCells registerCount n w ≤ m
+    0 < m → reachedCount registerCount n w ≤ m
     → Restored n w out size bytes m (loaded .0 .verdict) (drop (loaded .0 .end) bytes) (loaded .1)
 
 -- Load, then save: of an image whose cells are numbered in the order of the visits, save of the loaded words writes the same numbers.

@@ -7,7 +7,7 @@ use lib.ListN.{length, getD, replicate}
 use lib.Dec.{eqb}
 use Rattle.pool.specs.Layout.{cellLimit, poolLength}
 use Rattle.pool.specs.Validity.{wellFormed}
-use Rattle.collector.specs.Collect.{reachedCells, keptCells}
+use Rattle.collector.specs.Collect.{reachedCells, reachedCount}
 use Rattle.image.specs.Image.{numberIn}
 
 -- A well-formed pool of n cells, with scratch of s words.
@@ -45,4 +45,4 @@ pub record Listed (n : ℕ) (s t : List ℕ) : Type 0 where
 -- The scratch holds the number of each cell and, behind them, the order.
 pub record Ordered (R n : ℕ) (w s : List ℕ) : Type 0 where
   pub numbers : Numbered R n w s
-  pub cells : (p : ℕ) → p < keptCells R n w → getD s (n + p) 0 ≡ getD (reachedCells R n w) p 0
+  pub cells : (p : ℕ) → p < reachedCount R n w → getD s (n + p) 0 ≡ getD (reachedCells R n w) p 0

@@ -9,7 +9,7 @@ ghost use Prim.Native.Nat.{_+_, _*_, _<_, _≤_};
 ghost use lib.ListN.{length, take, drop};
 ghost use Rattle.leb128.specs.Leb128.{encode};
 ghost use Rattle.pool.specs.Layout.{registerCount, cellLimit, poolLength};
-ghost use Rattle.collector.specs.Collect.{reachedCells, keptCells};
+ghost use Rattle.collector.specs.Collect.{reachedCells, reachedCount};
 ghost use Rattle.image.specs.Image.{savedField, imageOf};
 ghost use Rattle.save.specs.Save.{savedOutcome, saveImage, saveIn, saveOf};
 ghost use Rattle.save.specs.Steps.{numberAt, isNew, Savable, Clear, Numbered, NumbersWithin, Listed, Ordered};
@@ -32,11 +32,11 @@ fn unnumbered(scratch: &[u32], x: u32) -> bool
     scratch[x as usize - 1] == 0
 }
 
-// Numbers the cells that the registers reach, in depth-first order, left before right. The words behind the numbers are a stack of right
+// Numbers the cells that the registers reach, in depth-first preorder, left before right. The words behind the numbers are a stack of right
 // links. Gives the number of cells.
 fn number_cells(words: &[u32], scratch: &mut [u32], n: u32) -> u32
     requires { ⌜ Savable registerCount n (now words) (length (now scratch)) × Clear (now scratch) ⌝ }
-    ensures { λ r. ⌜ (r ≡ keptCells registerCount n (now (words .entry))) × Numbered registerCount n (now (words .entry)) (now (scratch .exit)) ⌝ }
+    ensures { λ r. ⌜ (r ≡ reachedCount registerCount n (now (words .entry))) × Numbered registerCount n (now (words .entry)) (now (scratch .exit)) ⌝ }
 {
     let base = n as usize;
     let mut hand = 0;
@@ -93,7 +93,7 @@ fn link_number(scratch: &[u32], x: u32) -> u32
 
 // Number f of the three of the image's cell p, from 0: its left link, its right link, its value.
 fn cell_number(words: &[u32], scratch: &[u32], n: u32, p: u32, f: usize) -> u32
-    requires { ⌜ Savable registerCount n (now words) (length (now scratch)) × Ordered registerCount n (now words) (now scratch) × (p < keptCells registerCount n (now words)) × (f < 3) ⌝ }
+    requires { ⌜ Savable registerCount n (now words) (length (now scratch)) × Ordered registerCount n (now words) (now scratch) × (p < reachedCount registerCount n (now words)) × (f < 3) ⌝ }
     ensures { λ r. ⌜ r ≡ savedField registerCount (now (words .entry)) (reachedCells registerCount n (now (words .entry))) (registerCount + 3 * p + f) ⌝ }
 {
     let cell = scratch[n as usize + p as usize];
@@ -105,7 +105,7 @@ fn cell_number(words: &[u32], scratch: &[u32], n: u32, p: u32, f: usize) -> u32
 
 // The number of bytes of the image of k cells.
 fn image_size(words: &[u32], scratch: &[u32], n: u32, k: u32) -> usize
-    requires { ⌜ Savable registerCount n (now words) (length (now scratch)) × Ordered registerCount n (now words) (now scratch) × (k ≡ keptCells registerCount n (now words)) ⌝ }
+    requires { ⌜ Savable registerCount n (now words) (length (now scratch)) × Ordered registerCount n (now words) (now scratch) × (k ≡ reachedCount registerCount n (now words)) ⌝ }
     ensures { λ r. ⌜ r ≡ length (imageOf registerCount n (now (words .entry))) ⌝ }
 {
     let mut size = leb128::number_size(k);
@@ -139,7 +139,7 @@ fn put_number(out: &mut [u8], at: usize, v: u32) -> usize
 
 // Writes the image of k cells to the start of the output.
 fn write_image(words: &[u32], scratch: &[u32], n: u32, k: u32, out: &mut [u8])
-    requires { ⌜ Savable registerCount n (now words) (length (now scratch)) × Ordered registerCount n (now words) (now scratch) × (k ≡ keptCells registerCount n (now words)) × (length (imageOf registerCount n (now words)) ≤ length (now out)) ⌝ }
+    requires { ⌜ Savable registerCount n (now words) (length (now scratch)) × Ordered registerCount n (now words) (now scratch) × (k ≡ reachedCount registerCount n (now words)) × (length (imageOf registerCount n (now words)) ≤ length (now out)) ⌝ }
     ensures { λ _. ⌜ now (out .exit) ≡ imageOf registerCount n (now (words .entry)) ++ drop (length (imageOf registerCount n (now (words .entry)))) (now (out .entry)) ⌝ }
 {
     let mut at = put_number(out, 0, k);
@@ -162,7 +162,7 @@ fn write_image(words: &[u32], scratch: &[u32], n: u32, k: u32, out: &mut [u8])
 // Fills the scratch with the number of each cell and the cell of each number. Gives the number of cells.
 fn order_cells(words: &[u32], scratch: &mut [u32], n: u32) -> u32
     requires { ⌜ Savable registerCount n (now words) (length (now scratch)) ⌝ }
-    ensures { λ r. ⌜ (r ≡ keptCells registerCount n (now (words .entry))) × Ordered registerCount n (now (words .entry)) (now (scratch .exit)) ⌝ }
+    ensures { λ r. ⌜ (r ≡ reachedCount registerCount n (now (words .entry))) × Ordered registerCount n (now (words .entry)) (now (scratch .exit)) ⌝ }
 {
     pool::clear(scratch);
     let k = number_cells(words, scratch, n);

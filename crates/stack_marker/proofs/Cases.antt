@@ -5,8 +5,8 @@ use mathlib.Core.List.{List, [], _∷_, _++_, append-nil}
 use mathlib.Core.Bool.{Bool}
 use lib.ListN.{length}
 use Rattle.graph.specs.Graph.{Graph}
-use Rattle.stack_marker.specs.Stack.{isFresh, unmarkedLinks, holding, run}
-use Rattle.stack_marker.specs.StackTheorem.{FourCases, Stack-cases}
+use Rattle.stack_marker.specs.Stack.{isUnmarked, unmarkedLinks, holding, run}
+use Rattle.stack_marker.specs.StackTheorem.{FourCases, StackCases}
 
 -- where nothing is pending the run has ended
 pub run-none : (turns : ℕ) (g : Graph) (seen : List ℕ) → run turns g seen [] ≡ (seen, 0)
@@ -14,11 +14,11 @@ unfolding run
 run-none zero g seen = refl
 run-none (suc turns) g seen = refl
 
-pub stack-cases : Stack-cases
+pub stack-cases : StackCases
 unfolding run
-stack-cases turns g seen = (run-none turns g seen, λ p stack. cases p stack (isFresh seen (g .left p)) (isFresh seen (g .right p)) refl refl)
+stack-cases turns g seen = (run-none turns g seen, λ p stack. cases p stack (isUnmarked seen (g .left p)) (isUnmarked seen (g .right p)) refl refl)
   where
-    cases : (p : ℕ) (stack : List ℕ) (a b : Bool) → isFresh seen (g .left p) ≡ a → isFresh seen (g .right p) ≡ b
+    cases : (p : ℕ) (stack : List ℕ) (a b : Bool) → isUnmarked seen (g .left p) ≡ a → isUnmarked seen (g .right p) ≡ b
         → FourCases turns g seen p stack (g .left p) (g .right p) a b
     cases p stack a b ea eb =
         record {

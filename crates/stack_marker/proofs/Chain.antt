@@ -8,17 +8,17 @@ use lib.ListN.{length}
 use lib.Dec.{ltb}
 use borrow.Author.Tests.{lt-ltb, ltb-true}
 use Rattle.graph.specs.Graph.{Within}
-use Rattle.graph.specs.Order.{has}
+use Rattle.graph.specs.Preorder.{elem}
 use Rattle.graph.proofs.Lists.{Each, each-nil, each-cons, each-append}
-use Rattle.stack_marker.specs.Stack.{isFresh, onward, run, runs}
-use Rattle.stack_marker.specs.StackTheorem.{chain, Chain-needs}
+use Rattle.stack_marker.specs.Stack.{isUnmarked, onward, run, runs}
+use Rattle.stack_marker.specs.StackTheorem.{chain, ChainNeeds}
 use Rattle.stack_marker.proofs.Fresh.{other-fresh}
 use Rattle.stack_marker.proofs.Going.{stack-bound}
 
 -- the cells up to i are marked and i is in hand, so both of its links are unmarked
 chain-onward : (n i : ℕ) (seen : List ℕ) → i < n → Each (λ x. x ≤ i) seen → onward (chain n) seen i ≡ suc i ∷ suc i ∷ []
 chain-onward n i seen less below =
-    let fresh : isFresh seen (suc i) ≡ true = other-fresh seen (suc i) (omega arith) λ mem. omega (arith, below (suc i) mem) in
+    let fresh : isUnmarked seen (suc i) ≡ true = other-fresh seen (suc i) (omega arith) λ mem. omega (arith, below (suc i) mem) in
     rw (lt-ltb i n less, fresh)
 
 -- with d cells behind it, d more entries come
@@ -44,8 +44,8 @@ chain-within n some = record { root = λ x mem. rw (List·Memᴰ·eq-of-singleto
     link x true e = ltb-true x n e
     link x false e = omega arith
 
-pub chain-needs : Chain-needs
-unfolding runs has
+pub chain-needs : ChainNeeds
+unfolding runs elem
 chain-needs n some =
     let least = chain-down n (n - 1) 1 (2 * n) (1 ∷ []) [] (omega arith) refl (each-cons (λ x. x ≤ 1) (omega arith) (each-nil (λ x. x ≤ 1))) (omega arith) in
     let most = stack-bound n (chain n) (1 ∷ []) (chain-within n some) in

@@ -9,7 +9,7 @@ use mathlib.Core.Bool.{Bool, true, false, cond}
 use lib.ListN.{length}
 use borrow.Author.Tests.{eq-eqb, ne-eqb}
 use Rattle.pool.specs.Layout.{poolLength, setCell, state}
-use Rattle.pool.specs.Retain.{marked}
+use Rattle.pool.specs.Retain.{isMarked}
 use Rattle.pool.proofs.Laws.{length-setCell, cell-same, cell-other, setCell-again, setCell-comm, setCell-cell}
 use Rattle.pool.proofs.WellFormed.{Cell, WellFormed}
 use Rattle.pool.proofs.PoolGraph.{Used}
@@ -50,16 +50,16 @@ module _ (R : ℕ) where
       → cleared R i (setCell R w x 0 3) ≡ cleared R i w
   unfolding cleared Markable
   cleared-one zero w x low high room from = absurd (omega arith)
-  cleared-one (suc i) w x low high room from = go (ℕ-discrete (suc i) x) (marked R w (suc i)) refl (λ v l k. cleared-one i v x low l k)
+  cleared-one (suc i) w x low high room from = go (ℕ-discrete (suc i) x) (isMarked R w (suc i)) refl (λ v l k. cleared-one i v x low l k)
     where
-      here : (state R w x ≡ 0) ⊎ (state R w x ≡ 3) → cond (marked R w x) (setCell R w x 0 0) w ≡ setCell R w x 0 0
+      here : (state R w x ≡ 0) ⊎ (state R w x ≡ 3) → cond (isMarked R w x) (setCell R w x 0 0) w ≡ setCell R w x 0 0
       here (inl e) = rw (ne-eqb (state R w x) 3 (omega arith)) (sym (setCell-cell R w x 0) ∙ ap (setCell R w x 0) e)
       here (inr e) = rw (eq-eqb (state R w x) 3 e)
 
-      go : Dec (suc i ≡ x) → (t : Bool) → marked R w (suc i) ≡ t
+      go : Dec (suc i ≡ x) → (t : Bool) → isMarked R w (suc i) ≡ t
           → ((v : List ℕ) → x ≤ i → poolLength R x ≤ length v → Markable v x → cleared R i (setCell R v x 0 3) ≡ cleared R i v)
-          → cleared R i (cond (marked R (setCell R w x 0 3) (suc i)) (setCell R (setCell R w x 0 3) (suc i) 0 0) (setCell R w x 0 3))
-          ≡ cleared R i (cond (marked R w (suc i)) (setCell R w (suc i) 0 0) w)
+          → cleared R i (cond (isMarked R (setCell R w x 0 3) (suc i)) (setCell R (setCell R w x 0 3) (suc i) 0 0) (setCell R w x 0 3))
+          ≡ cleared R i (cond (isMarked R w (suc i)) (setCell R w (suc i) 0 0) w)
       go (yes e) t et rest =
           rw (e, cell-same R w x 0 3 low (omega arith) room, setCell-again R w x 0 3 0) (ap (cleared R i) (sym (here from)))
       go (no apart) true et rest =

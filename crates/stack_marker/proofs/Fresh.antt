@@ -8,49 +8,49 @@ use mathlib.Core.Bool.{Bool, true, false, true≢false, false≢true, cond}
 use lib.ListN.{length}
 use lib.Dec.{ltb}
 use borrow.Author.Tests.{ne-eqb, lt-ltb, le-ltb}
-use Rattle.graph.specs.Order.{has}
-use Rattle.graph.specs.Marking.{outside, marked}
+use Rattle.graph.specs.Preorder.{elem}
+use Rattle.graph.specs.Marking.{outside, markedCount}
 use Rattle.graph.specs.Dfs.{mark, marks}
 use Rattle.graph.proofs.Lists.{Each, each-nil, each-cons, has-member, has-none, member-has}
 use Rattle.graph.proofs.Marks.{zero-or-above, mark-cases, marks-append, marks-cases, marks-keeps, marks-member, outside-cell}
 use Rattle.graph.proofs.Count.{marked-mark}
-use Rattle.stack_marker.specs.Stack.{isFresh, unmarkedLinks}
+use Rattle.stack_marker.specs.Stack.{isUnmarked, unmarkedLinks}
 
 -- an unmarked link is a cell that is not among the marked ones, and every other one is nil or among them
-pub fresh-true : (seen : List ℕ) (x : ℕ) → isFresh seen x ≡ true → (0 < x) × (List·Memᴰ x seen → ⊥)
+pub fresh-true : (seen : List ℕ) (x : ℕ) → isUnmarked seen x ≡ true → (0 < x) × (List·Memᴰ x seen → ⊥)
 fresh-true seen ℕ.zero e = absurd (false≢true e)
 fresh-true seen (ℕ.suc x) e = (omega arith, λ mem. false≢true (simp (ne-eqb (suc x) 0 (omega arith), has-member (suc x) mem) at e))
 
-pub fresh-false : (seen : List ℕ) (x : ℕ) → isFresh seen x ≡ false → 0 < x → List·Memᴰ x seen
-fresh-false seen x e some = go (has x seen) refl
+pub fresh-false : (seen : List ℕ) (x : ℕ) → isUnmarked seen x ≡ false → 0 < x → List·Memᴰ x seen
+fresh-false seen x e some = go (elem x seen) refl
   where
-    go : (t : Bool) → has x seen ≡ t → List·Memᴰ x seen
+    go : (t : Bool) → elem x seen ≡ t → List·Memᴰ x seen
     go true h = member-has x seen h
     go false h = absurd (true≢false (simp (ne-eqb x 0 (omega arith), h) at e))
 
-pub member-fresh : (seen : List ℕ) (x : ℕ) → List·Memᴰ x seen → isFresh seen x ≡ false
+pub member-fresh : (seen : List ℕ) (x : ℕ) → List·Memᴰ x seen → isUnmarked seen x ≡ false
 member-fresh seen ℕ.zero mem = refl
 member-fresh seen (ℕ.suc x) mem = simp (ne-eqb (suc x) 0 (omega arith), has-member (suc x) mem)
 
-pub other-fresh : (seen : List ℕ) (x : ℕ) → 0 < x → (List·Memᴰ x seen → ⊥) → isFresh seen x ≡ true
+pub other-fresh : (seen : List ℕ) (x : ℕ) → 0 < x → (List·Memᴰ x seen → ⊥) → isUnmarked seen x ≡ true
 other-fresh seen x some out = simp (ne-eqb x 0 (omega arith), has-none x seen out)
 
 -- how many of the n cells are marked
 abbrev pub count : ℕ → List ℕ → ℕ
-count n seen = marked n (marks (outside n) seen)
+count n seen = markedCount n (marks (outside n) seen)
 
 -- no fewer are marked where what was marked still is
-marked-mono : (n : ℕ) (m f : ℕ → ℕ) → ((x : ℕ) → 0 < m x → 0 < f x) → marked n m ≤ marked n f
-unfolding marked
+marked-mono : (n : ℕ) (m f : ℕ → ℕ) → ((x : ℕ) → 0 < m x → 0 < f x) → markedCount n m ≤ markedCount n f
+unfolding markedCount
 marked-mono ℕ.zero m f keeps = omega arith
 marked-mono (ℕ.suc n) m f keeps = go (zero-or-above (m (suc n))) (marked-mono n m f keeps)
   where
-    go : (m (suc n) ≡ 0) ⊎ (0 < m (suc n)) → marked n m ≤ marked n f → cond (ltb 0 (m (suc n))) 1 0 + marked n m ≤ cond (ltb 0 (f (suc n))) 1 0 + marked n f
+    go : (m (suc n) ≡ 0) ⊎ (0 < m (suc n)) → markedCount n m ≤ markedCount n f → cond (ltb 0 (m (suc n))) 1 0 + markedCount n m ≤ cond (ltb 0 (f (suc n))) 1 0 + markedCount n f
     go (inl e) rest = rw (le-ltb 0 (m (suc n)) (omega arith)) (omega arith)
     go (inr h) rest = rw (lt-ltb 0 (m (suc n)) h, lt-ltb 0 (f (suc n)) (keeps (suc n) h)) (omega arith)
 
 -- and more where a cell is newly marked
-pub marked-more : (n : ℕ) (m f : ℕ → ℕ) → ((x : ℕ) → 0 < m x → 0 < f x) → (x : ℕ) → 0 < x → x ≤ n → m x ≡ 0 → 0 < f x → suc (marked n m) ≤ marked n f
+pub marked-more : (n : ℕ) (m f : ℕ → ℕ) → ((x : ℕ) → 0 < m x → 0 < f x) → (x : ℕ) → 0 < x → x ≤ n → m x ≡ 0 → 0 < f x → suc (markedCount n m) ≤ markedCount n f
 marked-more n m f keeps x low high e h =
     omega (
       arith,
@@ -59,7 +59,7 @@ marked-more n m f keeps x low high e h =
     )
 
 -- one more at least where an unmarked cell is marked
-pub count-more : (n : ℕ) (seen : List ℕ) (x : ℕ) (xs : List ℕ) → isFresh seen x ≡ true → x ≤ n → suc (count n seen) ≤ count n (seen ++ x ∷ xs)
+pub count-more : (n : ℕ) (seen : List ℕ) (x : ℕ) (xs : List ℕ) → isUnmarked seen x ≡ true → x ≤ n → suc (count n seen) ≤ count n (seen ++ x ∷ xs)
 count-more n seen x xs e high =
     let (low, out) = fresh-true seen x e in
     let m = marks (outside n) seen in

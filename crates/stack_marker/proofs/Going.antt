@@ -12,9 +12,9 @@ use Rattle.graph.proofs.Reached.{reach-least, reach-within}
 use Rattle.graph.proofs.Count.{marked-le}
 use Rattle.graph.specs.Marking.{outside}
 use Rattle.graph.specs.Dfs.{marks}
-use Rattle.stack_marker.specs.Stack.{isFresh, onward, holding, run, start, runs, stackRun}
-use Rattle.stack_marker.specs.StackRun.{Linked}
-use Rattle.stack_marker.specs.StackTheorem.{Stack-ends, Stack-marks-the-reached, Stack-bound}
+use Rattle.stack_marker.specs.Stack.{isUnmarked, onward, holding, run, taken, runs, stackRun}
+use Rattle.stack_marker.specs.StackRun.{LinksSeen}
+use Rattle.stack_marker.specs.StackTheorem.{StackEnds, StackMarksTheReached, StackBound}
 use Rattle.stack_marker.proofs.Fresh.{fresh-true, fresh-false, count, count-more, Passing, passing}
 
 -- Between two turns: what is marked is reached, what is pending is marked, and so are the links of every marked cell that is not pending; there are no
@@ -22,7 +22,7 @@ use Rattle.stack_marker.proofs.Fresh.{fresh-true, fresh-false, count, c
 pub record Going (n : ℕ) (g : Graph) (roots seen pending : List ℕ) : Type 0 where
   pub cells : Each (Reach g roots) seen
   pub held : Each (λ x. List·Memᴰ x seen) pending
-  pub closed : (x : ℕ) → List·Memᴰ x seen → List·Memᴰ x pending ⊎ Linked g seen x
+  pub closed : (x : ℕ) → List·Memᴰ x seen → List·Memᴰ x pending ⊎ LinksSeen g seen x
   pub few : length pending ≤ count n seen
 
 -- How many turns are left at most.
@@ -43,7 +43,7 @@ going-first n g roots =
 
 module _ {n : ℕ} {g : Graph} {roots : List ℕ} (within : Within n g roots) where
   -- reached cells that are unmarked are marked and become pending: there are still no more pending than marked, and the turns left are no more
-  pend : (seen stack new : List ℕ) → Each (Reach g roots) new → Each (λ x. isFresh seen x ≡ true) new → length new ≤ 2
+  pend : (seen stack new : List ℕ) → Each (Reach g roots) new → Each (λ x. isUnmarked seen x ≡ true) new → length new ≤ 2
       → length stack ≤ count n seen → length new + length stack ≤ suc (count n seen)
       → (length (new ++ stack) ≤ count n (seen ++ new)) × (weight n (seen ++ new) (new ++ stack) ≤ weight n seen stack)
   pend seen stack [] reached fresh short few sum = rw (append-nil seen) (few, omega arith)
@@ -54,7 +54,7 @@ module _ {n : ℕ} {g : Graph} {roots : List ℕ} (within : Within n g roots) wh
 
   -- what is marked stays closed but for what becomes pending
   join : {seen : List ℕ} (stack new : List ℕ) → Each (Reach g roots) seen → Each (λ x. List·Memᴰ x seen) stack
-      → ((x : ℕ) → List·Memᴰ x seen → List·Memᴰ x stack ⊎ Linked g (seen ++ new) x)
+      → ((x : ℕ) → List·Memᴰ x seen → List·Memᴰ x stack ⊎ LinksSeen g (seen ++ new) x)
       → Each (Reach g roots) new → length (new ++ stack) ≤ count n (seen ++ new) → Going n g roots (seen ++ new) (new ++ stack)
   join {seen} stack new cells held closed reached few =
       record {
@@ -72,7 +72,7 @@ module _ {n : ℕ} {g : Graph} {roots : List ℕ} (within : Within n g roots) wh
   module _ {seen stack : List ℕ} {p : ℕ} (s : Going n g roots seen (p ∷ stack)) where
     links-reached : Each (Reach g roots) (onward g seen p)
     links-reached x mem =
-        let f = passing (isFresh seen) (g .left p) (g .right p) in
+        let f = passing (isUnmarked seen) (g .left p) (g .right p) in
         let some = fresh-true seen x (f .passes x mem) .0 in
         let reached : Reach g roots p = s .cells p (s .held p (List·Memᴰ·head refl)) in
         ⊎-elim (λ e. rw e (Reach.left reached (rw e at some))) (λ e. rw e (Reach.right reached (rw e at some))) (f .links x mem)
@@ -80,7 +80,7 @@ module _ {n : ℕ} {g : Graph} {roots : List ℕ} (within : Within n g roots) wh
     sizes : (length (onward g seen p ++ stack) ≤ count n (seen ++ onward g seen p))
         × (weight n (seen ++ onward g seen p) (onward g seen p ++ stack) ≤ weight n seen stack)
     sizes =
-        let f = passing (isFresh seen) (g .left p) (g .right p) in
+        let f = passing (isUnmarked seen) (g .left p) (g .right p) in
         pend seen stack (onward g seen p) links-reached (f .passes) (f .short) (omega (arith, s .few)) (omega (arith, s .few, f .short))
 
     pub turn : Going n g roots (seen ++ onward g seen p) (onward g seen p ++ stack)
@@ -89,34 +89,34 @@ module _ {n : ℕ} {g : Graph} {roots : List ℕ} (within : Within n g roots) wh
         (λ x mem. ⊎-elim (λ k. ⊎-elim (λ e. inr (rw e linked)) inl (List·Memᴰ·cases-cons k)) (λ k. inr (kept k)) (s .closed x mem))
         links-reached (sizes .0)
       where
-        f : Passing (isFresh seen) (g .left p) (g .right p) (onward g seen p)
-        f = passing (isFresh seen) (g .left p) (g .right p)
+        f : Passing (isUnmarked seen) (g .left p) (g .right p) (onward g seen p)
+        f = passing (isUnmarked seen) (g .left p) (g .right p)
 
-        kept : {x : ℕ} → Linked g seen x → Linked g (seen ++ onward g seen p) x
+        kept : {x : ℕ} → LinksSeen g seen x → LinksSeen g (seen ++ onward g seen p) x
         kept k = (λ h. Memᴰ·append-left (onward g seen p) (k .0 h), λ h. Memᴰ·append-left (onward g seen p) (k .1 h))
 
-        now : (x : ℕ) → (isFresh seen x ≡ true → List·Memᴰ x (onward g seen p)) → 0 < x → List·Memᴰ x (seen ++ onward g seen p)
-        now x new some = go (isFresh seen x) refl
+        now : (x : ℕ) → (isUnmarked seen x ≡ true → List·Memᴰ x (onward g seen p)) → 0 < x → List·Memᴰ x (seen ++ onward g seen p)
+        now x new some = go (isUnmarked seen x) refl
           where
-            go : (t : Bool) → isFresh seen x ≡ t → List·Memᴰ x (seen ++ onward g seen p)
+            go : (t : Bool) → isUnmarked seen x ≡ t → List·Memᴰ x (seen ++ onward g seen p)
             go true e = Memᴰ·append-right seen (new e)
             go false e = Memᴰ·append-left (onward g seen p) (fresh-false seen x e some)
 
-        linked : Linked g (seen ++ onward g seen p) p
+        linked : LinksSeen g (seen ++ onward g seen p) p
         linked = (now (g .left p) (f .left), now (g .right p) (f .right))
 
     pub turn-less : suc (weight n (seen ++ onward g seen p) (onward g seen p ++ stack)) ≤ weight n seen (p ∷ stack)
     turn-less = omega (arith, sizes .1)
 
   -- a root that is unmarked is marked and taken in hand
-  pub begin : {seen : List ℕ} → Going n g roots seen [] → (p : ℕ) → (0 < p → Reach g roots p) → Going n g roots (seen ++ start seen p) (start seen p)
-  begin {seen} s p reach = go (isFresh seen p) refl
+  pub begin : {seen : List ℕ} → Going n g roots seen [] → (p : ℕ) → (0 < p → Reach g roots p) → Going n g roots (seen ++ taken seen p) (taken seen p)
+  begin {seen} s p reach = go (isUnmarked seen p) refl
     where
-      go : (t : Bool) → isFresh seen p ≡ t → Going n g roots (seen ++ cond t (p ∷ []) []) (cond t (p ∷ []) [])
+      go : (t : Bool) → isUnmarked seen p ≡ t → Going n g roots (seen ++ cond t (p ∷ []) []) (cond t (p ∷ []) [])
       go false e = rw (append-nil seen) s
       go true e =
           let reached : Each (Reach g roots) (p ∷ []) = each-cons (Reach g roots) (reach (fresh-true seen p e .0)) (each-nil (Reach g roots)) in
-          let fresh : Each (λ x. isFresh seen x ≡ true) (p ∷ []) = each-cons (λ x. isFresh seen x ≡ true) e (each-nil (λ x. isFresh seen x ≡ true)) in
+          let fresh : Each (λ x. isUnmarked seen x ≡ true) (p ∷ []) = each-cons (λ x. isUnmarked seen x ≡ true) e (each-nil (λ x. isUnmarked seen x ≡ true)) in
           rw (append-nil (p ∷ [])) at
           (join [] (p ∷ []) (s .cells) (each-nil (λ x. List·Memᴰ x seen))
           (λ x mem. ⊎-elim (λ k. inl k) (λ k. inr (λ h. Memᴰ·append-left (p ∷ []) (k .0 h), λ h. Memᴰ·append-left (p ∷ []) (k .1 h))) (s .closed x mem))
@@ -165,18 +165,18 @@ module _ {n : ℕ} {g : Graph} {roots : List ℕ} (within : Within n g roots) wh
       record { ended = record { going = s; bound = omega arith; keeps = λ x mem. mem }; rooted = each-nil (λ x. 0 < x → List·Memᴰ x seen) }
   all-ended turns many (p ∷ ps) seen reach s =
       let s₁ = begin s p (reach p (List·Memᴰ·head refl)) in
-      let first = ended turns (seen ++ start seen p) (start seen p) s₁ (omega (arith, weight-most s₁)) in
-      let rest = all-ended turns many ps (run turns g (seen ++ start seen p) (start seen p) .0) (λ x mem. reach x (List·Memᴰ·tail mem)) (first .going) in
+      let first = ended turns (seen ++ taken seen p) (taken seen p) s₁ (omega (arith, weight-most s₁)) in
+      let rest = all-ended turns many ps (run turns g (seen ++ taken seen p) (taken seen p) .0) (λ x mem. reach x (List·Memᴰ·tail mem)) (first .going) in
       record {
         ended = record {
           going = rest .ended .going;
           bound = omega (arith, first .bound, rest .ended .bound);
-          keeps = λ x mem. rest .ended .keeps x (first .keeps x (Memᴰ·append-left (start seen p) mem));
+          keeps = λ x mem. rest .ended .keeps x (first .keeps x (Memᴰ·append-left (taken seen p) mem));
         };
-        rooted = each-cons _ (λ some. rest .ended .keeps p (first .keeps p (itself some (isFresh seen p) refl))) (rest .rooted);
+        rooted = each-cons _ (λ some. rest .ended .keeps p (first .keeps p (itself some (isUnmarked seen p) refl))) (rest .rooted);
       }
     where
-      itself : 0 < p → (t : Bool) → isFresh seen p ≡ t → List·Memᴰ p (seen ++ cond t (p ∷ []) [])
+      itself : 0 < p → (t : Bool) → isUnmarked seen p ≡ t → List·Memᴰ p (seen ++ cond t (p ∷ []) [])
       itself some true e = Memᴰ·append-right seen (List·Memᴰ·head refl)
       itself some false e = Memᴰ·append-left [] (fresh-false seen p e some)
 
@@ -186,19 +186,19 @@ module _ {n : ℕ} {g : Graph} {roots : List ℕ} (within : Within n g roots) wh
   all-longer turns many [] seen reach s = refl
   all-longer turns many (p ∷ ps) seen reach s =
       let s₁ = begin s p (reach p (List·Memᴰ·head refl)) in
-      let same = longer (2 * n) turns (seen ++ start seen p) (start seen p) s₁ (weight-most s₁) many in
-      let first = ended (2 * n) (seen ++ start seen p) (start seen p) s₁ (weight-most s₁) in
+      let same = longer (2 * n) turns (seen ++ taken seen p) (taken seen p) s₁ (weight-most s₁) many in
+      let first = ended (2 * n) (seen ++ taken seen p) (taken seen p) s₁ (weight-most s₁) in
       rw same
-      (ap (holding (run (2 * n) g (seen ++ start seen p) (start seen p) .1))
-      (all-longer turns many ps (run (2 * n) g (seen ++ start seen p) (start seen p) .0) (λ x mem. reach x (List·Memᴰ·tail mem)) (first .going)))
+      (ap (holding (run (2 * n) g (seen ++ taken seen p) (taken seen p) .1))
+      (all-longer turns many ps (run (2 * n) g (seen ++ taken seen p) (taken seen p) .0) (λ x mem. reach x (List·Memᴰ·tail mem)) (first .going)))
 
   pub stack-ended : AllEnded [] roots (stackRun n g roots)
   stack-ended = all-ended (2 * n) (omega arith) roots [] (λ x mem. Reach.root mem) (going-first n g roots)
 
-pub stack-ends : Stack-ends
+pub stack-ends : StackEnds
 stack-ends n g roots within turns many = all-longer within turns many roots [] (λ x mem. Reach.root mem) (going-first n g roots)
 
-pub stack-marks-the-reached : Stack-marks-the-reached
+pub stack-marks-the-reached : StackMarksTheReached
 stack-marks-the-reached n g roots within x =
     let end = stack-ended within in (
       end .ended .going .cells x,
@@ -206,5 +206,5 @@ stack-marks-the-reached n g roots within x =
           λ y mem. ⊎-elim (λ k. absurd (List·Memᴰ·not-nil k)) (λ k. k) (end .ended .going .closed y mem),
     )
 
-pub stack-bound : Stack-bound
+pub stack-bound : StackBound
 stack-bound n g roots within = stack-ended within .ended .bound

@@ -9,9 +9,9 @@ use lib.ListN.{length, getD, set, length-set}
 use lib.Dec.{leb, eqb}
 use borrow.Author.Tests.{eqb-true, leb-true}
 use Rattle.graph.specs.Graph.{Graph}
-use Rattle.graph.specs.Marking.{marked}
+use Rattle.graph.specs.Marking.{markedCount}
 use Rattle.graph.proofs.Lists.{has-member, member-has, each-nil}
-use Rattle.graph.specs.Order.{has}
+use Rattle.graph.specs.Preorder.{elem}
 use Rattle.graph.proofs.Count.{marked-le}
 use Rattle.pool.specs.Layout.{poolLength, setCell, left, right, state, graphOf, rootsOf}
 use Rattle.pool.proofs.WellFormed.{WellFormed, well-formed-read}
@@ -20,7 +20,7 @@ use Rattle.pool.proofs.PoolGraph.{pool-within}
 use Rattle.collector.specs.Reversal.{unmarked, markAll}
 use Rattle.collector.proofs.MarkAll.{length-markAll, state-markAll-same, state-markAll-other}
 use Rattle.collector.proofs.PoolMarks.{stateMarks, stateMarks-cell}
-use Rattle.stack_marker.specs.StackRun.{onwardIn, Settled, Started, runFrom, Ran}
+use Rattle.stack_marker.specs.StackRun.{onwardIn, Settled, Started, runFromCell, Ran}
 use Rattle.stack_marker.proofs.Fresh.{marked-more, Passing, passing}
 use Rattle.stack_marker.proofs.Going.{Going, weight-most, begin}
 use Rattle.stack_marker.proofs.Simulation.{entries, entries-length, entries-push, entries-pop, Running, running-length, running-cell, running-new, running-turn, running-end, running-deep, running-undone}
@@ -32,13 +32,13 @@ settled-going n {seen = seen} s =
 
 -- How many turns are left at most: two for each cell that is not marked, and one for each entry of the stack.
 abbrev pub turnsLeft : ℕ → ℕ → List ℕ → ℕ → ℕ
-turnsLeft R n words top = 2 * (n - marked n (stateMarks R n words)) + top
+turnsLeft R n words top = 2 * (n - markedCount n (stateMarks R n words)) + top
 
 -- What the loop keeps, with the stack's entries below `top` in the lent words.
 pub record Hand (R n p : ℕ) (words₀ stack₀ words stack : List ℕ) (hand top : ℕ) : Type 0 where
   pub lent : length stack ≡ length stack₀
   pub fits : top ≤ length stack₀
-  pub run : (h : Started R n p words₀) → Running R n (h .pool) (length stack₀) (runFrom R n p words₀ h) words (hand ∷ entries stack top)
+  pub run : (h : Started R n p words₀) → Running R n (h .pool) (length stack₀) (runFromCell R n p words₀ h) words (hand ∷ entries stack top)
 
 module _ (R n p : ℕ) (words₀ : List ℕ) (room : poolLength R n ≤ length words₀) where
   module _ (h : Started R n p words₀) where
@@ -77,12 +77,12 @@ module _ (R n p : ℕ) (words₀ : List ℕ) (room : poolLength R n ≤ length w
       pub hand-new : Started R n p words₀ → (x : ℕ) → List·Memᴰ x new → (0 < x) × (x ≤ n)
       hand-new h x mem = running-new R n (h .pool) (well h) (pool-room h) (s .run h) held x (rw links at mem)
 
-      turned : (h : Started R n p words₀) → Running R n (h .pool) (length stack₀) (runFrom R n p words₀ h) (markAll R words new) (new ++ entries stack top)
+      turned : (h : Started R n p words₀) → Running R n (h .pool) (length stack₀) (runFromCell R n p words₀ h) (markAll R words new) (new ++ entries stack top)
       turned h = rw links (running-turn R n (h .pool) (well h) (pool-room h) (s .run h) held)
 
     -- both links are unmarked and the lent words are full: the stack is not enough
     pub hand-full : (l r : ℕ) → l ∷ r ∷ [] ≡ onwardIn R words hand → length stack ≤ top → (h : Started R n p words₀)
-        → Ran R n (length stack₀) (h .pool) words (runFrom R n p words₀ h) false
+        → Ran R n (length stack₀) (h .pool) words (runFromCell R n p words₀ h) false
     hand-full l r links full h =
         record {
           answer =
@@ -117,7 +117,7 @@ module _ (R n p : ℕ) (words₀ : List ℕ) (room : poolLength R n ≤ length w
           run = λ h. rw (entries-pop stack top (omega (arith, some))) at (turned [] links h);
         }
 
-    pub hand-last : [] ≡ onwardIn R words hand → top ≡ 0 → (h : Started R n p words₀) → Ran R n (length stack₀) (h .pool) words (runFrom R n p words₀ h) true
+    pub hand-last : [] ≡ onwardIn R words hand → top ≡ 0 → (h : Started R n p words₀) → Ran R n (length stack₀) (h .pool) words (runFromCell R n p words₀ h) true
     unfolding markAll entries
     hand-last links none h =
         let end = running-end R n (h .pool) (well h) (pool-room h) (rw none at (turned [] links h)) in
@@ -126,7 +126,7 @@ module _ (R n p : ℕ) (words₀ : List ℕ) (room : poolLength R n ≤ length w
     -- a turn leaves fewer
     module _ (h : Started R n p words₀) where
       spent-more : (new : List ℕ) → new ≡ onwardIn R words hand → (x : ℕ) → List·Memᴰ x new
-          → suc (marked n (stateMarks R n words)) ≤ marked n (stateMarks R n (markAll R words new))
+          → suc (markedCount n (stateMarks R n words)) ≤ markedCount n (stateMarks R n (markAll R words new))
       spent-more new links x mem =
           let facts : Passing (unmarked R words) (left R words hand) (right R words hand) new =
           rw links (passing (unmarked R words) (left R words hand) (right R words hand)) in
@@ -142,9 +142,9 @@ module _ (R n p : ℕ) (words₀ : List ℕ) (room : poolLength R n ≤ length w
           three y low high k = state-markAll-same R y low new positive k words (omega (arith, hand-cell h .4))
 
           keeps : (y : ℕ) → 0 < stateMarks R n words y → 0 < stateMarks R n (markAll R words new) y
-          keeps y = go (leb 1 y && leb y n) refl (has y new) refl
+          keeps y = go (leb 1 y && leb y n) refl (elem y new) refl
             where
-              go : (t : Bool) → (leb 1 y && leb y n) ≡ t → (b : Bool) → has y new ≡ b → 0 < cond t (state R words y) 1
+              go : (t : Bool) → (leb 1 y && leb y n) ≡ t → (b : Bool) → elem y new ≡ b → 0 < cond t (state R words y) 1
                   → 0 < cond t (state R (markAll R words new) y) 1
               go false e b k above = above
               go true e true k above =

@@ -7,7 +7,7 @@ use mathlib.Core.List.{List, List·Memᴰ}
 use mathlib.Core.Bool.{Bool, true, false, true≢false}
 use lib.ListN.{length, getD}
 use lib.Seq.{ext-getD}
-use Rattle.graph.specs.Order.{has}
+use Rattle.graph.specs.Preorder.{elem}
 use Rattle.graph.proofs.Lists.{has-member, member-has}
 use Rattle.pool.specs.Layout.{poolLength, cell}
 use Rattle.pool.proofs.Retained.{Place, place}
@@ -24,7 +24,7 @@ markAll-members R n w t u room cells same =
     cells-u : (x : ℕ) → List·Memᴰ x u → (0 < x) × (x ≤ n)
     cells-u x mem = cells x (same x .1 mem)
 
-    field : (i f : ℕ) → 0 < i → i ≤ n → f < 4 → (b : Bool) → has i t ≡ b → cell R (markAll R w t) i f ≡ cell R (markAll R w u) i f
+    field : (i f : ℕ) → 0 < i → i ≤ n → f < 4 → (b : Bool) → elem i t ≡ b → cell R (markAll R w t) i f ≡ cell R (markAll R w u) i f
     field i zero low high hf true e =
         let mem = member-has i t e in
         state-markAll-same R i low t (λ x m. cells x m .0) mem w (omega arith)
@@ -42,4 +42,4 @@ markAll-members R n w t u room cells same =
         markAll-elsewhere R n t w k cells (λ j f low high hf e'. omega arith)
         ∙ sym (markAll-elsewhere R n u w k cells-u (λ j f low high hf e'. omega arith))
     at k (Place.stays other away test) = markAll-elsewhere R n t w k cells away ∙ sym (markAll-elsewhere R n u w k cells-u away)
-    at k (Place.field i f low high hf e) = rw e (field i f low high hf (has i t) refl)
+    at k (Place.field i f low high hf e) = rw e (field i f low high hf (elem i t) refl)

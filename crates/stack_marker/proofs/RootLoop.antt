@@ -18,8 +18,8 @@ use Rattle.pool.proofs.WellFormed.{WellFormed, well-formed-read}
 use Rattle.pool.proofs.PoolGraph.{pool-within}
 use Rattle.collector.specs.Reversal.{unmarked, markAll}
 use Rattle.collector.proofs.MarkAll.{markAll-append, length-markAll, register-markAll}
-use Rattle.stack_marker.specs.Stack.{isFresh, run, start, runs, holding}
-use Rattle.stack_marker.specs.StackRun.{Settled, Started, runFrom, poolRun, Ran}
+use Rattle.stack_marker.specs.Stack.{isUnmarked, run, taken, runs, holding}
+use Rattle.stack_marker.specs.StackRun.{Settled, Started, runFromCell, poolRun, Ran}
 use Rattle.stack_marker.proofs.Fresh.{fresh-true}
 use Rattle.stack_marker.proofs.Going.{Going, going-first, begin, weight-most, ended}
 use Rattle.stack_marker.proofs.Simulation.{test, leb-max}
@@ -92,11 +92,11 @@ module _ (R n : ℕ) (pool : List ℕ) (well : wellFormed R n pool ≡ true) (ro
     from : drop k (rootsOf R pool) ≡ p ∷ drop (k + 1) (rootsOf R pool)
     from = drop-cons (rootsOf R pool) k 0 (omega (arith, roots-length)) ∙ rw (getD-tabulate R (λ j. register pool j) k 0 here, ← add-one k, this)
 
-    tested : unmarked R w p ≡ isFresh (s .seen) p
+    tested : unmarked R w p ≡ isUnmarked (s .seen) p
     tested = ap (λ (x : List ℕ). unmarked R x p) (s .words) ∙ test R n pool facts room (s .seen) (s .settled .cells) p reach
 
     -- the run from this register, which leads to `first`, and those from the others
-    module _ (first : List ℕ × ℕ) (made : run (2 * n) (graphOf R pool) (s .seen ++ start (s .seen) p) (start (s .seen) p) ≡ first) where
+    module _ (first : List ℕ × ℕ) (made : run (2 * n) (graphOf R pool) (s .seen ++ taken (s .seen) p) (taken (s .seen) p) ≡ first) where
       apart : runs (2 * n) (graphOf R pool) (s .seen) (drop k (rootsOf R pool))
           ≡ holding (first .1) (runs (2 * n) (graphOf R pool) (first .0) (drop (k + 1) (rootsOf R pool)))
       unfolding runs
@@ -125,12 +125,12 @@ module _ (R n : ℕ) (pool : List ℕ) (well : wellFormed R n pool ≡ true) (ro
     -- the link is marked: nothing is done
     pub registers-skip : unmarked R w p ≡ false → Registers R n pool stack₀ w stack (k + 1)
     registers-skip e =
-        let marked : isFresh (s .seen) p ≡ false = sym tested ∙ e in
+        let marked : isUnmarked (s .seen) p ≡ false = sym tested ∙ e in
         next (s .seen, 0) (rw (marked, append-nil (s .seen)) (run-none (2 * n) (graphOf R pool) (s .seen))) w stack (s .words) (s .lent) (s .settled)
         (omega arith)
 
     module _ (e : unmarked R w p ≡ true) where
-      fresh : isFresh (s .seen) p ≡ true
+      fresh : isUnmarked (s .seen) p ≡ true
       fresh = sym tested ∙ e
 
       pub registers-cell : 0 < p
@@ -154,7 +154,7 @@ module _ (R n : ℕ) (pool : List ℕ) (well : wellFormed R n pool ≡ true) (ro
         abbrev first : List ℕ × ℕ
         first = run (2 * n) (graphOf R pool) (s .seen ++ p ∷ []) (p ∷ [])
 
-        made : run (2 * n) (graphOf R pool) (s .seen ++ start (s .seen) p) (start (s .seen) p) ≡ first
+        made : run (2 * n) (graphOf R pool) (s .seen ++ taken (s .seen) p) (taken (s .seen) p) ≡ first
         made = rw fresh
 
         settled : Settled (graphOf R pool) (rootsOf R pool) (first .0)
@@ -163,7 +163,7 @@ module _ (R n : ℕ) (pool : List ℕ) (well : wellFormed R n pool ≡ true) (ro
             going-settled (ended (pool-within facts) (2 * n) (s .seen ++ p ∷ []) (p ∷ []) going (weight-most going) .going)
 
         module _ (w' : List ℕ) (enough : Bool)
-            (ran : (h : Started R n p w₁) → Ran R n (length stack) (h .pool) w' (runFrom R n p w₁ h) enough) where
+            (ran : (h : Started R n p w₁) → Ran R n (length stack) (h .pool) w' (runFromCell R n p w₁ h) enough) where
           ran-first : Ran R n (length stack) pool w' first enough
           unfolding registers-start
           ran-first = ran registers-start

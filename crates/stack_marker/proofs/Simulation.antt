@@ -10,7 +10,7 @@ use lib.Seq.{getD-set-same, getD-set-other}
 use lib.Dec.{leb}
 use borrow.Author.Tests.{le-leb, lt-leb, leb-true, leb-false, ne-eqb}
 use Rattle.graph.specs.Graph.{Reach, Within}
-use Rattle.graph.specs.Order.{has}
+use Rattle.graph.specs.Preorder.{elem}
 use Rattle.graph.proofs.Lists.{Each, has-member, member-has}
 use Rattle.graph.proofs.Reached.{reach-above, reach-within}
 use Rattle.pool.specs.Layout.{poolLength, cell, left, right, state, graphOf, rootsOf}
@@ -18,7 +18,7 @@ use Rattle.pool.proofs.WellFormed.{WellFormed}
 use Rattle.pool.proofs.PoolGraph.{Used, reached-used, pool-within}
 use Rattle.collector.specs.Reversal.{unmarked, markAll}
 use Rattle.collector.proofs.MarkAll.{markAll-append, length-markAll, field-markAll, state-markAll-same, state-markAll-other}
-use Rattle.stack_marker.specs.Stack.{isFresh, unmarkedLinks, onward, run}
+use Rattle.stack_marker.specs.Stack.{isUnmarked, unmarkedLinks, onward, run}
 use Rattle.stack_marker.specs.StackCollect.{cleared}
 use Rattle.stack_marker.specs.StackRun.{onwardIn}
 use Rattle.stack_marker.proofs.Fresh.{member-fresh, other-fresh}
@@ -80,9 +80,9 @@ module _ (R n : ℕ) (pool : List ℕ) (well : WellFormed R n pool) (room : pool
   within = pool-within well
 
   -- the test of a link in the words tells whether it is marked
-  pub test : (seen : List ℕ) → Each (Reach (graphOf R pool) (rootsOf R pool)) seen → (x : ℕ) → (0 < x → Reach (graphOf R pool) (rootsOf R pool) x) → unmarked R (markAll R pool seen) x ≡ isFresh seen x
+  pub test : (seen : List ℕ) → Each (Reach (graphOf R pool) (rootsOf R pool)) seen → (x : ℕ) → (0 < x → Reach (graphOf R pool) (rootsOf R pool) x) → unmarked R (markAll R pool seen) x ≡ isUnmarked seen x
   test seen cells zero reach = refl
-  test seen cells (suc x) reach = go (has (suc x) seen) refl
+  test seen cells (suc x) reach = go (elem (suc x) seen) refl
     where
       positive : (y : ℕ) → List·Memᴰ y seen → 0 < y
       positive y mem = reach-above (cells y mem)
@@ -90,7 +90,7 @@ module _ (R n : ℕ) (pool : List ℕ) (well : WellFormed R n pool) (room : pool
       used : Used R n pool (suc x)
       used = reached-used well (reach (omega arith))
 
-      go : (t : Bool) → has (suc x) seen ≡ t → unmarked R (markAll R pool seen) (suc x) ≡ isFresh seen (suc x)
+      go : (t : Bool) → elem (suc x) seen ≡ t → unmarked R (markAll R pool seen) (suc x) ≡ isUnmarked seen (suc x)
       go true e =
           let mem = member-has (suc x) seen e in
           let three = state-markAll-same R (suc x) (omega arith) seen positive mem pool (omega (arith, used .bounded)) in

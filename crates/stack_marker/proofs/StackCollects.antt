@@ -8,10 +8,10 @@ use lib.ListN.{length}
 use lib.Dec.{leb}
 use borrow.Author.Tests.{lt-ltb, leb-true, leb-false}
 use Rattle.pool.specs.Layout.{registerCount, graphOf, rootsOf}
-use Rattle.collector.specs.Collect.{keptCells, collected}
-use Rattle.stack_marker.specs.Stack.{mostEntries}
+use Rattle.collector.specs.Collect.{reachedCount, collected}
+use Rattle.stack_marker.specs.Stack.{maxEntries}
 use Rattle.stack_marker.specs.StackCollect.{isEnough}
-use Rattle.stack_marker.specs.StackTheorem.{Stack-collects}
+use Rattle.stack_marker.specs.StackTheorem.{StackCollects}
 
 -- 1 where the first is at most the second, 0 where not
 yes-or-no : (a b : ℕ) → ((a ≤ b) ↔ (_≡_ {A = ℕ} (cond (leb a b) 1 0) 1)) × ((b < a) ↔ (_≡_ {A = ℕ} (cond (leb a b) 1 0) 0))
@@ -21,11 +21,11 @@ yes-or-no a b = go (leb a b) refl
     go true e = let h = leb-true a b e in ((λ k. refl, λ k. h), (λ k. absurd (omega arith), λ k. absurd (omega arith)))
     go false e = let h = leb-false a b e in ((λ k. absurd (omega arith), λ k. absurd (omega arith)), (λ k. refl, λ k. h))
 
-pub stack-collects : Stack-collects
+pub stack-collects : StackCollects
 stack-collects n w stack some cells well =
-    let (enough, short) = yes-or-no (mostEntries n (graphOf registerCount w) (rootsOf registerCount w)) (length stack) in (
-      keptCells registerCount n w,
-      3 * keptCells registerCount n w,
+    let (enough, short) = yes-or-no (maxEntries n (graphOf registerCount w) (rootsOf registerCount w)) (length stack) in (
+      reachedCount registerCount n w,
+      3 * reachedCount registerCount n w,
       cond (isEnough n w stack) 1 0,
       collected registerCount n w,
       rw cells (simp (lt-ltb 0 n some, well)),

@@ -4,7 +4,7 @@ use mathlib.Core.Path.{_≡_, sym, ap, _∙_}
 use mathlib.Core.List.{List, [], _∷_}
 use mathlib.Core.Bool.{Bool, true, false, cond}
 use lib.ListN.{length, replicate}
-use Rattle.graph.proofs.Theorems.{order-reached}
+use Rattle.graph.proofs.Theorems.{preorder-reached}
 use Rattle.graph.proofs.Reached.{reach-above, reach-within}
 use Rattle.pool.specs.Layout.{registerCount, poolLength, graphOf, rootsOf}
 use Rattle.pool.specs.Validity.{wellFormed}
@@ -13,7 +13,7 @@ use Rattle.answers.specs.Outcome.{Outcome, answered}
 use Rattle.pool.proofs.WellFormed.{well-formed-read}
 use Rattle.pool.proofs.PoolGraph.{pool-within}
 use Rattle.collector.specs.ReversalTheorem.{markedOf}
-use Rattle.collector.specs.Collect.{reachedCells, keptCells, collected}
+use Rattle.collector.specs.Collect.{reachedCells, reachedCount, collected}
 use Rattle.collector.proofs.MarkSweep.{swept-reached}
 use Rattle.stack_marker.specs.StackCollect.{isEnough, stackIn, cleared}
 use Rattle.stack_marker.specs.StackRun.{poolRun, Ran}
@@ -29,7 +29,7 @@ module _ (n : ℕ) (w stack w' : List ℕ) (well : wellFormed registerCount n w 
       let roots = rootsOf registerCount w in
       let within = pool-within (well-formed-read registerCount n w well) in
       let same = stack-marks-the-reached n g roots within in
-      let order = order-reached n g roots within in (
+      let order = preorder-reached n g roots within in (
         sym e ∙ ran .answer,
         ran .marked e
             ∙ markAll-members registerCount n w (poolRun registerCount n w .0) (reachedCells registerCount n w) room
@@ -50,6 +50,6 @@ pub stack-made : (n : ℕ) (w stack w₁ stack₁ w₂ stack₂ : List ℕ) (eno
     → _≡_ {A = ℕ × List ℕ} (kept, w₂) (sweepOf registerCount n w₁) → stack₂ ≡ replicate (length stack₁) 0
     → {flag : ℕ} → flag ≡ cond enough 1 0 → _≡_ {A = Outcome × List ℕ × List ℕ} (answered (kept ∷ flag ∷ []), w₂, stack₂) (stackIn n w stack)
 stack-made n w stack w₁ stack₁ w₂ stack₂ enough kept well room mark lent sweep clear said =
-    let swept : _≡_ {A = ℕ × List ℕ} (kept, w₂) (keptCells registerCount n w, collected registerCount n w) =
+    let swept : _≡_ {A = ℕ × List ℕ} (kept, w₂) (reachedCount registerCount n w, collected registerCount n w) =
     sweep ∙ (ap (sweepOf registerCount n) (mark .1) ∙ swept-reached registerCount n w (well-formed-read registerCount n w well) room) in
     rw (well, said, mark .0, clear, lent) (ap (λ (x : ℕ × List ℕ). (answered (x .0 ∷ cond (isEnough n w stack) 1 0 ∷ []), x .1, replicate (length stack) 0)) swept)

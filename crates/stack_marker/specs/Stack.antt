@@ -5,11 +5,11 @@ use mathlib.Core.Bool.{Bool, true, false, cond, _||_, not}
 use lib.ListN.{length}
 use lib.Dec.{eqb}
 use Rattle.graph.specs.Graph.{Graph}
-use Rattle.graph.specs.Order.{has}
+use Rattle.graph.specs.Preorder.{elem}
 
 -- Is the link a cell that is not marked, where `seen` are the marked ones? Nil counts as marked.
-abbrev pub isFresh : List ℕ → ℕ → Bool
-isFresh seen x = not (eqb x 0 || has x seen)
+abbrev pub isUnmarked : List ℕ → ℕ → Bool
+isUnmarked seen x = not (eqb x 0 || elem x seen)
 
 -- "Look at both links": those of the left link l and the right link r that are unmarked, by whether each is. "Two equal unmarked links are both
 -- unmarked."
@@ -20,7 +20,7 @@ unmarkedLinks false true l r = r ∷ []
 unmarkedLinks false false l r = []
 
 abbrev pub onward : Graph → List ℕ → ℕ → List ℕ
-onward g seen p = unmarkedLinks (isFresh seen (g .left p)) (isFresh seen (g .right p)) (g .left p) (g .right p)
+onward g seen p = unmarkedLinks (isUnmarked seen (g .left p)) (isUnmarked seen (g .right p)) (g .left p) (g .right p)
 
 -- The cells marked at the end, and the most entries that the stack ever held, `held` among them.
 abbrev pub holding : ℕ → List ℕ × ℕ → List ℕ × ℕ
@@ -35,14 +35,14 @@ run (suc turns) g seen [] = (seen, 0)
 run (suc turns) g seen (p ∷ stack) = holding (length stack) (run turns g (seen ++ onward g seen p) (onward g seen p ++ stack))
 
 -- "a cell not already marked is marked and taken in hand"
-abbrev pub start : List ℕ → ℕ → List ℕ
-start seen p = cond (isFresh seen p) (p ∷ []) []
+abbrev pub taken : List ℕ → ℕ → List ℕ
+taken seen p = cond (isUnmarked seen p) (p ∷ []) []
 
 -- "per register in order"
 unfoldable pub runs : ℕ → Graph → List ℕ → List ℕ → List ℕ × ℕ
 runs turns g seen [] = (seen, 0)
 runs turns g seen (p ∷ ps) =
-    let first = run turns g (seen ++ start seen p) (start seen p) in
+    let first = run turns g (seen ++ taken seen p) (taken seen p) in
     holding (first .1) (runs turns g (first .0) ps)
 
 -- The marker on a graph of n cells: a cell is taken in hand twice at most, where it is both links of another.
@@ -53,5 +53,5 @@ stackRun n g roots = runs (2 * n) g [] roots
 abbrev pub stackMarked : ℕ → Graph → List ℕ → List ℕ
 stackMarked n g roots = stackRun n g roots .0
 
-abbrev pub mostEntries : ℕ → Graph → List ℕ → ℕ
-mostEntries n g roots = stackRun n g roots .1
+abbrev pub maxEntries : ℕ → Graph → List ℕ → ℕ
+maxEntries n g roots = stackRun n g roots .1

@@ -7,20 +7,20 @@ use lib.Dec.{leb}
 use Rattle.pool.specs.Layout.{registerCount, setCell, graphOf, rootsOf}
 use Rattle.pool.specs.Validity.{wellFormed}
 use Rattle.pool.specs.Calls.{sizedOf, admittedTo}
-use Rattle.pool.specs.Retain.{marked}
+use Rattle.pool.specs.Retain.{isMarked}
 use Rattle.answers.specs.Outcome.{Outcome, answered, refused}
-use Rattle.collector.specs.Collect.{keptCells, collected}
-use Rattle.stack_marker.specs.Stack.{mostEntries}
+use Rattle.collector.specs.Collect.{reachedCount, collected}
+use Rattle.stack_marker.specs.Stack.{maxEntries}
 
 -- "whether the stack was enough, yes exactly when Algorithm 2 never holds more entries than there are words"
 abbrev pub isEnough : ℕ → List ℕ → List ℕ → Bool
-isEnough n w stack = leb (mostEntries n (graphOf registerCount w) (rootsOf registerCount w)) (length stack)
+isEnough n w stack = leb (maxEntries n (graphOf registerCount w) (rootsOf registerCount w)) (length stack)
 
 -- A pool of n cells: "is the pool whole? .. No: 3". "Answers: kept, and whether the stack was enough", 1 for yes and 0 for no. "The pool ends as after collect; the stack words end 0."
 abbrev pub stackIn : ℕ → List ℕ → List ℕ → Outcome × List ℕ × List ℕ
 stackIn n w stack =
     cond (wellFormed registerCount n w)
-    (answered (keptCells registerCount n w ∷ cond (isEnough n w stack) 1 0 ∷ []), collected registerCount n w, replicate (length stack) 0)
+    (answered (reachedCount registerCount n w ∷ cond (isEnough n w stack) 1 0 ∷ []), collected registerCount n w, replicate (length stack) 0)
     (refused 3, w, stack)
 
 -- The call: the first question, then the collection. A refusal leaves pool and stack as they were.
@@ -30,4 +30,4 @@ stackOf w stack = admittedTo (λ n. stackIn n w stack) (λ k. (refused k, w, sta
 -- "marks are cleared": every one of the cells i to 1 that has state 3 becomes used.
 unfoldable pub cleared : ℕ → ℕ → List ℕ → List ℕ
 cleared R zero w = w
-cleared R (suc i) w = cleared R i (cond (marked R w (suc i)) (setCell R w (suc i) 0 0) w)
+cleared R (suc i) w = cleared R i (cond (isMarked R w (suc i)) (setCell R w (suc i) 0 0) w)

@@ -11,6 +11,6 @@ abbrev pub leafPool : List ℕ
 leafPool = 2 ∷ 0 ∷ 1 ∷ (replicate 15 0 ++ 0 ∷ 2 ∷ 2 ∷ 7 ∷ 0 ∷ 0 ∷ 0 ∷ 8 ∷ [])
 
 -- "A cell with both links to one leaf: one stack word is enough, none is not." Both cells are kept, the pool is as it was, and the stack word ends 0.
-abbrev pub Leaf-example : Type 0
-Leaf-example =
+abbrev pub LeafExample : Type 0
+LeafExample =
     (stackOf leafPool (9 ∷ []) ≡ (answered (2 ∷ 1 ∷ []), leafPool, 0 ∷ [])) × (stackOf leafPool [] ≡ (answered (2 ∷ 0 ∷ []), leafPool, []))

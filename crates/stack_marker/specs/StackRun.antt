@@ -8,7 +8,7 @@ use Rattle.graph.specs.Graph.{Graph, Reach}
 use Rattle.pool.specs.Layout.{left, right, graphOf, rootsOf}
 use Rattle.pool.specs.Validity.{wellFormed}
 use Rattle.collector.specs.Reversal.{unmarked, markAll}
-use Rattle.stack_marker.specs.Stack.{isFresh, unmarkedLinks, run, stackRun}
+use Rattle.stack_marker.specs.Stack.{isUnmarked, unmarkedLinks, run, stackRun}
 use Rattle.stack_marker.specs.StackCollect.{cleared}
 use Rattle.stack_marker.specs.declared.Onward.{Onward}
 use Rattle.stack_marker.specs.declared.Onward.the-variants as onward
@@ -24,13 +24,13 @@ abbrev pub onwardIn : ℕ → List ℕ → ℕ → List ℕ
 onwardIn R w p = unmarkedLinks (unmarked R w (left R w p)) (unmarked R w (right R w p)) (left R w p) (right R w p)
 
 -- The links of a cell are nil or marked.
-abbrev pub Linked : Graph → List ℕ → ℕ → Type 0
-Linked g seen x = (0 < g .left x → List·Memᴰ (g .left x) seen) × (0 < g .right x → List·Memᴰ (g .right x) seen)
+abbrev pub LinksSeen : Graph → List ℕ → ℕ → Type 0
+LinksSeen g seen x = (0 < g .left x → List·Memᴰ (g .left x) seen) × (0 < g .right x → List·Memᴰ (g .right x) seen)
 
 -- Between the runs from two registers: what is marked is reached, and its links are nil or marked.
 pub record Settled (g : Graph) (roots seen : List ℕ) : Type 0 where
   pub cells : (x : ℕ) → List·Memᴰ x seen → Reach g roots x
-  pub closed : (x : ℕ) → List·Memᴰ x seen → Linked g seen x
+  pub closed : (x : ℕ) → List·Memᴰ x seen → LinksSeen g seen x
 
 -- What a run from the cell p may rely on: the words w are those of a well-formed pool of n cells in which some cells are marked, and then p, a cell
 -- that is reached and was not marked.
@@ -41,11 +41,11 @@ pub record Started (R n p : ℕ) (w : List ℕ) : Type 0 where
   pub words : w ≡ markAll R pool (seen ++ p ∷ [])
   pub settled : Settled (graphOf R pool) (rootsOf R pool) seen
   pub reached : Reach (graphOf R pool) (rootsOf R pool) p
-  pub fresh : isFresh seen p ≡ true
+  pub fresh : isUnmarked seen p ≡ true
 
 -- The run from p with an unlimited stack.
-abbrev pub runFrom : (R n p : ℕ) (w : List ℕ) → Started R n p w → List ℕ × ℕ
-runFrom R n p w h = run (2 * n) (graphOf R (h .pool)) (h .seen ++ p ∷ []) (p ∷ [])
+abbrev pub runFromCell : (R n p : ℕ) (w : List ℕ) → Started R n p w → List ℕ × ℕ
+runFromCell R n p w h = run (2 * n) (graphOf R (h .pool)) (h .seen ++ p ∷ []) (p ∷ [])
 
 -- The run from the registers of a pool, with an unlimited stack.
 abbrev pub poolRun : ℕ → ℕ → List ℕ → List ℕ × ℕ

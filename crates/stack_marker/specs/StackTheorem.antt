@@ -7,11 +7,11 @@ use mathlib.Core.Bool.{Bool, true, false, cond}
 use lib.ListN.{length, replicate}
 use lib.Dec.{ltb}
 use Rattle.graph.specs.Graph.{Graph, Reach, Within}
-use Rattle.pool.specs.Layout.{registerCount, cellsOf, graphOf, rootsOf}
+use Rattle.pool.specs.Layout.{registerCount, cellCount, graphOf, rootsOf}
 use Rattle.pool.specs.Validity.{wellFormed}
 use Rattle.answers.specs.Outcome.{answered}
 use Rattle.collector.specs.Collect.{collectOf}
-use Rattle.stack_marker.specs.Stack.{isFresh, holding, run, runs, stackRun, stackMarked, mostEntries}
+use Rattle.stack_marker.specs.Stack.{isUnmarked, holding, run, runs, stackRun, stackMarked, maxEntries}
 use Rattle.stack_marker.specs.StackCollect.{stackOf}
 
 -- The four cases of 01, for the cell p in hand with the stack behind it, by whether its left link l and its right link r are unmarked.
@@ -28,41 +28,41 @@ pub record FourCases (turns : ℕ) (g : Graph) (seen : List ℕ) (p : ℕ) (stac
       → run (suc turns) g seen (p ∷ stack) ≡ holding (length stack) (run turns g (seen ++ l ∷ r ∷ []) (l ∷ r ∷ stack))
 
 -- A turn of the marker is one of the four; it has come to its end where nothing is in hand.
-abbrev pub Stack-cases : Type 0
-Stack-cases =
+abbrev pub StackCases : Type 0
+StackCases =
     (turns : ℕ) (g : Graph) (seen : List ℕ)
     → (run turns g seen [] ≡ (seen, 0))
     × ((p : ℕ) (stack : List ℕ)
-    → FourCases turns g seen p stack (g .left p) (g .right p) (isFresh seen (g .left p)) (isFresh seen (g .right p)))
+    → FourCases turns g seen p stack (g .left p) (g .right p) (isUnmarked seen (g .left p)) (isUnmarked seen (g .right p)))
 
 -- The marker ends: with more turns than it has it does the same.
-abbrev pub Stack-ends : Type 0
-Stack-ends =
+abbrev pub StackEnds : Type 0
+StackEnds =
     (n : ℕ) (g : Graph) (roots : List ℕ) → Within n g roots → (turns : ℕ) → 2 * n ≤ turns → runs turns g [] roots ≡ stackRun n g roots
 
 -- It marks exactly the cells that the roots reach.
-abbrev pub Stack-marks-the-reached : Type 0
-Stack-marks-the-reached =
+abbrev pub StackMarksTheReached : Type 0
+StackMarksTheReached =
     (n : ℕ) (g : Graph) (roots : List ℕ) → Within n g roots → (x : ℕ) → List·Memᴰ x (stackMarked n g roots) ↔ Reach g roots x
 
 -- No graph of n cells ever needs more than n - 1 entries.
-abbrev pub Stack-bound : Type 0
-Stack-bound = (n : ℕ) (g : Graph) (roots : List ℕ) → Within n g roots → mostEntries n g roots ≤ n - 1
+abbrev pub StackBound : Type 0
+StackBound = (n : ℕ) (g : Graph) (roots : List ℕ) → Within n g roots → maxEntries n g roots ≤ n - 1
 
 -- A chain of n cells with equal links: both links of each cell lead to the next one, and those of the last are nil.
 abbrev pub chain : ℕ → Graph
 chain n = record { left = λ x. cond (ltb x n) (suc x) 0; right = λ x. cond (ltb x n) (suc x) 0 }
 
 -- "a chain with equal links needs N − 1 words"
-abbrev pub Chain-needs : Type 0
-Chain-needs = (n : ℕ) → 1 ≤ n → mostEntries n (chain n) (1 ∷ []) ≡ n - 1
+abbrev pub ChainNeeds : Type 0
+ChainNeeds = (n : ℕ) → 1 ≤ n → maxEntries n (chain n) (1 ∷ []) ≡ n - 1
 
 -- Of a collection with a lent stack: "The pool ends as after collect; the stack words end 0." It answers what collect kept, and whether the stack was
 -- enough, 1 for yes and 0 for no: "yes exactly when Algorithm 2 never holds more entries than there are words".
-abbrev pub Stack-collects : Type 0
-Stack-collects =
-    (n : ℕ) (w stack : List ℕ) → 0 < n → cellsOf registerCount w ≡ n → wellFormed registerCount n w ≡ true
-    → let most = mostEntries n (graphOf registerCount w) (rootsOf registerCount w) in
+abbrev pub StackCollects : Type 0
+StackCollects =
+    (n : ℕ) (w stack : List ℕ) → 0 < n → cellCount registerCount w ≡ n → wellFormed registerCount n w ≡ true
+    → let most = maxEntries n (graphOf registerCount w) (rootsOf registerCount w) in
     (kept visits enough : ℕ) × (w' : List ℕ)
     × (collectOf w ≡ (answered (kept ∷ visits ∷ []), w'))
     × (stackOf w stack ≡ (answered (kept ∷ enough ∷ []), w', replicate (length stack) 0))

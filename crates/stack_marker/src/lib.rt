@@ -12,7 +12,7 @@ ghost use Rattle.pool.specs.Validity.{wellFormed};
 ghost use Rattle.collector.specs.ReversalTheorem.{markedOf};
 ghost use Rattle.answers.specs.Outcome.{answerOutcome};
 ghost use Rattle.stack_marker.specs.StackCollect.{isEnough, stackIn, stackOf, cleared};
-ghost use Rattle.stack_marker.specs.StackRun.{linksOf, onwardIn, Started, runFrom, poolRun, Ran};
+ghost use Rattle.stack_marker.specs.StackRun.{linksOf, onwardIn, Started, runFromCell, poolRun, Ran};
 
 // Where the marker goes on to from a cell: with both links unmarked it goes to the left one and pushes the right one.
 enum Onward {
@@ -46,7 +46,7 @@ fn look(words: &[u32], n: u32, p: u32) -> Onward
 fn mark_from(words: &mut [u32], n: u32, stack: &mut [u32], p: u32) -> bool
     requires { ⌜ Started registerCount n p (now words) ⌝ }
     requires { ⌜ poolLength registerCount n ≤ length (now words) ⌝ }
-    ensures { λ r. ⌜ ((h : Started registerCount n p (now (words .entry))) → Ran registerCount n (length (now (stack .entry))) (h .pool) (now (words .exit)) (runFrom registerCount n p (now (words .entry)) h) r) ⌝ }
+    ensures { λ r. ⌜ ((h : Started registerCount n p (now (words .entry))) → Ran registerCount n (length (now (stack .entry))) (h .pool) (now (words .exit)) (runFromCell registerCount n p (now (words .entry)) h) r) ⌝ }
 {
     let mut hand = p;
     let mut top = 0;

@@ -6,8 +6,8 @@ use lib.ListN.{replicate}
 use Rattle.leb128.proofs.Theorems.{round-trip, fewest-groups, reads-within, prefix-free, one-to-one, one-to-five-bytes}
 use Rattle.graph.specs.Dfs.{marks}
 use Rattle.graph.specs.Marking.{outside}
-use Rattle.graph.proofs.Theorems.{order-reached, order-distinct, order-length, order-depth, order-agree, marked-reached, marked-count}
-use Rattle.graph.proofs.Pairing.{length-paired, order-paired, pairing-kept}
+use Rattle.graph.proofs.Theorems.{preorder-reached, preorder-distinct, preorder-length, preorder-depth, preorder-agree, marked-reached, marked-count}
+use Rattle.graph.proofs.Pairing.{length-paired, preorder-paired, pairing-kept}
 use Rattle.graph.proofs.Reached.{reach-agree}
 use Rattle.pool.specs.Layout.{registerCount}
 use Rattle.answers.specs.Outcome.{answered}
@@ -33,9 +33,9 @@ use Rattle.script.specs.declared.Line.the-variants as line
 use Rattle.script.specs.Reader.{newReader}
 use Rattle.script.proofs.Scanning.{parts-read}
 use Rattle.replies.proofs.Decimals.{decimals-read-back, fewest-digits}
-use Rattle.interpreter.specs.Work.{start}
+use Rattle.interpreter.specs.Work.{initial}
 use Rattle.interpreter.proofs.Whole.{starts-whole, parts-join, last-line-ends}
-use Rattle.worked_examples.specs.Instances.{three, threeCollected, two, graph, roots, Swapped, image, numbers, words, scratch, output, calls, list, out, padded, lines, progress, largest}
+use Rattle.worked_examples.specs.Instances.{three, threeCollected, two, graph, roots, Swapped, image, numbers, words, scratch, output, calls, list, lent, out, padded, lines, progress, largest}
 use Rattle.worked_examples.proofs.Instances.{pool-instance, reversal-instance, graph-instance, number-instance, image-instance, batch-instance, script-instance}
 
 pub applied : Unit {0}
@@ -52,24 +52,24 @@ applied =
     let t = stack-collects 3 three (9 ∷ []) (p .some) (p .cells) (p .well-formed) in
     let t = run-over-pool registerCount 3 three (p .room) (p .well-formed) in
     let t = retained-free-list registerCount 3 (isReached registerCount 3 three) three (p .some) (p .room) in
-    let t = fresh-is-well-formed 3 (p .some) (p .most) in
-    let t = fresh-is-free 3 (p .some) in
-    let t = equivalence 3 2 calls (p .some) (p .most) in
-    let t = equivalence-at-limit 3 calls (p .some) (p .most) in
-    let t = reached-pools 3 calls (p .some) (p .most) in
+    let t = fresh-is-well-formed 3 lent (p .some) (p .most) (b .exact) in
+    let t = fresh-is-free 3 lent (p .some) (omega arith) in
+    let t = equivalence 3 2 lent calls (p .some) (p .most) (b .exact) in
+    let t = equivalence-at-limit 3 lent calls (p .some) (p .most) (b .exact) in
+    let t = reached-pools 3 lent calls (p .some) (p .most) (b .exact) in
     let t = chain-needs 3 (p .some) in
     let t = run-from-link registerCount 3 (graph three) (outside 3) 1 (1 ∷ 2 ∷ []) three (r .agreement) (r .dfs) (r .unmarked) in
     let t = run-from-roots registerCount 3 (graph three) (outside 3) (roots three) (1 ∷ 2 ∷ []) three (r .agreement) (r .all) (g .within .root) in
-    let t = order-reached 3 (graph three) (roots three) (g .within) in
-    let t = order-distinct 3 (graph three) (roots three) (g .within) in
-    let t = order-length 3 (graph three) (roots three) (g .within) in
-    let t = order-depth 3 (graph three) (roots three) (g .within) 4 (g .deeper) in
+    let t = preorder-reached 3 (graph three) (roots three) (g .within) in
+    let t = preorder-distinct 3 (graph three) (roots three) (g .within) in
+    let t = preorder-length 3 (graph three) (roots three) (g .within) in
+    let t = preorder-depth 3 (graph three) (roots three) (g .within) 4 (g .deeper) in
     let t = marked-reached 3 (graph three) (roots three) (g .within) (marks (outside 3) (1 ∷ 2 ∷ [])) (g .closure) 3 (p .some) (omega arith) in
     let t = marked-count 3 (graph three) (roots three) (g .within) (marks (outside 3) (1 ∷ 2 ∷ [])) (g .closure) in
     let t = reach-agree (graph three) (graph threeCollected) (roots three) (g .agree) in
-    let t = order-agree 3 (graph three) (graph threeCollected) (roots three) (g .within) (g .agree) in
+    let t = preorder-agree 3 (graph three) (graph threeCollected) (roots three) (g .within) (g .agree) in
     let t = length-paired 3 (graph three) (roots three) 2 (graph two) (roots two) (g .within) (g .within-two) (g .lengths) (g .paired) in
-    let t = order-paired 3 (graph three) (roots three) 2 (graph two) (roots two) (g .within) (g .within-two) (g .lengths) (g .paired) in
+    let t = preorder-paired 3 (graph three) (roots three) 2 (graph two) (roots two) (g .within) (g .within-two) (g .lengths) (g .paired) in
     let t = pairing-kept (graph three) (roots three) (graph two) (roots two) Swapped (g .relation) (g .related-roots) (g .related-links) in
     let t = stack-ends 3 (graph three) (roots three) (g .within) 7 (g .turns) in
     let t = stack-marks-the-reached 3 (graph three) (roots three) (g .within) in
@@ -89,14 +89,14 @@ applied =
     let t = load-is-well-formed words image (i .accepted) in
     let t = save-then-load three scratch output 24 (replicate 6 0) (image ++ 9 ∷ 9 ∷ []) words (i .words32) (i .saved) (i .target) (i .fit) in
     let t = load-then-save 2 image 2 1 numbers 24 (i .some) (i .most) (i .read) (i .ordered) scratch output (i .room) in
-    let t = runs-one-after-the-other list calls (freshWords registerCount 3) out (b .program) (b .room) in
-    let t = run-equivalence 3 2 list out calls (p .some) (p .most) (b .program) (b .room) in
-    let t = never-malformed 3 calls (p .some) (p .most) (answered (1 ∷ 3 ∷ [])) (b .answer) in
+    let t = runs-one-after-the-other list calls (freshWords registerCount 3 lent) out (b .program) (b .room) in
+    let t = run-equivalence 3 2 lent list out calls (p .some) (p .most) (b .exact) (b .program) (b .room) in
+    let t = never-malformed 3 lent calls (p .some) (p .most) (b .exact) (answered (1 ∷ 3 ∷ [])) (b .answer) in
     let t = fewest-digits padded (s .some) (s .digits) in
     let t = parts-read newReader lines [] 0 .line (line.Run call.Collect) 2 (s .ended) in
     let t = parts-read newReader lines [] 2 .more (progress .reader) (s .more) in
     let t = starts-whole largest lines [] (s .words) in
     let t = parts-join largest lines lines [] progress (s .read) in
     let t = last-line-ends largest progress .begun (s .begun) in
-    let t = last-line-ends largest start .over (s .over) in
+    let t = last-line-ends largest initial .over (s .over) in
     tt

@@ -9,16 +9,16 @@ use lib.Dec.{ltb}
 use borrow.Author.Tests.{ltb-true}
 use Rattle.leb128.specs.Leb128.{groups, encode, readGroups, readAt}
 use Rattle.graph.specs.Graph.{Reach, Within}
-use Rattle.graph.specs.Order.{has, visit, visits, order}
+use Rattle.graph.specs.Preorder.{elem, visit, visits, preorder}
 use Rattle.graph.specs.Dfs.{mark, marks, Dfs}
-use Rattle.graph.specs.Marking.{outside, marked}
+use Rattle.graph.specs.Marking.{outside, markedCount}
 use Rattle.graph.specs.Compare.{Agree, OneToOne}
 use Rattle.graph.proofs.Marks.{outside-cell, outside-past, outside-nil, cells-outside}
 use Rattle.graph.proofs.Depth.{order-dfs}
-use Rattle.graph.proofs.Theorems.{order-closure, order-reached}
+use Rattle.graph.proofs.Theorems.{order-closure, preorder-reached}
 use Rattle.graph.proofs.Pairing.{pairing-kept}
 use Rattle.pool.specs.Words.{tabulate, every}
-use Rattle.pool.specs.Layout.{registerCount, cellLimit, poolLength, cellsOfLength, count, cellsOf, head, setHead, register, setRegister, cell, setCell}
+use Rattle.pool.specs.Layout.{registerCount, cellLimit, poolLength, cellCountOfLength, count, setCount, cellCount, head, setHead, register, setRegister, cell, setCell}
 use Rattle.pool.specs.Retain.{lowestFree, retain}
 use Rattle.pool.proofs.Questions.{both}
 use Rattle.pool.proofs.WellFormed.{well-formed-read}
@@ -53,15 +53,15 @@ within-two = pool-within (well-formed-read registerCount 2 two refl)
 
 -- Only cells 1 and 2 are reached.
 only : (x : ℕ) → Reach (graph three) (roots three) x → List·Memᴰ x (1 ∷ 2 ∷ [])
-unfolding has visit visits order tabulate register cell
-only x = order-reached 3 (graph three) (roots three) within x .1
+unfolding elem visit visits preorder tabulate register cell
+only x = preorder-reached 3 (graph three) (roots three) within x .1
 
 apart : List·Memᴰ {A = ℕ} 3 (1 ∷ 2 ∷ []) → ⊥
 apart (List·Memᴰ·head e) = omega arith
 apart (List·Memᴰ·tail (List·Memᴰ·head e)) = omega arith
 
 pub pool-instance : Pool-instance
-unfolding has visit visits order tabulate every cellsOfLength count cellsOf head register cell setCell lowestFree retain run runs
+unfolding elem visit visits preorder tabulate every cellCountOfLength count setCount cellCount head register cell setCell lowestFree retain run runs
 pool-instance =
     record { some = omega arith; most = omega arith; room = omega arith; cells = refl; well-formed = refl; answer = refl; full = refl; stack = refl; no-stack = refl }
 
@@ -81,7 +81,7 @@ agreement =
       nil = outside-nil 3;
       past = outside-past 3;
       unmarked = λ x e. untouched x (cells-outside 3 .above x e) (cells-outside 3 .below x e);
-      marked = λ x h k marked. absurd (omega (arith, outside-cell 3 x h k));
+      marked = λ x h k m. absurd (omega (arith, outside-cell 3 x h k));
     }
 
 dfs : Dfs (graph three) (outside 3) 1 (1 ∷ 2 ∷ [])
@@ -93,7 +93,7 @@ dfs =
     Dfs.step {t = 2 ∷ []} {u = []} refl second (Dfs.stop {m = mark m 2} {p = 2} (omega arith))
 
 pub reversal-instance : Reversal-instance
-unfolding has visit visits order tabulate register cell outside marked
+unfolding elem visit visits preorder tabulate register cell outside markedCount
 reversal-instance =
     record {
       agreement = agreement;
@@ -149,7 +149,7 @@ agree x (List·Memᴰ·head e) = rw e (record { left = refl; right = refl })
 agree x (List·Memᴰ·tail (List·Memᴰ·head e)) = rw e (record { left = refl; right = refl })
 
 pub graph-instance : Graph-instance
-unfolding has visit visits order tabulate register cell run runs
+unfolding elem visit visits preorder tabulate register cell run runs
 graph-instance =
     record {
       within = within;
@@ -179,7 +179,7 @@ number-instance =
     record { largest = omega arith; same = refl; bytes = below 256 (omega arith) (0x80 ∷ 0x00 ∷ []) refl; read = refl; fewer = omega arith }
 
 pub image-instance : Image-instance
-unfolding all has visit visits order groups encode readGroups readAt tabulate every cellsOfLength count cellsOf register cell lowestFree retain placeFrom encodeAll readFields readImage
+unfolding all elem visit visits preorder groups encode readGroups readAt tabulate every cellCountOfLength count setCount cellCount register cell lowestFree retain placeFrom encodeAll readFields readImage
 image-instance =
     record {
       size = refl;
@@ -198,8 +198,8 @@ image-instance =
     }
 
 pub batch-instance : Batch-instance
-unfolding has visit visits order tabulate every cellsOfLength count cellsOf head setHead register setRegister cell setCell lowestFree retain programOf programOfCalls runFrom afterAll poolAnswers
-batch-instance = record { program = refl; room = omega arith; run = refl; answer = List·Memᴰ·tail (List·Memᴰ·head refl) }
+unfolding elem visit visits preorder tabulate every cellCountOfLength count setCount cellCount head setHead register setRegister cell setCell lowestFree retain programOf programOfCalls runFrom afterAll poolAnswers
+batch-instance = record { exact = refl; program = refl; room = omega arith; run = refl; answer = List·Memᴰ·tail (List·Memᴰ·head refl) }
 
 pub script-instance : Script-instance
 unfolding all command spaceOf letterOf digitOf feedOf endOf begunOf digits decimal nextLine

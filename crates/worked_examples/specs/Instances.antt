@@ -12,14 +12,14 @@ use Rattle.graph.specs.Dfs.{marks, Dfs, DfsAll}
 use Rattle.graph.specs.Marking.{outside, Closure}
 use Rattle.graph.specs.Compare.{Agree, Paired, OneToOne}
 use Rattle.pool.specs.Words.{tabulate}
-use Rattle.pool.specs.Layout.{registerCount, cellLimit, poolLength, cellsOfLength, cellsOf, graphOf, rootsOf}
+use Rattle.pool.specs.Layout.{registerCount, cellLimit, poolLength, cellCountOfLength, cellCount, graphOf, rootsOf}
 use Rattle.pool.specs.Validity.{wellFormed}
 use Rattle.pool.specs.Retain.{freshWords}
 use Rattle.answers.specs.Outcome.{answered}
-use Rattle.collector.specs.Collect.{reachedCells, keptCells, collectOf}
+use Rattle.collector.specs.Collect.{reachedCells, reachedCount, collectOf}
 use Rattle.collector.specs.ReversalTheorem.{Agreement}
-use Rattle.recursive_marker.specs.Recursive.{Visitable}
-use Rattle.stack_marker.specs.Stack.{isFresh, stackRun}
+use Rattle.recursive_marker.specs.Recursive.{Markable}
+use Rattle.stack_marker.specs.Stack.{isUnmarked, stackRun}
 use Rattle.stack_marker.specs.StackCollect.{stackOf}
 use Rattle.calls.specs.declared.Call.{Call}
 use Rattle.calls.specs.declared.Call.the-variants as call
@@ -38,7 +38,7 @@ use Rattle.script.specs.Reader.{newReader, withoutNumbers, begunOf}
 use Rattle.replies.specs.Replies.{decimal}
 use Rattle.script.specs.Scripts.{nextLine}
 use Rattle.interpreter.specs.declared.Progress.{Progress}
-use Rattle.interpreter.specs.Work.{start}
+use Rattle.interpreter.specs.Work.{initial}
 
 -- A pool of three used cells. Register 0 holds cell 1, both of whose links lead to cell 2 (which is shared), and that leads back to cell 1 (a cycle).
 -- Cell 3 leads to cell 1 and to itself, and is not reached.
@@ -60,13 +60,13 @@ graph = graphOf registerCount
 abbrev pub roots : List ℕ → List ℕ
 roots = rootsOf registerCount
 
--- `Collection-keeps-the-reached`, `Collection-marks-and-sweeps`, `RunOverPool`, `RetainedFreeList`, `Stack-collects`; and `FreshIsWellFormed`,
--- `FreshIsFree`, `Equivalence`, `EquivalenceAtLimit`, `ReachedPools` and `Chain-needs`, which ask for no more than a number of cells.
+-- `CollectionKeepsTheReached`, `CollectionMarksAndSweeps`, `RunOverPool`, `RetainedFreeList`, `StackCollects`; and `FreshIsWellFormed`,
+-- `FreshIsFree`, `Equivalence`, `EquivalenceAtLimit`, `ReachedPools` and `ChainNeeds`, which ask for no more than a number of cells.
 pub record Pool-instance : Type 0 where
   pub some : 0 < 3
   pub most : 3 ≤ cellLimit
   pub room : poolLength registerCount 3 ≤ length three
-  pub cells : cellsOf registerCount three ≡ 3
+  pub cells : cellCount registerCount three ≡ 3
   pub well-formed : wellFormed registerCount 3 three ≡ true
   -- A collection frees cell 3. Where all cells are reached it changes nothing.
   pub answer : collectOf three ≡ (answered (2 ∷ 6 ∷ []), threeCollected)
@@ -82,7 +82,7 @@ pub record Reversal-instance : Type 0 where
   pub dfs : Dfs (graph three) (outside 3) 1 (1 ∷ 2 ∷ [])
   pub all : DfsAll (graph three) (outside 3) (roots three) (1 ∷ 2 ∷ [])
   -- What the recursive marker's visit of link 1 asks for, with depth 3
-  pub recursive : Visitable registerCount 3 3 1 0 three
+  pub recursive : Markable registerCount 3 3 1 0 three
 
 -- Cells 1 and 2 of `three` are cells 2 and 1 of `two`, and nil is nil.
 abbrev pub Swapped : ℕ → ℕ → Type 0
@@ -90,17 +90,17 @@ Swapped x y = (x ≤ 2) × (y ≡ getD (0 ∷ 2 ∷ 1 ∷ []) x 0)
 
 -- The theorems of graphs and of marking with a stack, on the pool's graph.
 pub record Graph-instance : Type 0 where
-  -- `Order-reached`, `Order-distinct`, `Order-length`, `Order-depth`
+  -- `PreorderReached`, `PreorderDistinct`, `PreorderLength`, `PreorderDepth`
   pub within : Within 3 (graph three) (roots three)
   pub deeper : 3 ≤ 4
   pub reached : Reach (graph three) (roots three) 2
   pub unreached : Reach (graph three) (roots three) 3 → ⊥
-  -- `Marked-reached`, `Marked-count`
+  -- `MarkedReached`, `MarkedCount`
   pub closure : Closure (graph three) (outside 3) (roots three) (marks (outside 3) (1 ∷ 2 ∷ []))
-  -- `Reach-agree`, `Order-agree`: with the pool after the collection, where cell 3 has other links
+  -- `ReachAgree`, `PreorderAgree`: with the pool after the collection, where cell 3 has other links
   pub agree : (x : ℕ) → Reach (graph three) (roots three) x → Agree (graph three) (graph threeCollected) x
   pub differ : Agree (graph three) (graph threeCollected) 3 → ⊥
-  -- `Pairing-kept`, and `Length-paired`, `Order-paired`: with the pool of two cells
+  -- `PairingKept`, and `LengthPaired`, `PreorderPaired`: with the pool of two cells
   pub relation : OneToOne Swapped
   pub related-roots : (i : ℕ) → i < length (roots three) → Swapped (getD (roots three) i 0) (getD (roots two) i 0)
   pub related-links : (x y : ℕ) → Swapped x y → 0 < x → 0 < y
@@ -108,14 +108,14 @@ pub record Graph-instance : Type 0 where
   pub within-two : Within 2 (graph two) (roots two)
   pub lengths : length (roots three) ≡ length (roots two)
   pub paired : OneToOne (Paired (graph three) (roots three) (graph two) (roots two))
-  -- `Stack-ends`, `Stack-marks-the-reached`, `Stack-bound`: cell 2 is met twice, and pushed once
+  -- `StackEnds`, `StackMarksTheReached`, `StackBound`: cell 2 is met twice, and pushed once
   pub turns : 2 * 3 ≤ 7
   pub run : stackRun 3 (graph three) (roots three) ≡ (1 ∷ 2 ∷ 2 ∷ [], 1)
-  -- `Stack-cases`: of cell 1 both links are unmarked, of cell 2 the left one or none, of cell 3 the right one
-  pub both : (isFresh (1 ∷ []) (graph three .left 1) ≡ true) × (isFresh (1 ∷ []) (graph three .right 1) ≡ true)
-  pub left : (isFresh (2 ∷ []) (graph three .left 2) ≡ true) × (isFresh (2 ∷ []) (graph three .right 2) ≡ false)
-  pub none : (isFresh (1 ∷ []) (graph three .left 2) ≡ false) × (isFresh (1 ∷ []) (graph three .right 2) ≡ false)
-  pub right : (isFresh (1 ∷ []) (graph three .left 3) ≡ false) × (isFresh (1 ∷ []) (graph three .right 3) ≡ true)
+  -- `StackCases`: of cell 1 both links are unmarked, of cell 2 the left one or none, of cell 3 the right one
+  pub both : (isUnmarked (1 ∷ []) (graph three .left 1) ≡ true) × (isUnmarked (1 ∷ []) (graph three .right 1) ≡ true)
+  pub left : (isUnmarked (2 ∷ []) (graph three .left 2) ≡ true) × (isUnmarked (2 ∷ []) (graph three .right 2) ≡ false)
+  pub none : (isUnmarked (1 ∷ []) (graph three .left 2) ≡ false) × (isUnmarked (1 ∷ []) (graph three .right 2) ≡ false)
+  pub right : (isUnmarked (1 ∷ []) (graph three .left 3) ≡ false) × (isUnmarked (1 ∷ []) (graph three .right 3) ≡ true)
 
 -- LEB128: `RoundTrip`, `OneToFiveBytes` and `DecimalsReadBack` (of scripts) of the largest number; `PrefixFree` and `OneToOne`, whose numbers can
 -- only be equal; `FewestGroups` and `ReadsWithin` of two bytes that are read as 0, whose encoding has one.
@@ -153,8 +153,8 @@ pub record Image-instance : Type 0 where
   pub words32 : Words three
   pub saved : saveOf three scratch output ≡ (answered (24 ∷ []), replicate 6 0, image ++ 9 ∷ 9 ∷ [])
   pub saved-two : saveOf two scratch output ≡ saveOf three scratch output
-  pub target : 0 < cellsOfLength registerCount (length words)
-  pub fit : keptCells registerCount (cellsOf registerCount three) three ≤ cellsOfLength registerCount (length words)
+  pub target : 0 < cellCountOfLength registerCount (length words)
+  pub fit : reachedCount registerCount (cellCount registerCount three) three ≤ cellCountOfLength registerCount (length words)
   -- `LoadThenSave`: its cells are numbered in the order of the visits
   pub some : 0 < 2
   pub most : 2 ≤ cellLimit
@@ -172,13 +172,18 @@ list = 2 ∷ 0 ∷ 0 ∷ 0 ∷ 7 ∷ 10 ∷ 5 ∷ 5 ∷ 5 ∷ 5 ∷ []
 abbrev pub out : List ℕ
 out = replicate 7 5
 
--- `Runs-one-after-the-other`, `RunEquivalence` and `NeverMalformed`.
+-- Words as they may be lent for a pool of three cells.
+abbrev pub lent : List ℕ
+lent = replicate 30 9
+
+-- `RunsOneAfterTheOther`, `RunEquivalence` and `NeverMalformed`.
 pub record Batch-instance : Type 0 where
+  pub exact : length lent ≡ poolLength registerCount 3
   pub program : programOf list ≡ programOfCalls calls
   pub room : 3 * length calls ≤ length out
-  pub run : runOf list (freshWords registerCount 3) out
-      ≡ (ran.All 2, afterAll calls (freshWords registerCount 3), 0 ∷ 0 ∷ 0 ∷ 0 ∷ 1 ∷ 3 ∷ 5 ∷ [])
-  pub answer : List·Memᴰ (answered (1 ∷ 3 ∷ [])) (poolAnswers calls (freshWords registerCount 3))
+  pub run : runOf list (freshWords registerCount 3 lent) out
+      ≡ (ran.All 2, afterAll calls (freshWords registerCount 3 lent), 0 ∷ 0 ∷ 0 ∷ 0 ∷ 1 ∷ 3 ∷ 5 ∷ [])
+  pub answer : List·Memᴰ (answered (1 ∷ 3 ∷ [])) (poolAnswers calls (freshWords registerCount 3 lent))
 
 -- Three digits; two lines, the second without its line feed; the progress where both are read; and words for the largest pool.
 abbrev pub padded : List ℕ
@@ -206,4 +211,4 @@ pub record Script-instance : Type 0 where
   pub words : length largest ≡ poolLength registerCount cellLimit
   pub read : length lines ≤ progress .at
   pub begun : begunOf (progress .reader) ≡ true
-  pub over : begunOf (start .reader) ≡ false
+  pub over : begunOf (initial .reader) ≡ false

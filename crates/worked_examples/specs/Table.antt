@@ -60,5 +60,5 @@ All [] = Unit {0}
 All (c ∷ cs) = Holds c × All cs
 
 -- Every case of the table holds.
-abbrev pub Worked-examples : Type 0
-Worked-examples = All table
+abbrev pub WorkedExamples : Type 0
+WorkedExamples = All table

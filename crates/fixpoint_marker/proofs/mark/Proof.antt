@@ -4,7 +4,7 @@ use native.Mathlib.Omega.{arith}
 use Prim.Native.Nat.{_-_}
 use mathlib.Core.Path.{_≡_}
 use lib.ListN.{length, getD}
-use Rattle.graph.specs.Marking.{marked}
+use Rattle.graph.specs.Marking.{markedCount}
 use Rattle.fixpoint_marker.specs.Marks.{OnlyReached, Rooted}
 use Rattle.fixpoint_marker.proofs.Passes.{clear-sound, exact, grown-fits, grown-rooted}
 use Rattle.fixpoint_marker.proofs.mark.Statement.{statement}
@@ -14,7 +14,7 @@ abbrev Inv-loop : tie.InvT-loop
 Inv-loop words n marks₀ marks = (length marks ≡ length marks₀) × OnlyReached words marks × Rooted n words marks
 
 abbrev μ-loop : tie.MeasureT-loop
-μ-loop words n marks₀ marks = n - marked n (λ y. getD marks y 0)
+μ-loop words n marks₀ marks = n - markedCount n (λ y. getD marks y 0)
 
 clear-requires : tie.Need-clear-requires Inv-loop μ-loop
 clear-requires c κs = search needs

@@ -12,18 +12,18 @@ use Rattle.pool.proofs.Questions.{Sized}
 use Rattle.image.proofs.Loading.{load-no-pool, load-sized, load-refused, load-whole-few, load-whole}
 use denote.Ref.{now}
 
-cells-of-length-requires : tie.Need-cells-of-length-requires
-cells-of-length-requires c κs = search needs
+cell-count-of-length-requires : tie.Need-cell-count-of-length-requires
+cell-count-of-length-requires c κs = search needs
 
 number-requires : tie.Need-number-requires
 number-requires c κs = search needs
 
 returns : tie.Need-returns
-returns c = load-no-pool _ _ _ (c .before .before .cells-of-length .ensures) _ (c .before .if1 .taken) (c .number .ensures)
+returns c = load-no-pool _ _ _ (c .before .before .cell-count-of-length .ensures) _ (c .before .if1 .taken) (c .number .ensures)
 
 -- the words are a pool's
-sized : (c : tie.Else1) → Sized registerCount (length (now (c .before .before .before .before .args .words))) (c .before .cells-of-length .result)
-sized c = load-sized (now (c .before .before .before .before .args .words)) [] _ (c .before .cells-of-length .ensures) (c .if1 .left)
+sized : (c : tie.Else1) → Sized registerCount (length (now (c .before .before .before .before .args .words))) (c .before .cell-count-of-length .result)
+sized c = load-sized (now (c .before .before .before .before .args .words)) [] _ (c .before .cell-count-of-length .ensures) (c .if1 .left)
 
 scan-image-requires : tie.Need-scan-image-requires
 scan-image-requires c κs = sized c .most
@@ -40,7 +40,7 @@ enum-known-cells c = search needs
 fill-requires : tie.Need-fill-requires
 fill-requires c κs =
     let a = c .before .before .before .before .before .before .before .before .before .args in
-    let few = load-whole-few (now (a .words)) (now (a .bytes)) _ (c .before .before .before .before .before .before .cells-of-length .ensures) (c .before .before .before .before .before .if1 .left) _ (c .before .before .before .before .scan-image .ensures) _ _ _ (c .before .before .cells .given .1) in
+    let few = load-whole-few (now (a .words)) (now (a .bytes)) _ (c .before .before .before .before .before .before .cell-count-of-length .ensures) (c .before .before .before .before .before .if1 .left) _ (c .before .before .before .before .scan-image .ensures) _ _ _ (c .before .before .cells .given .1) in
     omega (arith, few, sized (c .before .before .before .before .before))
 
 slice-write-words : tie.Need-slice-write-words
@@ -50,11 +50,11 @@ mark-first-requires : tie.Need-mark-first-requires
 mark-first-requires c κs = simp length-set (omega (arith, sized (c .before .before .before .before .before .before .before .before .before), c .before .before .before .fill .kept .0))
 
 sweep-requires : tie.Need-sweep-requires
-sweep-requires c κs = omega (arith, sized (c .before .before .before .before .before .before .before .before .before .before .before .before .before), c .before .before .before .mark-first .kept .0, length-set (c .before .before .before .before .before .before .before .fill .last .0) 0 (c .before .before .before .before .before .before .before .before .before .before .before .before .before .before .cells-of-length .result), c .before .before .before .before .before .before .before .fill .kept .0)
+sweep-requires c κs = omega (arith, sized (c .before .before .before .before .before .before .before .before .before .before .before .before .before), c .before .before .before .mark-first .kept .0, length-set (c .before .before .before .before .before .before .before .fill .last .0) 0 (c .before .before .before .before .before .before .before .before .before .before .before .before .before .before .cell-count-of-length .result), c .before .before .before .before .before .before .before .fill .kept .0)
 
 returns-2 : tie.Need-returns-2
 returns-2 c =
-    load-refused _ _ _ (c .before .before .before .before .before .before .cells-of-length .ensures) (c .before .before .before .before .before .if1 .left) _ (c .before .before .before .before .scan-image .ensures) _ _ (c .before .before .why .given .1) (c .number2 .ensures)
+    load-refused _ _ _ (c .before .before .before .before .before .before .cell-count-of-length .ensures) (c .before .before .before .before .before .if1 .left) _ (c .before .before .before .before .scan-image .ensures) _ _ (c .before .before .why .given .1) (c .number2 .ensures)
 
 same-length : tie.Need-same-length
 same-length c = c .before .before .sweep .kept .0 ∙ (c .before .before .before .before .before .before .mark-first .kept .0 ∙ (simp length-set (c .before .before .before .before .before .before .before .before .before .before .fill .kept .0)))
@@ -62,7 +62,7 @@ same-length c = c .before .before .sweep .kept .0 ∙ (c .before .before .before
 returns-3 : tie.Need-returns-3
 returns-3 c =
     let a = c .before .before .before .before .before .before .before .before .before .before .before .before .before .before .before .before .before .before .before .before .args in
-    load-whole (now (a .words)) (now (a .bytes)) _ (c .before .before .before .before .before .before .before .before .before .before .before .before .before .before .before .before .before .cells-of-length .ensures) (c .before .before .before .before .before .before .before .before .before .before .before .before .before .before .before .before .if1 .left) _ (c .before .before .before .before .before .before .before .before .before .before .before .before .before .before .before .scan-image .ensures) _ _ _ (c .before .before .before .before .before .before .before .before .before .before .fill .last .0) _ _ (c .before .before .before .before .before .before .before .before .before .before .before .before .before .cells .given .1)
+    load-whole (now (a .words)) (now (a .bytes)) _ (c .before .before .before .before .before .before .before .before .before .before .before .before .before .before .before .before .before .cell-count-of-length .ensures) (c .before .before .before .before .before .before .before .before .before .before .before .before .before .before .before .before .if1 .left) _ (c .before .before .before .before .before .before .before .before .before .before .before .before .before .before .before .scan-image .ensures) _ _ _ (c .before .before .before .before .before .before .before .before .before .before .fill .last .0) _ _ (c .before .before .before .before .before .before .before .before .before .before .before .before .before .cells .given .1)
     (c .before .before .before .before .before .before .before .before .before .before .fill .ensures) (c .before .before .before .before .before .before .before .before .before .before .fill .kept .0)
     (c .before .before .sweep .ensures ∙ ap (sweepOf registerCount _) (c .before .before .before .before .before .before .mark-first .ensures))
 
@@ -70,7 +70,7 @@ pub load-at-spec : {M : Type 1} → statement M
 load-at-spec =
     tie.close
     (tie.spec
-    cells-of-length-requires
+    cell-count-of-length-requires
     number-requires
     returns
     scan-image-requires

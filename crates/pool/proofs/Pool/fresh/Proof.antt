@@ -8,11 +8,11 @@ use lib.ListN.{length-set}
 use Rattle.pool.proofs.FreshPool.{fresh-length, fresh-made}
 use denote.Ref.{now}
 
-cells-of-length-requires : tie.Need-cells-of-length-requires
-cells-of-length-requires c κs = search needs
+cell-count-of-length-requires : tie.Need-cell-count-of-length-requires
+cell-count-of-length-requires c κs = search needs
 
 returns : tie.Need-returns
-returns c = simp (← c .before .cells-of-length .ensures, c .if1 .taken)
+returns c = simp (← c .before .cell-count-of-length .ensures, c .if1 .taken)
 
 clear-requires : tie.Need-clear-requires
 clear-requires c κs = search needs
@@ -20,13 +20,13 @@ clear-requires c κs = search needs
 slice-write-words : tie.Need-slice-write-words
 slice-write-words c =
     let w = now (c .before .before .before .before .before .before .before .args .words) in
-    let room = fresh-length w _ (c .before .before .before .before .before .cells-of-length .ensures) (c .before .before .before .before .if1 .left) in
+    let room = fresh-length w _ (c .before .before .before .before .before .cell-count-of-length .ensures) (c .before .before .before .before .if1 .left) in
     omega (arith, room, c .before .before .clear .kept .0)
 
 sweep-requires : tie.Need-sweep-requires
 sweep-requires c κs =
     let w = now (c .before .before .before .before .before .before .before .before .args .words) in
-    let room = fresh-length w _ (c .before .before .before .before .before .before .cells-of-length .ensures) (c .before .before .before .before .before .if1 .left) in
+    let room = fresh-length w _ (c .before .before .before .before .before .before .cell-count-of-length .ensures) (c .before .before .before .before .before .if1 .left) in
     simp length-set (omega (arith, room, c .before .before .before .clear .kept .0))
 
 same-length : tie.Need-same-length
@@ -35,7 +35,7 @@ same-length c = c .before .before .sweep .kept .0 ∙ (simp length-set (c .befor
 returns-2 : tie.Need-returns-2
 returns-2 c =
     let w = now (c .before .before .before .before .before .before .before .before .before .before .before .args .words) in
-    fresh-made w _ (c .before .before .before .before .before .before .before .before .before .cells-of-length .ensures)
+    fresh-made w _ (c .before .before .before .before .before .before .before .before .before .cell-count-of-length .ensures)
     (c .before .before .before .before .before .before .before .before .if1 .left) _ _ _
     (c .before .before .before .before .before .before .clear .ensures) (c .before .before .sweep .ensures)
 
@@ -43,7 +43,7 @@ pub fresh-spec : {M : Type 1} → statement M
 fresh-spec =
     tie.close
     (tie.spec
-    cells-of-length-requires
+    cell-count-of-length-requires
     returns
     clear-requires
     slice-write-words
