@@ -8,10 +8,10 @@ use mathlib.Core.List.{List, [], _∷_, List·Memᴰ, List·Memᴰ·head, List·
 use borrow.Author.Tests.{eq-eqb, ne-eqb}
 use Rattle.graph.specs.Graph.{Graph}
 use Rattle.graph.specs.Dfs.{mark, marks, Dfs}
-use Rattle.pool.specs.Layout.{cell, state, left, right}
+use Rattle.pool.specs.Layout.{cell, state, left, right, setNode}
 use Rattle.collector.specs.Reversal.{unmarked, markAll}
 use Rattle.collector.specs.ReversalTheorem.{Agreement, Untouched}
-use Rattle.collector.proofs.Node.{setNode, length-setNode, cell-setNode, state-setNode, setNode-links}
+use Rattle.pool.proofs.Node.{length-setNode, cell-setNode, state-setNode, setNode-links}
 use Rattle.graph.proofs.Marks.{above-nil, mark-self, mark-other}
 use Rattle.graph.proofs.Visits.{fresh}
 

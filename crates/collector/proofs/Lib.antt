@@ -1,4 +1,3 @@
-pub mod Node
 pub mod MarkAll
 pub mod Agreement
 pub mod Run

@@ -6,10 +6,9 @@ use mathlib.Core.Path.{_≡_, refl, ap, _∙_}
 use mathlib.Core.Logic.{_⊎_, inl, inr, ⊎-elim}
 use mathlib.Core.List.{List, [], _∷_, _++_, List·Memᴰ, List·Memᴰ·head, List·Memᴰ·tail, List·Memᴰ·cases-cons, Memᴰ·cast, List·Memᴰ·not-nil}
 use lib.ListN.{length}
-use Rattle.pool.specs.Layout.{poolLength, cell, setCell, state, register}
+use Rattle.pool.specs.Layout.{poolLength, cell, setCell, state, register, setNode}
 use Rattle.pool.proofs.Laws.{length-setCell, register-setCell, cell-same, cell-other, setCell-comm}
 use Rattle.collector.specs.Reversal.{markAll}
-use Rattle.collector.proofs.Node.{setNode}
 
 module _ (R : ℕ) where
   -- every part of the words that a write of a state leaves as it is

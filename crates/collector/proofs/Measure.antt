@@ -5,10 +5,10 @@ use native.Mathlib.Decide.{ℕ-discrete}
 use mathlib.Core.Path.{_≡_, refl, ap, sym}
 use mathlib.Core.List.{List}
 use lib.ListN.{length}
-use Rattle.pool.specs.Layout.{poolLength, state, left, right}
+use Rattle.pool.specs.Layout.{poolLength, state, left, right, setNode}
 use Rattle.collector.specs.declared.Marker.{Marker}
 use Rattle.collector.specs.Reversal.{visitOf, Visitable}
-use Rattle.collector.proofs.Node.{setNode, cell-setNode, state-setNode, Node}
+use Rattle.pool.proofs.Node.{cell-setNode, state-setNode, Node}
 use Rattle.collector.proofs.Run.{visit-of}
 
 -- Three visits for each of the cells 1 to n, less those that its state counts.

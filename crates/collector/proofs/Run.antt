@@ -9,12 +9,12 @@ use lib.Dec.{eqb}
 use borrow.Author.Tests.{ne-eqb}
 use Rattle.graph.specs.Graph.{Graph}
 use Rattle.graph.specs.Dfs.{mark, marks, Dfs}
-use Rattle.pool.specs.Layout.{poolLength, setCell, state, left, right}
+use Rattle.pool.specs.Layout.{poolLength, setCell, state, left, right, setNode}
 use Rattle.pool.proofs.Laws.{cell-same, cell-other}
 use Rattle.collector.specs.declared.Marker.{Marker}
 use Rattle.collector.specs.Reversal.{unmarked, visitOf, Visitable, Visits, marker, markAll}
 use Rattle.collector.specs.ReversalTheorem.{Agreement, Untouched, RunFromLink}
-use Rattle.collector.proofs.Node.{setNode, state-setLinks, setNode-again, setNode-links, setNode-same, Node, node-set}
+use Rattle.pool.proofs.Node.{state-setLinks, setNode-again, setNode-links, setNode-same, Node, node-set}
 use Rattle.collector.proofs.MarkAll.{markAll-append, length-markAll, markAll-setNode}
 use Rattle.graph.proofs.Marks.{marks-keeps, mark-self, mark-other}
 use Rattle.collector.proofs.Agreement.{unmarked-cell, unmarked-true, unmarked-false, agreement-setNode, agreement-dfs, away}

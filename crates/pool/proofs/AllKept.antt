@@ -7,8 +7,10 @@ use mathlib.Core.List.{List}
 use mathlib.Core.Bool.{Bool, true, false, cond}
 use lib.ListN.{length, getD}
 use Rattle.pool.specs.Layout.{poolLength, cell, head, state}
+use Rattle.pool.specs.States.{isUsed}
 use Rattle.pool.specs.Retain.{lowestFree, freeAbove, retainedField, retainedWord, retain, keptCount}
 use Rattle.pool.proofs.Every.{tabulate-list}
+use Rattle.pool.proofs.States.{used-same}
 use Rattle.pool.proofs.Retained.{Place, place, word-stays, word-field, retain-cell, retain-elsewhere, length-retain, retain-cong, kept-most}
 
 -- every cell from 1 to n is kept
@@ -57,12 +59,12 @@ module _ (keep : ℕ → Bool) where
 
 module _ (R n : ℕ) (keep : ℕ → Bool) (w : List ℕ) where
   -- where every cell is kept, used, and the head is nil, nothing changes
-  pub retain-all : AllKept keep n → ((j : ℕ) → 0 < j → j ≤ n → state R w j ≡ 0) → head w ≡ 0 → retain R n keep w ≡ w
+  pub retain-all : AllKept keep n → ((j : ℕ) → 0 < j → j ≤ n → isUsed (state R w j) ≡ true) → head w ≡ 0 → retain R n keep w ≡ w
   unfolding retain head cell
   retain-all all used nil = sym (tabulate-list (length w) (retainedWord R n keep w) w refl λ k below. at k (place R n k))
     where
       fields : (i f : ℕ) → 0 < i → i ≤ n → cell R w i f ≡ retainedField R n keep w i f
-      fields i zero low high = rw (all i low high) (used i low high)
+      fields i zero low high = rw (all i low high) (used-same (state R w i) (used i low high))
       fields i (suc f) low high = rw (all i low high)
 
       at : (k : ℕ) → Place R n k → getD w k 0 ≡ retainedWord R n keep w k

@@ -9,7 +9,7 @@ use lib.Seq.{getD-set-other}
 use borrow.Author.Tests.{lt-ltb}
 use Rattle.pool.specs.Words.{tabulate}
 use Rattle.pool.specs.Layout.{registerCount, firstRegister, poolLength, cellCountOfLength, cellAt, cell, register, count, setCount}
-use Rattle.pool.specs.Retain.{freeCells, isMarked, sweepOf, blankWords, freshWords}
+use Rattle.pool.specs.Retain.{freeCells, markedCell, sweepOf, blankWords, freshWords}
 use Rattle.answers.specs.Outcome.{Outcome, answered}
 use Rattle.pool.specs.Calls.{freshOf}
 use Rattle.pool.specs.FreshPool.{FreshIsWellFormed, FreshIsFree}
@@ -47,14 +47,14 @@ module _ (R n : ℕ) (w : List ℕ) (room : poolLength R n ≤ length w) where
   unfolding register
   blank-register k low = blank-zero (firstRegister + k) (omega arith) (omega arith)
 
-  blank-unmarked : (i : ℕ) → 0 < i → i ≤ n → isMarked R (blankWords R n w) i ≡ false
+  blank-unmarked : (i : ℕ) → 0 < i → i ≤ n → markedCell R (blankWords R n w) i ≡ false
   unfolding cell
   blank-unmarked i low high = rw (blank-zero (cellAt R i 0) (omega arith) (omega arith)) refl
 
   -- the sweep makes the chain of them
   swept-blank : sweepOf R n (blankWords R n w) .1 ≡ freshWords R n w
   swept-blank =
-      retain-cong R n (isMarked R (blankWords R n w)) (λ i. false) (blankWords R n w) (blankWords R n w) refl blank-unmarked
+      retain-cong R n (markedCell R (blankWords R n w)) (λ i. false) (blankWords R n w) (blankWords R n w) refl blank-unmarked
       (λ k h e. refl) (λ j f low high hf e. refl)
 
 -- what is lent does not matter where nothing of it stands behind the cells

@@ -6,7 +6,7 @@ use mathlib.Core.Path.{_≡_}
 use mathlib.Core.List.{List}
 use lib.ListN.{length, length-set}
 use lib.Seq.{getD-set-same, getD-set-other, set-set, set-comm, set-getD}
-use Rattle.pool.specs.Layout.{poolLength, cellAt, count, head, setHead, register, setRegister, cell, setCell}
+use Rattle.pool.specs.Layout.{firstRegister, poolLength, cellAt, count, head, setHead, register, setRegister, cell, setCell}
 
 module _ (R : ℕ) (w : List ℕ) where
   pub length-setCell : (i f v : ℕ) → length (setCell R w i f v) ≡ length w
@@ -15,7 +15,7 @@ module _ (R : ℕ) (w : List ℕ) where
 
   pub length-setRegister : (k v : ℕ) → length (setRegister w k v) ≡ length w
   unfolding setRegister
-  length-setRegister k v = length-set w (2 + k) v
+  length-setRegister k v = length-set w (firstRegister + k) v
 
   pub length-setHead : (v : ℕ) → length (setHead w v) ≡ length w
   unfolding setHead
@@ -33,28 +33,28 @@ module _ (R : ℕ) (w : List ℕ) where
 
   pub cell-setRegister : (k v i f : ℕ) → k < R → cell R (setRegister w k v) i f ≡ cell R w i f
   unfolding cell setRegister
-  cell-setRegister k v i f hk = getD-set-other w (2 + k) (cellAt R i f) v 0 λ e. omega arith
+  cell-setRegister k v i f hk = getD-set-other w (firstRegister + k) (cellAt R i f) v 0 λ e. omega arith
 
   pub cell-setHead : (v i f : ℕ) → cell R (setHead w v) i f ≡ cell R w i f
   unfolding cell setHead
   cell-setHead v i f = getD-set-other w 1 (cellAt R i f) v 0 λ e. omega arith
 
   -- a register after a write
-  pub register-same : (k v : ℕ) → 2 + k < length w → register (setRegister w k v) k ≡ v
+  pub register-same : (k v : ℕ) → firstRegister + k < length w → register (setRegister w k v) k ≡ v
   unfolding register setRegister
-  register-same k v fits = getD-set-same w (2 + k) v 0 fits
+  register-same k v fits = getD-set-same w (firstRegister + k) v 0 fits
 
   pub register-other : (k v j : ℕ) → (j ≡ k → ⊥) → register (setRegister w k v) j ≡ register w j
   unfolding register setRegister
-  register-other k v j apart = getD-set-other w (2 + k) (2 + j) v 0 λ e. apart (omega arith)
+  register-other k v j apart = getD-set-other w (firstRegister + k) (firstRegister + j) v 0 λ e. apart (omega arith)
 
   pub register-setCell : (i f v k : ℕ) → k < R → register (setCell R w i f v) k ≡ register w k
   unfolding register setCell
-  register-setCell i f v k hk = getD-set-other w (cellAt R i f) (2 + k) v 0 λ e. omega arith
+  register-setCell i f v k hk = getD-set-other w (cellAt R i f) (firstRegister + k) v 0 λ e. omega arith
 
   pub register-setHead : (v k : ℕ) → register (setHead w v) k ≡ register w k
   unfolding register setHead
-  register-setHead v k = getD-set-other w 1 (2 + k) v 0 λ e. omega arith
+  register-setHead v k = getD-set-other w 1 (firstRegister + k) v 0 λ e. omega arith
 
   -- the head after a write
   pub head-same : (v : ℕ) → 1 < length w → head (setHead w v) ≡ v
@@ -67,7 +67,7 @@ module _ (R : ℕ) (w : List ℕ) where
 
   pub head-setRegister : (k v : ℕ) → head (setRegister w k v) ≡ head w
   unfolding head setRegister
-  head-setRegister k v = getD-set-other w (2 + k) 1 v 0 λ e. omega arith
+  head-setRegister k v = getD-set-other w (firstRegister + k) 1 v 0 λ e. omega arith
 
   -- word 0 after a write
   pub count-setCell : (i f v : ℕ) → count (setCell R w i f v) ≡ count w
@@ -76,7 +76,7 @@ module _ (R : ℕ) (w : List ℕ) where
 
   pub count-setRegister : (k v : ℕ) → count (setRegister w k v) ≡ count w
   unfolding count setRegister
-  count-setRegister k v = getD-set-other w (2 + k) 0 v 0 λ e. omega arith
+  count-setRegister k v = getD-set-other w (firstRegister + k) 0 v 0 λ e. omega arith
 
   pub count-setHead : (v : ℕ) → count (setHead w v) ≡ count w
   unfolding count setHead

@@ -1,4 +1,6 @@
 pub mod Laws
+pub mod States
+pub mod Node
 pub mod Questions
 pub mod Every
 pub mod WellFormed

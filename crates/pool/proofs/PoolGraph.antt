@@ -1,18 +1,21 @@
 -- A well-formed pool, seen as a graph: its links stay within the cells, and what its registers reach is used.
 use Prim.Native.Nat.{ℕ, _<_, _≤_}
 use native.Mathlib.Omega.{arith}
-use mathlib.Core.Path.{_≡_}
+use mathlib.Core.Path.{_≡_, sym, _∙_}
+use mathlib.Core.Bool.{true, false≢true}
 use mathlib.Core.List.{List, List·Memᴰ}
 use Rattle.graph.specs.Graph.{Reach, Within}
-use Rattle.pool.specs.Layout.{register, state, left, right, graphOf, rootsOf}
+use Rattle.pool.specs.Layout.{register, state, linkOf, graphOf, rootsOf}
+use Rattle.pool.specs.States.{isUsed}
 use Rattle.pool.proofs.Every.{tabulate-member}
+use Rattle.pool.proofs.States.{free-not-used}
 use Rattle.pool.proofs.WellFormed.{Link, Cell, WellFormed}
 
 -- x is a used cell
 pub record Used (R n : ℕ) (w : List ℕ) (x : ℕ) : Type 0 where
   pub positive : 0 < x
   pub bounded : x ≤ n
-  pub state : state R w x ≡ 0
+  pub state : isUsed (state R w x) ≡ true
 
 module _ {R n : ℕ} {w : List ℕ} where
   link-used : {x : ℕ} → Link R n w x → 0 < x → Used R n w x
@@ -24,11 +27,11 @@ module _ {R n : ℕ} {w : List ℕ} where
   link-bound (Link.used positive bounded s) = bounded
 
   module _ (well : WellFormed R n w) where
-    pub used-links : {x : ℕ} → Used R n w x → Link R n w (left R w x) × Link R n w (right R w x)
+    pub used-links : {x : ℕ} → Used R n w x → Link R n w (linkOf R w x 1) × Link R n w (linkOf R w x 2)
     used-links {x} u = go (well .cells x (u .positive) (u .bounded))
       where
-        go : Cell R n w x → Link R n w (left R w x) × Link R n w (right R w x)
-        go (Cell.free s) = absurd (omega (arith, u .state))
+        go : Cell R n w x → Link R n w (linkOf R w x 1) × Link R n w (linkOf R w x 2)
+        go (Cell.free s) = absurd (false≢true (sym (free-not-used (state R w x) s) ∙ u .state))
         go (Cell.used s l r) = (l, r)
 
     root-link : {x : ℕ} → List·Memᴰ x (rootsOf R w) → Link R n w x

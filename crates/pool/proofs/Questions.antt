@@ -7,7 +7,7 @@ use native.Mathlib.Omega.{arith}
 use lib.ListN.{length}
 use lib.Dec.{leb, eqb}
 use borrow.Author.Tests.{le-leb, eq-eqb, ne-eqb, leb-true, eqb-true}
-use Rattle.pool.specs.Layout.{cellLimit, cellCountOfLength, cellCount, poolLength, count}
+use Rattle.pool.specs.Layout.{firstCell, cellLimit, cellCountOfLength, cellCount, poolLength, count}
 
 -- both parts of a test that holds
 pub both : (a b : Bool) → (a && b) ≡ true → (a ≡ true) × (b ≡ true)
@@ -26,16 +26,16 @@ pub record Sized (R len n : ℕ) : Type 0 where
 
 pub length-sized : (R len : ℕ) → 0 < cellCountOfLength R len → Sized R len (cellCountOfLength R len)
 unfolding cellCountOfLength
-length-sized R len = go (leb (poolLength R 1) len && leb len (poolLength R cellLimit) && eqb ((len - (2 + R)) % 4) 0) refl
+length-sized R len = go (leb (poolLength R 1) len && leb len (poolLength R cellLimit) && eqb ((len - firstCell R) % 4) 0) refl
   where
-    go : (t : Bool) → (leb (poolLength R 1) len && leb len (poolLength R cellLimit) && eqb ((len - (2 + R)) % 4) 0) ≡ t
-        → 0 < cond t ((len - (2 + R)) / 4) 0 → Sized R len (cond t ((len - (2 + R)) / 4) 0)
+    go : (t : Bool) → (leb (poolLength R 1) len && leb len (poolLength R cellLimit) && eqb ((len - firstCell R) % 4) 0) ≡ t
+        → 0 < cond t ((len - firstCell R) / 4) 0 → Sized R len (cond t ((len - firstCell R) / 4) 0)
     go true e h =
-        let outer = both (leb (poolLength R 1) len && leb len (poolLength R cellLimit)) (eqb ((len - (2 + R)) % 4) 0) e in
+        let outer = both (leb (poolLength R 1) len && leb len (poolLength R cellLimit)) (eqb ((len - firstCell R) % 4) 0) e in
         let inner = both (leb (poolLength R 1) len) (leb len (poolLength R cellLimit)) (outer .0) in
         let low = leb-true (poolLength R 1) len (inner .0) in
         let high = leb-true len (poolLength R cellLimit) (inner .1) in
-        let whole = eqb-true ((len - (2 + R)) % 4) 0 (outer .1) in
+        let whole = eqb-true ((len - firstCell R) % 4) 0 (outer .1) in
         record { exact = omega arith; least = omega arith; most = omega arith }
     go false e h = absurd (omega arith)
 
@@ -46,7 +46,7 @@ sized-length R n low high =
     simp (
       le-leb (poolLength R 1) (poolLength R n) (omega arith),
       le-leb (poolLength R n) (poolLength R cellLimit) (omega arith),
-      eq-eqb ((poolLength R n - (2 + R)) % 4) 0 (omega arith),
+      eq-eqb ((poolLength R n - firstCell R) % 4) 0 (omega arith),
     ) (omega arith)
 
 -- the number of cells of words by their length and word 0

@@ -10,9 +10,11 @@ use lib.Seq.{getD-set-same, getD-set-other}
 use lib.Dec.{ltb, leb}
 use borrow.Author.Tests.{lt-ltb, le-ltb, le-leb, lt-leb, eq-eqb, ne-eqb}
 use Rattle.pool.specs.Words.{tabulate}
-use Rattle.pool.specs.Layout.{poolLength, cellAt, cell, setCell, head, setHead, count, register}
-use Rattle.pool.specs.Retain.{lowestFree, freeAbove, keptField, freeField, retainedField, retainedWord, retain, keptCount, freeCell, isMarked, sweepOf}
+use Rattle.pool.specs.Layout.{firstRegister, firstCell, poolLength, cellAt, cell, setCell, setNode, putCell, head, setHead, count, register}
+use Rattle.pool.specs.States.{usedState, freeState, isMarked}
+use Rattle.pool.specs.Retain.{lowestFree, freeAbove, keptField, freeField, retainedField, retainedWord, retain, keptCount, markedCell, sweepOf}
 use Rattle.pool.proofs.Laws.{cell-same, cell-other, length-setCell, length-setHead}
+use Rattle.pool.proofs.Node.{written, length-putCell, cell-putCell, cell-putCell-other}
 use Rattle.pool.proofs.Every.{length-tabulate, getD-tabulate, tabulate-list, tabulate-cong}
 
 -- the first of several cells is kept, or is the lowest free one
@@ -32,35 +34,16 @@ module _ (keep : ℕ → Bool) (n i : ℕ) (here : i < n) where
   free-here : keep (suc i) ≡ false → freeAbove keep n i ≡ suc i
   free-here e = one-more ∙ lowest-step keep (n - suc i) (suc i) false e
 
--- a freed cell, field by field, and what freeing it leaves alone
-module _ (R : ℕ) (w : List ℕ) (i next : ℕ) (positive : 0 < i) where
-  pub length-freeCell : length (freeCell R w i next) ≡ length w
-  length-freeCell = simp length-setCell
-
-  freeCell-other : (j f : ℕ) → 0 < j → f < 4 → (j ≡ i → ⊥) → cell R (freeCell R w i next) j f ≡ cell R w j f
-  freeCell-other j f hj hf apart =
-      cell-other R _ i 3 0 j f positive (omega arith) hj hf (λ e. apart (omega arith))
-      ∙ (cell-other R _ i 2 0 j f positive (omega arith) hj hf (λ e. apart (omega arith))
-      ∙ (cell-other R _ i 1 next j f positive (omega arith) hj hf (λ e. apart (omega arith))
-      ∙ cell-other R w i 0 4 j f positive (omega arith) hj hf (λ e. apart (omega arith))))
-
-  freeCell-same : (keep : ℕ → Bool) (n f : ℕ) → f < 4 → poolLength R i ≤ length w → next ≡ freeAbove keep n i
-      → cell R (freeCell R w i next) i f ≡ freeField keep n i f
-  freeCell-same keep n zero hf room e =
-      cell-other R _ i 3 0 i 0 positive (omega arith) positive hf (λ q. omega arith)
-      ∙ (cell-other R _ i 2 0 i 0 positive (omega arith) positive hf (λ q. omega arith)
-      ∙ (cell-other R _ i 1 next i 0 positive (omega arith) positive hf (λ q. omega arith)
-      ∙ cell-same R w i 0 4 positive hf room))
-  freeCell-same keep n (suc zero) hf room e =
-      cell-other R _ i 3 0 i 1 positive (omega arith) positive hf (λ q. omega arith)
-      ∙ (cell-other R _ i 2 0 i 1 positive (omega arith) positive hf (λ q. omega arith)
-      ∙ (cell-same R _ i 1 next positive hf (simp length-setCell room)
-      ∙ e))
-  freeCell-same keep n (suc (suc zero)) hf room e =
-      cell-other R _ i 3 0 i 2 positive (omega arith) positive hf (λ q. omega arith)
-      ∙ cell-same R _ i 2 0 positive hf (simp length-setCell room)
-  freeCell-same keep n (suc (suc (suc zero))) hf room e = cell-same R _ i 3 0 positive hf (simp length-setCell room)
-  freeCell-same keep n (suc (suc (suc (suc f)))) hf room e = absurd (omega arith)
+-- a freed cell, field by field
+free-cell : (R : ℕ) (w : List ℕ) (i next : ℕ) → 0 < i → (keep : ℕ → Bool) (n f : ℕ) → f < 4 → poolLength R i ≤ length w → next ≡ freeAbove keep n i
+    → cell R (putCell R w i freeState next 0 0) i f ≡ freeField keep n i f
+free-cell R w i next positive keep n f hf room e = cell-putCell R w i positive freeState next 0 0 f hf room ∙ field f
+  where
+    field : (f : ℕ) → written freeState next 0 0 f ≡ freeField keep n i f
+    field zero = refl
+    field (suc zero) = e
+    field (suc (suc zero)) = refl
+    field (suc (suc (suc f))) = refl
 
 -- a word that is no cell's
 abbrev pub Elsewhere : ℕ → ℕ → ℕ → Type 0
@@ -71,22 +54,31 @@ pub setCell-elsewhere : (R n : ℕ) (w : List ℕ) (i f v k : ℕ) → 0 < i →
 unfolding setCell
 setCell-elsewhere R n w i f v k low high hf away = getD-set-other w (cellAt R i f) k v 0 (away i f low high hf)
 
+pub putCell-elsewhere : (R n : ℕ) (w : List ℕ) (i s l r v k : ℕ) → 0 < i → i ≤ n → Elsewhere R n k
+    → getD (putCell R w i s l r v) k 0 ≡ getD w k 0
+putCell-elsewhere R n w i s l r v k low high away =
+    field (setNode R w i s l r) 3 v (omega arith)
+    ∙ (field (setCell R (setCell R w i 0 s) i 1 l) 2 r (omega arith) ∙ (field (setCell R w i 0 s) 1 l (omega arith) ∙ field w 0 s (omega arith)))
+  where
+    field : (w : List ℕ) (f v : ℕ) → f < 4 → getD (setCell R w i f v) k 0 ≡ getD w k 0
+    field w f v hf = setCell-elsewhere R n w i f v k low high hf away
+
 -- which word the place k is: the head, a word that stays, or a field of a cell
 pub data Place (R n k : ℕ) : Type 0 where
   first : k ≡ 1 → Place R n k
-  stays : (k ≡ 1 → ⊥) → Elsewhere R n k → (ltb k (2 + R) || leb (poolLength R n) k) ≡ true → Place R n k
+  stays : (k ≡ 1 → ⊥) → Elsewhere R n k → (ltb k (firstCell R) || leb (poolLength R n) k) ≡ true → Place R n k
   field : (i f : ℕ) → 0 < i → i ≤ n → f < 4 → k ≡ cellAt R i f → Place R n k
 
 pub place : (R n k : ℕ) → Place R n k
-place R n k = go (ℕ-discrete k 1) (decLt k (2 + R)) (decLe (poolLength R n) k)
+place R n k = go (ℕ-discrete k 1) (decLt k (firstCell R)) (decLe (poolLength R n) k)
   where
-    go : Dec (k ≡ 1) → Dec (k < 2 + R) → Dec (poolLength R n ≤ k) → Place R n k
+    go : Dec (k ≡ 1) → Dec (k < firstCell R) → Dec (poolLength R n ≤ k) → Place R n k
     go (yes e) low high = Place.first e
-    go (no other) (yes low) high = Place.stays other (λ j f hj top hf e. omega arith) (simp (lt-ltb k (2 + R) low))
+    go (no other) (yes low) high = Place.stays other (λ j f hj top hf e. omega arith) (simp (lt-ltb k (firstCell R) low))
     go (no other) (no low) (yes high) =
-        Place.stays other (λ j f hj top hf e. omega arith) (simp (le-ltb k (2 + R) (omega arith), le-leb (poolLength R n) k high))
+        Place.stays other (λ j f hj top hf e. omega arith) (simp (le-ltb k (firstCell R) (omega arith), le-leb (poolLength R n) k high))
     go (no other) (no low) (no high) =
-        Place.field (suc ((k - (2 + R)) / 4)) ((k - (2 + R)) % 4) (omega arith) (omega arith) (omega arith) (omega arith)
+        Place.field (suc ((k - (firstCell R)) / 4)) ((k - (firstCell R)) % 4) (omega arith) (omega arith) (omega arith) (omega arith)
 
 -- the words after the turns of the sweep for the cells n to i + 1
 pub record Swept (R n : ℕ) (keep : ℕ → Bool) (w₀ w : List ℕ) (i : ℕ) : Type 0 where
@@ -101,60 +93,55 @@ module _ (R n : ℕ) (keep : ℕ → Bool) (w₀ : List ℕ) where
       record { len = refl; elsewhere = λ k away. refl; below = λ j f hj low hf. refl; above = λ j f low high hf. absurd (omega arith) }
 
   module _ (w : List ℕ) (i : ℕ) (here : i < n) (room : poolLength R n ≤ length w₀) (s : Swept R n keep w₀ w (suc i)) where
-    pub swept-kept : keep (suc i) ≡ true → Swept R n keep w₀ (setCell R w (suc i) 0 0) i
+    pub swept-kept : keep (suc i) ≡ true → Swept R n keep w₀ (setCell R w (suc i) 0 usedState) i
     swept-kept e =
         record {
-          len = length-setCell R w (suc i) 0 0 ∙ s .len;
-          elsewhere = λ k away. setCell-elsewhere R n w (suc i) 0 0 k (omega arith) here (omega arith) away ∙ s .elsewhere k away;
+          len = length-setCell R w (suc i) 0 usedState ∙ s .len;
+          elsewhere = λ k away. setCell-elsewhere R n w (suc i) 0 usedState k (omega arith) here (omega arith) away ∙ s .elsewhere k away;
           below = λ j f hj low hf.
-              cell-other R w (suc i) 0 0 j f (omega arith) (omega arith) hj hf (λ q. omega arith) ∙ s .below j f hj (omega arith) hf;
+              cell-other R w (suc i) 0 usedState j f (omega arith) (omega arith) hj hf (λ q. omega arith) ∙ s .below j f hj (omega arith) hf;
           above = λ j f low high hf. go j f low high hf (ℕ-discrete j (suc i));
         }
       where
-        this : (f : ℕ) → f < 4 → cell R (setCell R w (suc i) 0 0) (suc i) f ≡ keptField R w₀ (suc i) f
-        this zero hf = cell-same R w (suc i) 0 0 (omega arith) hf (omega (arith, s .len))
+        this : (f : ℕ) → f < 4 → cell R (setCell R w (suc i) 0 usedState) (suc i) f ≡ keptField R w₀ (suc i) f
+        this zero hf = cell-same R w (suc i) 0 usedState (omega arith) hf (omega (arith, s .len))
         this (suc f) hf =
-            cell-other R w (suc i) 0 0 (suc i) (suc f) (omega arith) (omega arith) (omega arith) hf (λ q. omega arith)
+            cell-other R w (suc i) 0 usedState (suc i) (suc f) (omega arith) (omega arith) (omega arith) hf (λ q. omega arith)
             ∙ s .below (suc i) (suc f) (omega arith) (omega arith) hf
 
-        go : (j f : ℕ) → i < j → j ≤ n → f < 4 → Dec (j ≡ suc i) → cell R (setCell R w (suc i) 0 0) j f ≡ retainedField R n keep w₀ j f
+        go : (j f : ℕ) → i < j → j ≤ n → f < 4 → Dec (j ≡ suc i) → cell R (setCell R w (suc i) 0 usedState) j f ≡ retainedField R n keep w₀ j f
         go j f low high hf (yes same) = rw (same, e) (this f hf)
         go j f low high hf (no other) =
-            cell-other R w (suc i) 0 0 j f (omega arith) (omega arith) (omega arith) hf (λ q. other (omega arith))
+            cell-other R w (suc i) 0 usedState j f (omega arith) (omega arith) (omega arith) hf (λ q. other (omega arith))
             ∙ s .above j f (omega arith) high hf
 
-    pub swept-free : (next : ℕ) → keep (suc i) ≡ false → next ≡ freeAbove keep n (suc i) → Swept R n keep w₀ (freeCell R w (suc i) next) i
+    pub swept-free : (next : ℕ) → keep (suc i) ≡ false → next ≡ freeAbove keep n (suc i) → Swept R n keep w₀ (putCell R w (suc i) freeState next 0 0) i
     swept-free next e chain =
         record {
-          len = length-freeCell R w (suc i) next (omega arith) ∙ s .len;
-          elsewhere = λ k away.
-              setCell-elsewhere R n _ (suc i) 3 0 k (omega arith) here (omega arith) away
-              ∙ (setCell-elsewhere R n _ (suc i) 2 0 k (omega arith) here (omega arith) away
-              ∙ (setCell-elsewhere R n _ (suc i) 1 next k (omega arith) here (omega arith) away
-              ∙ (setCell-elsewhere R n w (suc i) 0 4 k (omega arith) here (omega arith) away
-              ∙ s .elsewhere k away)));
+          len = length-putCell R w (suc i) (omega arith) freeState next 0 0 ∙ s .len;
+          elsewhere = λ k away. putCell-elsewhere R n w (suc i) freeState next 0 0 k (omega arith) here away ∙ s .elsewhere k away;
           below = λ j f hj low hf.
-              freeCell-other R w (suc i) next (omega arith) j f hj hf (λ q. omega arith) ∙ s .below j f hj (omega arith) hf;
+              cell-putCell-other R w (suc i) (omega arith) freeState next 0 0 j f hj hf (λ q. omega arith) ∙ s .below j f hj (omega arith) hf;
           above = λ j f low high hf. go j f low high hf (ℕ-discrete j (suc i));
         }
       where
-        go : (j f : ℕ) → i < j → j ≤ n → f < 4 → Dec (j ≡ suc i) → cell R (freeCell R w (suc i) next) j f ≡ retainedField R n keep w₀ j f
+        go : (j f : ℕ) → i < j → j ≤ n → f < 4 → Dec (j ≡ suc i) → cell R (putCell R w (suc i) freeState next 0 0) j f ≡ retainedField R n keep w₀ j f
         go j f low high hf (yes same) =
-            rw (same, e) (freeCell-same R w (suc i) next (omega arith) keep n f hf (omega (arith, s .len)) chain)
+            rw (same, e) (free-cell R w (suc i) next (omega arith) keep n f hf (omega (arith, s .len)) chain)
         go j f low high hf (no other) =
-            freeCell-other R w (suc i) next (omega arith) j f (omega arith) hf other ∙ s .above j f (omega arith) high hf
+            cell-putCell-other R w (suc i) (omega arith) freeState next 0 0 j f (omega arith) hf other ∙ s .above j f (omega arith) high hf
 
   -- the rule of the retained words at a word that stays and at a field of a cell
-  pub word-stays : (k : ℕ) → (k ≡ 1 → ⊥) → (ltb k (2 + R) || leb (poolLength R n) k) ≡ true → retainedWord R n keep w₀ k ≡ getD w₀ k 0
+  pub word-stays : (k : ℕ) → (k ≡ 1 → ⊥) → (ltb k (firstCell R) || leb (poolLength R n) k) ≡ true → retainedWord R n keep w₀ k ≡ getD w₀ k 0
   word-stays k other test = simp (ne-eqb k 1 other, test)
 
   pub word-field : (i f : ℕ) → 0 < i → i ≤ n → f < 4 → retainedWord R n keep w₀ (cellAt R i f) ≡ retainedField R n keep w₀ i f
   word-field i f hi high hf =
-      let number : suc ((cellAt R i f - (2 + R)) / 4) ≡ i = omega arith in
-      let field : (cellAt R i f - (2 + R)) % 4 ≡ f = omega arith in
+      let number : suc ((cellAt R i f - (firstCell R)) / 4) ≡ i = omega arith in
+      let field : (cellAt R i f - (firstCell R)) % 4 ≡ f = omega arith in
       simp (
         ne-eqb (cellAt R i f) 1 (λ e. omega arith),
-        le-ltb (cellAt R i f) (2 + R) (omega arith),
+        le-ltb (cellAt R i f) (firstCell R) (omega arith),
         lt-leb (poolLength R n) (cellAt R i f) (omega arith),
         number,
         field,
@@ -187,12 +174,12 @@ module _ (R n : ℕ) (keep : ℕ → Bool) (w₀ : List ℕ) where
 
     pub retain-count : count (retain R n keep w₀) ≡ count w₀
     unfolding retain count
-    retain-count = getD-tabulate (length w₀) (retainedWord R n keep w₀) 0 0 (omega arith) ∙ word-stays 0 (λ e. omega arith) (simp (lt-ltb 0 (2 + R) (omega arith)))
+    retain-count = getD-tabulate (length w₀) (retainedWord R n keep w₀) 0 0 (omega arith) ∙ word-stays 0 (λ e. omega arith) (simp (lt-ltb 0 (firstCell R) (omega arith)))
 
     pub retain-register : (k : ℕ) → k < R → register (retain R n keep w₀) k ≡ register w₀ k
     unfolding retain register
     retain-register k low =
-        getD-tabulate (length w₀) (retainedWord R n keep w₀) (2 + k) 0 (omega arith) ∙ word-stays (2 + k) (λ e. omega arith) (simp (lt-ltb (2 + k) (2 + R) (omega arith)))
+        getD-tabulate (length w₀) (retainedWord R n keep w₀) (firstRegister + k) 0 (omega arith) ∙ word-stays (firstRegister + k) (λ e. omega arith) (simp (lt-ltb (firstRegister + k) (firstCell R) (omega arith)))
 
     pub retain-elsewhere : (k : ℕ) → (k ≡ 1 → ⊥) → Elsewhere R n k → getD (retain R n keep w₀) k 0 ≡ getD w₀ k 0
     unfolding retain
@@ -233,16 +220,16 @@ kept-most keep (suc n) = go (keep (suc n)) (kept-most keep n)
 -- what the loop of the sweep keeps: the cells above i are done, next is the lowest free one of them, and kept counts the others
 pub record Turn (R n : ℕ) (w₀ w : List ℕ) (i next kept : ℕ) : Type 0 where
   pub few : kept + i ≤ n
-  pub swept : Swept R n (isMarked R w₀) w₀ w i
-  pub chain : next ≡ freeAbove (isMarked R w₀) n i
-  pub counted : keptCount (isMarked R w₀) n ≡ kept + keptCount (isMarked R w₀) i
+  pub swept : Swept R n (markedCell R w₀) w₀ w i
+  pub chain : next ≡ freeAbove (markedCell R w₀) n i
+  pub counted : keptCount (markedCell R w₀) n ≡ kept + keptCount (markedCell R w₀) i
 
 module _ (R n : ℕ) (w₀ : List ℕ) (room : poolLength R n ≤ length w₀) where
   pub turn-first : Turn R n w₀ w₀ n 0 0
   unfolding lowestFree
   turn-first =
       let none : n - n ≡ 0 = omega arith in
-      record { few = omega arith; swept = swept-none R n (isMarked R w₀) w₀; chain = rw none; counted = omega arith }
+      record { few = omega arith; swept = swept-none R n (markedCell R w₀) w₀; chain = rw none; counted = omega arith }
 
   module _ (w : List ℕ) (i next kept : ℕ) (some : 0 < i) (t : Turn R n w₀ w i next kept) where
     top : i - 1 < n
@@ -255,33 +242,33 @@ module _ (R n : ℕ) (w₀ : List ℕ) (room : poolLength R n ≤ length w₀) w
     state-read : (s : ℕ) → s ≡ cell R w i 0 → cell R w₀ (suc (i - 1)) 0 ≡ s
     state-read s read = rw this (sym (read ∙ t .swept .below i 0 some (omega arith) (omega arith)))
 
-    pub turn-kept : (s : ℕ) (w' : List ℕ) → s ≡ cell R w i 0 → s ≡ 3 → w' ≡ setCell R w i 0 0 → Turn R n w₀ w' (i - 1) next (kept + 1)
-    turn-kept s w' read three write =
-        let keep : isMarked R w₀ (suc (i - 1)) ≡ true = eq-eqb (cell R w₀ (suc (i - 1)) 0) 3 (state-read s read ∙ three) in
+    pub turn-kept : (s : ℕ) (w' : List ℕ) → s ≡ cell R w i 0 → isMarked s ≡ true → w' ≡ setCell R w i 0 usedState → Turn R n w₀ w' (i - 1) next (kept + 1)
+    turn-kept s w' read is write =
+        let keep : markedCell R w₀ (suc (i - 1)) ≡ true = ap isMarked (state-read s read) ∙ is in
         record {
           few = omega (arith, t .few);
-          swept = rw (write ∙ ap (λ (k : ℕ). setCell R w k 0 0) (sym this))
-              (swept-kept R n (isMarked R w₀) w₀ w (i - 1) top room (rw this (t .swept)) keep);
-          chain = t .chain ∙ sym (free-kept (isMarked R w₀) n (i - 1) top keep ∙ ap (freeAbove (isMarked R w₀) n) this);
-          counted = omega (arith, t .counted, kept-more (isMarked R w₀) i some (rw this at keep));
+          swept = rw (write ∙ ap (λ (k : ℕ). setCell R w k 0 usedState) (sym this))
+              (swept-kept R n (markedCell R w₀) w₀ w (i - 1) top room (rw this (t .swept)) keep);
+          chain = t .chain ∙ sym (free-kept (markedCell R w₀) n (i - 1) top keep ∙ ap (freeAbove (markedCell R w₀) n) this);
+          counted = omega (arith, t .counted, kept-more (markedCell R w₀) i some (rw this at keep));
         }
 
-    pub turn-free : (s : ℕ) (w' : List ℕ) → s ≡ cell R w i 0 → (s ≡ 3 → ⊥) → w' ≡ freeCell R w i next → Turn R n w₀ w' (i - 1) i kept
-    turn-free s w' read other write =
-        let drop : isMarked R w₀ (suc (i - 1)) ≡ false = ne-eqb (cell R w₀ (suc (i - 1)) 0) 3 (λ e. other (sym (state-read s read) ∙ e)) in
+    pub turn-free : (s : ℕ) (w' : List ℕ) → s ≡ cell R w i 0 → isMarked s ≡ false → w' ≡ putCell R w i freeState next 0 0 → Turn R n w₀ w' (i - 1) i kept
+    turn-free s w' read is write =
+        let drop : markedCell R w₀ (suc (i - 1)) ≡ false = ap isMarked (state-read s read) ∙ is in
         record {
           few = omega (arith, t .few);
-          swept = rw (write ∙ ap (λ (k : ℕ). freeCell R w k next) (sym this))
-              (swept-free R n (isMarked R w₀) w₀ w (i - 1) top room (rw this (t .swept)) next drop (t .chain ∙ ap (freeAbove (isMarked R w₀) n) (sym this)));
-          chain = sym (free-here (isMarked R w₀) n (i - 1) top drop ∙ this);
-          counted = omega (arith, t .counted, kept-same (isMarked R w₀) i some (rw this at drop));
+          swept = rw (write ∙ ap (λ (k : ℕ). putCell R w k freeState next 0 0) (sym this))
+              (swept-free R n (markedCell R w₀) w₀ w (i - 1) top room (rw this (t .swept)) next drop (t .chain ∙ ap (freeAbove (markedCell R w₀) n) (sym this)));
+          chain = sym (free-here (markedCell R w₀) n (i - 1) top drop ∙ this);
+          counted = omega (arith, t .counted, kept-same (markedCell R w₀) i some (rw this at drop));
         }
 
   pub turn-last : (w w' : List ℕ) (i next kept : ℕ) → i ≤ 0 → Turn R n w₀ w i next kept → w' ≡ setHead w next
       → _≡_ {A = ℕ × List ℕ} (kept, w') (sweepOf R n w₀)
   unfolding keptCount
   turn-last w w' zero next kept last t write =
-      ap₂ (λ (k : ℕ) (l : List ℕ). (k, l)) (omega (arith, t .counted)) (write ∙ (ap (setHead w) (t .chain) ∙ swept-all R n (isMarked R w₀) w₀ w room (t .swept)))
+      ap₂ (λ (k : ℕ) (l : List ℕ). (k, l)) (omega (arith, t .counted)) (write ∙ (ap (setHead w) (t .chain) ∙ swept-all R n (markedCell R w₀) w₀ w room (t .swept)))
   turn-last w w' (suc i) next kept last t write = absurd (omega arith)
 
 -- the lowest free cell, and the number of kept ones, are the same where the same cells from 1 to n are kept

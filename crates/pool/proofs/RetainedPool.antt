@@ -6,10 +6,12 @@ use mathlib.Core.List.{List, [], _∷_}
 use mathlib.Core.Bool.{Bool, true, false}
 use lib.ListN.{length}
 use lib.Dec.{eqb·suc-zero}
-use Rattle.pool.specs.Layout.{poolLength, register, cell, state, left, right}
+use Rattle.pool.specs.Layout.{poolLength, register, cell, state, left, linkOf}
+use Rattle.pool.specs.States.{freeState, isUsed, isFree, asUsed}
 use Rattle.pool.specs.Retain.{lowestFree, chainFrom, freeCells, retain}
 use Rattle.pool.specs.FreshPool.{RetainedFreeList}
 use Rattle.pool.proofs.Retained.{retain-head, retain-register, retain-cell}
+use Rattle.pool.proofs.States.{used-used}
 use Rattle.pool.proofs.WellFormed.{Link, Cell, WellFormed}
 
 -- the free list of a retained pool, from any cell on
@@ -53,10 +55,13 @@ pub data Kept (n : ℕ) (keep : ℕ → Bool) (x : ℕ) : Type 0 where
   kept : 0 < x → x ≤ n → keep x ≡ true → Kept n keep x
 
 module _ (R n : ℕ) (keep : ℕ → Bool) (w : List ℕ) (room : poolLength R n ≤ length w) where
-  pub retained-used : (i : ℕ) → 0 < i → i ≤ n → keep i ≡ true → state R (retain R n keep w) i ≡ 0
-  retained-used i low high e = retain-cell R n keep w room i 0 low high (omega arith) ∙ rw e
+  pub retained-state : (i : ℕ) → 0 < i → i ≤ n → keep i ≡ true → state R (retain R n keep w) i ≡ asUsed (state R w i)
+  retained-state i low high e = retain-cell R n keep w room i 0 low high (omega arith) ∙ rw e
 
-  pub retained-free : (i : ℕ) → 0 < i → i ≤ n → keep i ≡ false → state R (retain R n keep w) i ≡ 4
+  pub retained-used : (i : ℕ) → 0 < i → i ≤ n → keep i ≡ true → isUsed (state R (retain R n keep w) i) ≡ true
+  retained-used i low high e = ap isUsed (retained-state i low high e) ∙ used-used (state R w i)
+
+  pub retained-free : (i : ℕ) → 0 < i → i ≤ n → keep i ≡ false → state R (retain R n keep w) i ≡ freeState
   retained-free i low high e = retain-cell R n keep w room i 0 low high (omega arith) ∙ rw e
 
   -- a kept cell keeps its links and its value
@@ -68,7 +73,7 @@ module _ (R n : ℕ) (keep : ℕ → Bool) (w : List ℕ) (room : poolLength R n
   retained-link x y e (Kept.kept low high k) = rw e (Link.used low high (retained-used y low high k))
 
   pub retained-well-formed : ((k : ℕ) → k < R → Kept n keep (register w k))
-      → ((i : ℕ) → 0 < i → i ≤ n → keep i ≡ true → Kept n keep (left R w i) × Kept n keep (right R w i))
+      → ((i : ℕ) → 0 < i → i ≤ n → keep i ≡ true → Kept n keep (linkOf R w i 1) × Kept n keep (linkOf R w i 2))
       → WellFormed R n (retain R n keep w)
   retained-well-formed roots links =
       record {
@@ -79,6 +84,6 @@ module _ (R n : ℕ) (keep : ℕ → Bool) (w : List ℕ) (room : poolLength R n
       go : (i : ℕ) → 0 < i → i ≤ n → (t : Bool) → keep i ≡ t → Cell R n (retain R n keep w) i
       go i low high true e =
           Cell.used (retained-used i low high e)
-          (retained-link (left R (retain R n keep w) i) (left R w i) (retained-same i 0 low high (omega arith) e) (links i low high e .0))
-          (retained-link (right R (retain R n keep w) i) (right R w i) (retained-same i 1 low high (omega arith) e) (links i low high e .1))
-      go i low high false e = Cell.free (retained-free i low high e)
+          (retained-link (linkOf R (retain R n keep w) i 1) (linkOf R w i 1) (retained-same i 0 low high (omega arith) e) (links i low high e .0))
+          (retained-link (linkOf R (retain R n keep w) i 2) (linkOf R w i 2) (retained-same i 1 low high (omega arith) e) (links i low high e .1))
+      go i low high false e = Cell.free (ap isFree (retained-free i low high e))

@@ -6,19 +6,21 @@ use mathlib.Core.List.{List}
 use mathlib.Core.Bool.{Bool, true, false, _&&_, _||_}
 use lib.Dec.{eqb, leb}
 use borrow.Author.Tests.{le-leb, eq-eqb, eqb-true, eqb-false, leb-true}
-use Rattle.pool.specs.Layout.{register, state, left, right}
+use Rattle.pool.specs.Layout.{register, state, linkOf}
+use Rattle.pool.specs.States.{isUsed, isFree}
 use Rattle.pool.specs.Validity.{validLink, validCell, registersValid, cellsValid, wellFormed}
 use Rattle.pool.proofs.Questions.{both}
+use Rattle.pool.proofs.States.{used-not-free}
 use Rattle.pool.proofs.Every.{every-each, each-every}
 
 -- a valid link is nil or a used cell
 pub data Link (R n : ℕ) (w : List ℕ) (x : ℕ) : Type 0 where
   nil : x ≡ 0 → Link R n w x
-  used : 0 < x → x ≤ n → state R w x ≡ 0 → Link R n w x
+  used : 0 < x → x ≤ n → isUsed (state R w x) ≡ true → Link R n w x
 
 pub data Cell (R n : ℕ) (w : List ℕ) (i : ℕ) : Type 0 where
-  free : state R w i ≡ 4 → Cell R n w i
-  used : state R w i ≡ 0 → Link R n w (left R w i) → Link R n w (right R w i) → Cell R n w i
+  free : isFree (state R w i) ≡ true → Cell R n w i
+  used : isUsed (state R w i) ≡ true → Link R n w (linkOf R w i 1) → Link R n w (linkOf R w i 2) → Cell R n w i
 
 pub record WellFormed (R n : ℕ) (w : List ℕ) : Type 0 where
   pub registers : (k : ℕ) → k < R → Link R n w (register w k)
@@ -28,35 +30,36 @@ module _ (R n : ℕ) (w : List ℕ) where
   pub link-read : (x : ℕ) → validLink R n w x ≡ true → Link R n w x
   link-read x h = go (eqb x 0) refl h
     where
-      go : (t : Bool) → eqb x 0 ≡ t → (t || (leb x n && eqb (state R w x) 0)) ≡ true → Link R n w x
+      go : (t : Bool) → eqb x 0 ≡ t → (t || (leb x n && isUsed (state R w x))) ≡ true → Link R n w x
       go true e h = nil (eqb-true x 0 e)
       go false e h =
-          let parts = both (leb x n) (eqb (state R w x) 0) h in
+          let parts = both (leb x n) (isUsed (state R w x)) h in
           let other : x ≡ 0 → ⊥ = eqb-false x 0 e in
-          used (omega (arith, other)) (leb-true x n (parts .0)) (eqb-true (state R w x) 0 (parts .1))
+          used (omega (arith, other)) (leb-true x n (parts .0)) (parts .1)
 
   pub link-made : (x : ℕ) → Link R n w x → validLink R n w x ≡ true
   link-made x (nil e) = simp (eq-eqb x 0 e)
   link-made x (used low high s) = go (eqb x 0)
     where
-      go : (t : Bool) → (t || (leb x n && eqb (state R w x) 0)) ≡ true
+      go : (t : Bool) → (t || (leb x n && isUsed (state R w x))) ≡ true
       go true = refl
-      go false = simp (le-leb x n high, eq-eqb (state R w x) 0 s)
+      go false = simp (le-leb x n high, s)
 
   pub cell-read : (i : ℕ) → validCell R n w i ≡ true → Cell R n w i
-  cell-read i h = go (eqb (state R w i) 4) refl h
+  cell-read i h = go (isFree (state R w i)) refl h
     where
-      go : (t : Bool) → eqb (state R w i) 4 ≡ t
-          → (t || (eqb (state R w i) 0 && validLink R n w (left R w i) && validLink R n w (right R w i))) ≡ true → Cell R n w i
-      go true e h = free (eqb-true (state R w i) 4 e)
+      go : (t : Bool) → isFree (state R w i) ≡ t
+          → (t || (isUsed (state R w i) && validLink R n w (linkOf R w i 1) && validLink R n w (linkOf R w i 2))) ≡ true → Cell R n w i
+      go true e h = free e
       go false e h =
-          let outer = both (eqb (state R w i) 0 && validLink R n w (left R w i)) (validLink R n w (right R w i)) h in
-          let inner = both (eqb (state R w i) 0) (validLink R n w (left R w i)) (outer .0) in
-          used (eqb-true (state R w i) 0 (inner .0)) (link-read (left R w i) (inner .1)) (link-read (right R w i) (outer .1))
+          let outer = both (isUsed (state R w i) && validLink R n w (linkOf R w i 1)) (validLink R n w (linkOf R w i 2)) h in
+          let inner = both (isUsed (state R w i)) (validLink R n w (linkOf R w i 1)) (outer .0) in
+          used (inner .0) (link-read (linkOf R w i 1) (inner .1)) (link-read (linkOf R w i 2) (outer .1))
 
   pub cell-made : (i : ℕ) → Cell R n w i → validCell R n w i ≡ true
-  cell-made i (free s) = simp (eq-eqb (state R w i) 4 s)
-  cell-made i (used s l r) = simp (s, link-made (left R w i) l, link-made (right R w i) r)
+  cell-made i (free s) = simp s
+  cell-made i (used s l r) =
+      simp (used-not-free (state R w i) s, s, link-made (linkOf R w i 1) l, link-made (linkOf R w i 2) r)
 
   pub well-formed-read : wellFormed R n w ≡ true → WellFormed R n w
   well-formed-read h =

@@ -79,9 +79,20 @@ right R w i = cell R w i 2
 abbrev pub value : ℕ → List ℕ → ℕ → ℕ
 value R w i = cell R w i 3
 
+-- State s, left l and right r written to cell i, and with them its value v.
+abbrev pub setNode : ℕ → List ℕ → ℕ → ℕ → ℕ → ℕ → List ℕ
+setNode R w i s l r = setCell R (setCell R (setCell R w i 0 s) i 1 l) i 2 r
+
+abbrev pub putCell : ℕ → List ℕ → ℕ → ℕ → ℕ → ℕ → ℕ → List ℕ
+putCell R w i s l r v = setCell R (setNode R w i s l r) i 3 v
+
+-- A link of a cell: its left (1) or right (2) field.
+abbrev pub linkOf : ℕ → List ℕ → ℕ → ℕ → ℕ
+linkOf R w i f = cell R w i f
+
 -- The graph that the words hold, and the links that its registers hold, in order.
 abbrev pub graphOf : ℕ → List ℕ → Graph
-graphOf R w = record { left = λ i. left R w i; right = λ i. right R w i }
+graphOf R w = record { left = λ i. linkOf R w i 1; right = λ i. linkOf R w i 2 }
 
 abbrev pub rootsOf : ℕ → List ℕ → List ℕ
 rootsOf R w = tabulate R (λ k. register w k)

@@ -6,7 +6,8 @@ use mathlib.Core.Bool.{Bool, true, false, cond, _||_}
 use lib.ListN.{length, getD, drop, replicate}
 use lib.Dec.{eqb, leb, ltb}
 use Rattle.pool.specs.Words.{tabulate}
-use Rattle.pool.specs.Layout.{firstCell, poolLength, setCount, cell, setCell, state, left, head}
+use Rattle.pool.specs.Layout.{firstCell, poolLength, setCount, cell, state, left, head}
+use Rattle.pool.specs.States.{freeState, isMarked, asUsed}
 
 -- The lowest of the k cells from i on that is not kept, 0 where all of them are kept.
 unfoldable pub lowestFree : (ℕ → Bool) → ℕ → ℕ → ℕ
@@ -19,12 +20,12 @@ freeAbove keep n i = lowestFree keep (n - i) (suc i)
 
 -- A kept cell is used, its links and its value as they were.
 abbrev pub keptField : ℕ → List ℕ → ℕ → ℕ → ℕ
-keptField R w i zero = 0
+keptField R w i zero = asUsed (state R w i)
 keptField R w i (suc f) = cell R w i (suc f)
 
 -- "A free cell's left is the next higher free cell (0 at the end), its right and value are 0".
 abbrev pub freeField : (ℕ → Bool) → ℕ → ℕ → ℕ → ℕ
-freeField keep n i zero = 4
+freeField keep n i zero = freeState
 freeField keep n i (suc zero) = freeAbove keep n i
 freeField keep n i (suc (suc f)) = 0
 
@@ -64,17 +65,14 @@ chainFrom R (suc k) w i = elim (eqb i 0) [ true ↦ [] | false ↦ i ∷ chainFr
 abbrev pub freeList : ℕ → ℕ → List ℕ → List ℕ
 freeList R n w = chainFrom R n w (head w)
 
--- State 3: a cell that a marker has marked. "The sweep sets state 3 to 0, frees every other cell".
-abbrev pub isMarked : ℕ → List ℕ → ℕ → Bool
-isMarked R w i = eqb (state R w i) 3
+-- Has a marker marked cell i?
+abbrev pub markedCell : ℕ → List ℕ → ℕ → Bool
+markedCell R w i = isMarked (state R w i)
 
--- What the sweep of a pool of n cells answers and leaves: the number of marked cells, and the pool that keeps just these.
+-- What the sweep of a pool of n cells answers and leaves: the number of marked cells, and the pool that keeps just these. "The sweep sets state 3 to 0,
+-- frees every other cell and rebuilds the ascending chain."
 abbrev pub sweepOf : ℕ → ℕ → List ℕ → ℕ × List ℕ
-sweepOf R n w = (keptCount (isMarked R w) n, retain R n (isMarked R w) w)
-
--- A cell freed, and linked to the next free one.
-abbrev pub freeCell : ℕ → List ℕ → ℕ → ℕ → List ℕ
-freeCell R w i next = setCell R (setCell R (setCell R (setCell R w i 0 4) i 1 next) i 2 0) i 3 0
+sweepOf R n w = (keptCount (markedCell R w) n, retain R n (markedCell R w) w)
 
 -- The cells among the k from i on that are not kept, in ascending order.
 unfoldable pub freeCells : (ℕ → Bool) → ℕ → ℕ → List ℕ

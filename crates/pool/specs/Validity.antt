@@ -4,14 +4,8 @@ use mathlib.Core.List.{List}
 use mathlib.Core.Bool.{Bool, _&&_, _||_}
 use lib.Dec.{eqb, leb}
 use Rattle.pool.specs.Words.{every}
-use Rattle.pool.specs.Layout.{register, state, left, right}
-
--- "State 0 is used, 4 is free"
-abbrev pub isUsed : ℕ → Bool
-isUsed s = eqb s 0
-
-abbrev pub isFree : ℕ → Bool
-isFree s = eqb s 4
+use Rattle.pool.specs.Layout.{register, state, linkOf}
+use Rattle.pool.specs.States.{isUsed, isFree}
 
 -- "A link is sound if it is 0 or the number of a used cell."
 abbrev pub validLink : ℕ → ℕ → List ℕ → ℕ → Bool
@@ -20,7 +14,7 @@ validLink R n w x = eqb x 0 || (leb x n && isUsed (state R w x))
 -- Of one cell: "every state is 0 or 4 and .. all links of used cells are sound".
 abbrev pub validCell : ℕ → ℕ → List ℕ → ℕ → Bool
 validCell R n w i =
-    isFree (state R w i) || (isUsed (state R w i) && validLink R n w (left R w i) && validLink R n w (right R w i))
+    isFree (state R w i) || (isUsed (state R w i) && validLink R n w (linkOf R w i 1) && validLink R n w (linkOf R w i 2))
 
 -- All registers are valid.
 abbrev pub registersValid : ℕ → ℕ → List ℕ → Bool

@@ -7,9 +7,10 @@ use answers::Refusal;
 ghost use mathlib.Core.Path.{_≡_};
 ghost use Prim.Native.Nat.{_+_, _<_, _≤_};
 ghost use lib.ListN.{length, replicate};
-ghost use Rattle.pool.specs.Layout.{registerCount, poolLength, cellCountOfLength, cell, setCell, register, setRegister, head, setHead};
+ghost use Rattle.pool.specs.Layout.{registerCount, poolLength, cellCountOfLength, cell, setCell, putCell, linkOf, register, setRegister, head, setHead};
+ghost use Rattle.pool.specs.States.{isUsed, isMarked, isFree};
 ghost use Rattle.pool.specs.Validity.{validLink, validCell, registersValid, cellsValid, wellFormed};
-ghost use Rattle.pool.specs.Retain.{sweepOf, freeCell};
+ghost use Rattle.pool.specs.Retain.{sweepOf};
 ghost use Rattle.answers.specs.Outcome.{answerOutcome};
 ghost use Rattle.pool.specs.Calls.{freshOf, occupancyOf, sizedOf, areRegisters, admitOf, heldOf};
 
@@ -201,6 +202,33 @@ pub fn write_head(words: &mut [u32], v: u32)
     words[Pool::HEAD] = v;
 }
 
+// The tests of a cell's state.
+pub fn is_used(state: u32) -> bool
+    ensures { λ r. ⌜ r ≡ isUsed state ⌝ }
+{
+    state == Pool::USED
+}
+
+pub fn is_marked(state: u32) -> bool
+    ensures { λ r. ⌜ r ≡ isMarked state ⌝ }
+{
+    state == Pool::MARKED
+}
+
+pub fn is_free(state: u32) -> bool
+    ensures { λ r. ⌜ r ≡ isFree state ⌝ }
+{
+    state == Pool::FREE
+}
+
+// A link of a cell: its left or right field.
+pub fn link_of(words: &[u32], i: u32, field: usize) -> u32
+    requires { ⌜ (0 < i) × (field < 4) × (poolLength registerCount i ≤ length (now words)) ⌝ }
+    ensures { λ r. ⌜ r ≡ linkOf registerCount (now (words .entry)) i field ⌝ }
+{
+    read_cell(words, i, field)
+}
+
 // Is the link nil, or a used cell's number?
 pub fn valid_link(words: &[u32], n: u32, x: u32) -> bool
     requires { ⌜ poolLength registerCount n ≤ length (now words) ⌝ }
@@ -212,7 +240,7 @@ pub fn valid_link(words: &[u32], n: u32, x: u32) -> bool
     if n < x {
         return false;
     }
-    read_cell(words, x, Pool::STATE) == Pool::USED
+    is_used(read_cell(words, x, Pool::STATE))
 }
 
 // What a register holds, if it is a valid link.
@@ -234,14 +262,15 @@ fn valid_cell(words: &[u32], n: u32, i: u32) -> bool
     ensures { λ r. ⌜ r ≡ validCell registerCount n (now (words .entry)) i ⌝ }
 {
     let state = read_cell(words, i, Pool::STATE);
-    if state == Pool::FREE {
+    if is_free(state) {
         return true;
     }
-    if state != Pool::USED {
-        return false;
-    }
-    if valid_link(words, n, read_cell(words, i, Pool::LEFT)) {
-        valid_link(words, n, read_cell(words, i, Pool::RIGHT))
+    if is_used(state) {
+        if valid_link(words, n, link_of(words, i, Pool::LEFT)) {
+            valid_link(words, n, link_of(words, i, Pool::RIGHT))
+        } else {
+            false
+        }
     } else {
         false
     }
@@ -290,15 +319,15 @@ pub fn well_formed(words: &[u32], n: u32) -> bool
     }
 }
 
-// Puts a cell onto the free list, before `next`.
-fn free_cell(words: &mut [u32], i: u32, next: u32)
+// Writes the four words of a cell.
+pub fn put_cell(words: &mut [u32], i: u32, state: u32, left: u32, right: u32, value: u32)
     requires { ⌜ (0 < i) × (poolLength registerCount i ≤ length (now words)) ⌝ }
-    ensures { λ _. ⌜ now (words .exit) ≡ freeCell registerCount (now (words .entry)) i next ⌝ }
+    ensures { λ _. ⌜ now (words .exit) ≡ putCell registerCount (now (words .entry)) i state left right value ⌝ }
 {
-    write_cell(words, i, Pool::STATE, Pool::FREE);
-    write_cell(words, i, Pool::LEFT, next);
-    write_cell(words, i, Pool::RIGHT, 0);
-    write_cell(words, i, Pool::VALUE, 0);
+    write_cell(words, i, Pool::STATE, state);
+    write_cell(words, i, Pool::LEFT, left);
+    write_cell(words, i, Pool::RIGHT, right);
+    write_cell(words, i, Pool::VALUE, value);
 }
 
 // Makes every marked cell used and puts all others onto the free list, in ascending order. Gives the number of marked cells.
@@ -311,12 +340,12 @@ pub fn sweep(words: &mut [u32], n: u32) -> u32
     let mut kept = 0;
     while 0 < i {
         let state = read_cell(words, i, Pool::STATE);
-        if state == Pool::MARKED {
+        if is_marked(state) {
             write_cell(words, i, Pool::STATE, Pool::USED);
             kept += 1;
             i -= 1;
         } else {
-            free_cell(words, i, next);
+            put_cell(words, i, Pool::FREE, next, 0, 0);
             next = i;
             i -= 1;
         }

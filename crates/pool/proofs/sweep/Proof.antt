@@ -1,8 +1,9 @@
 -- `pool::sweep` meets its contract: each turn is a turn of the definition's (`Turn`), from the highest cell down.
 use Rattle.pool.proofs.sweep.Statement.{statement}
 use Rattle.pool.proofs.sweep.Tie as tie
+use borrow.Author.Needs.{needs}
 use native.Mathlib.Omega.{arith}
-use mathlib.Core.Path.{_∙_}
+use mathlib.Core.Path.{sym, _∙_}
 use Rattle.pool.specs.Layout.{registerCount}
 use Rattle.pool.proofs.Retained.{Turn, turn-first, turn-kept, turn-free, turn-last}
 
@@ -18,11 +19,19 @@ loop-holds c = turn-first registerCount _ _ (c .before .pre)
 read-cell-requires : tie.Need-read-cell-requires Inv-loop μ-loop
 read-cell-requires c κs = omega (arith, c .before .before .loop .inv .swept .len)
 
+is-marked-requires : tie.Need-is-marked-requires Inv-loop μ-loop
+is-marked-requires c κs = search needs
+
 write-cell-requires : tie.Need-write-cell-requires Inv-loop μ-loop
-write-cell-requires c κs = omega (arith, c .before .before .before .before .before .loop .inv .swept .len)
+write-cell-requires c κs =
+    let at-loop = c .before .before .before .before .before .before in
+    omega (arith, at-loop .loop .inv .swept .len)
 
 add-kept : tie.Need-add-kept Inv-loop μ-loop
-add-kept c = omega (arith, c .before .before .before .before .before .before .before .before .loop .inv .few)
+add-kept c =
+    let at-read-cell = c .before .before .before .before .before .before in
+    let at-loop = at-read-cell .before .before .before in
+    omega (arith, at-loop .loop .inv .few)
 
 sub-i : tie.Need-sub-i Inv-loop μ-loop
 sub-i c = omega arith
@@ -32,12 +41,20 @@ loop-less c = omega arith
 
 loop-again : tie.Need-loop-again Inv-loop μ-loop
 loop-again c =
-    let l = c .before .before .before .before .before .before .before .before in
-    turn-kept registerCount _ _ (l .before .before .pre) _ _ _ _ (c .before .before .before .before .before .before .before .loop-test .taken) (l .loop .inv) _ _
-    (c .before .before .before .before .before .read-cell .ensures) (omega (arith, c .before .before .before .before .if1 .taken)) (c .before .before .write-cell .ensures)
+    let at-write-cell = c .before .before in
+    let at-if1 = at-write-cell .before .before in
+    let at-is-marked = at-if1 .before in
+    let at-read-cell = at-is-marked .before in
+    let at-loop-test = at-read-cell .before .before in
+    let at-loop = at-loop-test .before in
+    let at-start = at-loop .before .before in
+    turn-kept registerCount _ _ (at-start .pre) _ _ _ _ (at-loop-test .loop-test .taken) (at-loop .loop .inv) _ _
+    (at-read-cell .read-cell .ensures) (sym (at-is-marked .is-marked .ensures) ∙ at-if1 .if1 .taken) (at-write-cell .write-cell .ensures)
 
-free-cell-requires : tie.Need-free-cell-requires Inv-loop μ-loop
-free-cell-requires c κs = omega (arith, c .before .before .before .before .before .loop .inv .swept .len)
+put-cell-requires : tie.Need-put-cell-requires Inv-loop μ-loop
+put-cell-requires c κs =
+    let at-loop = c .before .before .before .before .before .before in
+    omega (arith, at-loop .loop .inv .swept .len)
 
 sub-i-2 : tie.Need-sub-i-2 Inv-loop μ-loop
 sub-i-2 c = omega arith
@@ -47,9 +64,15 @@ loop-less-2 c = omega arith
 
 loop-again-2 : tie.Need-loop-again-2 Inv-loop μ-loop
 loop-again-2 c =
-    let l = c .before .before .before .before .before .before .before .before in
-    turn-free registerCount _ _ (l .before .before .pre) _ _ _ _ (c .before .before .before .before .before .before .before .loop-test .taken) (l .loop .inv) _ _
-    (c .before .before .before .before .before .read-cell .ensures) (λ is. omega (arith, c .before .before .before .before .if1 .left)) (c .before .before .free-cell .ensures)
+    let at-put-cell = c .before .before in
+    let at-if1 = at-put-cell .before .before in
+    let at-is-marked = at-if1 .before in
+    let at-read-cell = at-is-marked .before in
+    let at-loop-test = at-read-cell .before .before in
+    let at-loop = at-loop-test .before in
+    let at-start = at-loop .before .before in
+    turn-free registerCount _ _ (at-start .pre) _ _ _ _ (at-loop-test .loop-test .taken) (at-loop .loop .inv) _ _
+    (at-read-cell .read-cell .ensures) (sym (at-is-marked .is-marked .ensures) ∙ at-if1 .if1 .left) (at-put-cell .put-cell .ensures)
 
 write-head-requires : tie.Need-write-head-requires Inv-loop μ-loop
 write-head-requires c κs = omega (arith, c .before .before .loop .inv .swept .len)
@@ -70,12 +93,13 @@ sweep-spec =
     μ-loop
     loop-holds
     read-cell-requires
+    is-marked-requires
     write-cell-requires
     add-kept
     sub-i
     loop-less
     loop-again
-    free-cell-requires
+    put-cell-requires
     sub-i-2
     loop-less-2
     loop-again-2

@@ -13,8 +13,11 @@ returns-2 c = simp (ne-eqb _ _ (c .before .if1 .left), lt-leb _ _ (c .if2 .taken
 read-cell-requires : tie.Need-read-cell-requires
 read-cell-requires c κs = search needs
 
+is-used-requires : tie.Need-is-used-requires
+is-used-requires c κs = search needs
+
 returns-3 : tie.Need-returns-3
-returns-3 c = simp (ne-eqb _ _ (c .before .before .if1 .left), le-leb _ _ (c .before .if2 .left), c .read-cell .ensures)
+returns-3 c = simp (ne-eqb _ _ (c .before .before .before .if1 .left), le-leb _ _ (c .before .before .if2 .left), c .is-used .ensures, c .before .read-cell .ensures)
 
 pub valid-link-spec : {M : Type 1} → statement M
-valid-link-spec = tie.close (tie.spec returns returns-2 read-cell-requires returns-3)
+valid-link-spec = tie.close (tie.spec returns returns-2 read-cell-requires is-used-requires returns-3)

@@ -1,15 +1,11 @@
--- The words with the state and both links of one cell written, as a visit writes them, and the laws of reading and writing these.
-use Prim.Native.Nat.{ℕ, _<_, _≤_}
+-- The laws of a cell whose state and links are written, as a visit does it, or all four words.
+use Prim.Native.Nat.{ℕ, zero, suc, _<_, _≤_}
 use native.Mathlib.Omega.{arith}
 use mathlib.Core.Path.{_≡_, _∙_}
 use mathlib.Core.List.{List}
 use lib.ListN.{length}
-use Rattle.pool.specs.Layout.{poolLength, cell, setCell, state, left, right}
+use Rattle.pool.specs.Layout.{poolLength, cell, setCell, setNode, putCell, state, left, right, value}
 use Rattle.pool.proofs.Laws.{length-setCell, cell-same, cell-other, setCell-again, setCell-comm, setCell-cell}
-
--- State s, left link l and right link r in the cell p.
-abbrev pub setNode : ℕ → List ℕ → ℕ → ℕ → ℕ → ℕ → List ℕ
-setNode R w p s l r = setCell R (setCell R (setCell R w p 0 s) p 1 l) p 2 r
 
 pub length-setNode : (R : ℕ) (w : List ℕ) (p s l r : ℕ) → length (setNode R w p s l r) ≡ length w
 length-setNode R w p s l r = simp length-setCell
@@ -91,3 +87,27 @@ node-set R n w p s l r hp hn room =
       left = left-setNode R w p hp fits s l r;
       right = right-setNode R w p hp fits s l r;
     }
+
+-- The fields that are written: state s, left l, right r, value v.
+abbrev pub written : ℕ → ℕ → ℕ → ℕ → ℕ → ℕ
+written s l r v zero = s
+written s l r v (suc zero) = l
+written s l r v (suc (suc zero)) = r
+written s l r v (suc (suc (suc f))) = v
+
+-- All four words written.
+module _ (R : ℕ) (w : List ℕ) (i : ℕ) (positive : 0 < i) (s l r v : ℕ) where
+  pub length-putCell : length (putCell R w i s l r v) ≡ length w
+  length-putCell = simp length-setCell
+
+  pub cell-putCell : (f : ℕ) → f < 4 → poolLength R i ≤ length w → cell R (putCell R w i s l r v) i f ≡ written s l r v f
+  cell-putCell zero hf room = higher R (setNode R w i s l r) i positive 0 3 (omega arith) (omega arith) (setNode R w i s l r) v ∙ state-setNode R w i positive room s l r
+  cell-putCell (suc zero) hf room = higher R (setNode R w i s l r) i positive 1 3 (omega arith) (omega arith) (setNode R w i s l r) v ∙ left-setNode R w i positive room s l r
+  cell-putCell (suc (suc zero)) hf room = higher R (setNode R w i s l r) i positive 2 3 (omega arith) (omega arith) (setNode R w i s l r) v ∙ right-setNode R w i positive room s l r
+  cell-putCell (suc (suc (suc zero))) hf room = cell-same R (setNode R w i s l r) i 3 v positive hf (rw length-setNode room)
+  cell-putCell (suc (suc (suc (suc f)))) hf room = absurd (omega arith)
+
+  pub cell-putCell-other : (j f : ℕ) → 0 < j → f < 4 → (j ≡ i → ⊥) → cell R (putCell R w i s l r v) j f ≡ cell R w j f
+  cell-putCell-other j f hj hf apart =
+      cell-other R (setNode R w i s l r) i 3 v j f positive (omega arith) hj hf (λ e. apart (omega arith))
+      ∙ cell-setNode R w i positive s l r j f hj hf (λ e. absurd (apart e))

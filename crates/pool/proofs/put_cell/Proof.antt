@@ -1,7 +1,7 @@
--- `pool::free_cell` meets its contract: four writes, one after the other.
+-- `pool::put_cell` meets its contract: four writes, one after the other.
 use borrow.Author.Needs.{needs}
-use Rattle.pool.proofs.free_cell.Statement.{statement}
-use Rattle.pool.proofs.free_cell.Tie as tie
+use Rattle.pool.proofs.put_cell.Statement.{statement}
+use Rattle.pool.proofs.put_cell.Tie as tie
 
 write-cell-requires : tie.Need-write-cell-requires
 write-cell-requires c κs = search needs
@@ -21,8 +21,8 @@ same-length c = search needs
 returns : tie.Need-returns
 returns c = cc
 
-pub free-cell-spec : {M : Type 1} → statement M
-free-cell-spec =
+pub put-cell-spec : {M : Type 1} → statement M
+put-cell-spec =
     tie.close
     (tie.spec
     write-cell-requires
