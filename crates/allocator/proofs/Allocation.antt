@@ -15,7 +15,7 @@ use Rattle.answers.specs.Outcome.{Outcome, answered, allocated, refused, status
 use Rattle.pool.proofs.Questions.{both}
 use Rattle.pool.proofs.WellFormed.{well-formed-read}
 use Rattle.pool.proofs.Retained.{retain-head}
-use Rattle.collector.specs.Collect.{isReached, reachedCount, collected, collectIn}
+use Rattle.collector.specs.Collect.{isReached, reachedCount, collected, collectIn, reachedVisits}
 use Rattle.collector.proofs.Collected.{collected-full, head-nil-full}
 use Rattle.allocator.specs.Allocation.{take, takeCollected, goodHead, newIn}
 use Rattle.pool.proofs.RegisterLinks.{Holds}
@@ -40,12 +40,12 @@ lowest-below keep (suc k) i low = go (keep i) (lowest-below keep k (suc i) (omeg
 pub record Swept (n : ℕ) (w w' : List ℕ) (v : ℕ) : Type 0 where
   pub well : wellFormed registerCount n w ≡ true
   pub words : w' ≡ collected registerCount n w
-  pub visits : v ≡ 3 * reachedCount registerCount n w
+  pub visits : v ≡ reachedVisits registerCount n w
 
 -- what a collection says and leaves, by the test of the pool
 module _ (n : ℕ) (w w' : List ℕ) {o : Outcome} (did : (o, w') ≡ collectIn n w) where
   said : (t : Bool) → wellFormed registerCount n w ≡ t
-      → o ≡ cond t (answered (reachedCount registerCount n w ∷ 3 * reachedCount registerCount n w ∷ [])) (refused 3)
+      → o ≡ cond t (answered (reachedCount registerCount n w ∷ reachedVisits registerCount n w ∷ [])) (refused 3)
   said true e = simp e at (ap (λ (p : Outcome × List ℕ). p .0) did)
   said false e = simp e at (ap (λ (p : Outcome × List ℕ). p .0) did)
 

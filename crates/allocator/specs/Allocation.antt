@@ -8,7 +8,7 @@ use Rattle.pool.specs.Layout.{registerCount, head, setHead, register, setRegist
 use Rattle.pool.specs.Validity.{isFree, wellFormed}
 use Rattle.pool.specs.Calls.{holdsLink}
 use Rattle.answers.specs.Outcome.{Outcome, allocated, refused}
-use Rattle.collector.specs.Collect.{reachedCount, collected}
+use Rattle.collector.specs.Collect.{reachedCount, collected, reachedVisits}
 
 -- "a used cell with left from a, right from b, value v; r gets it. It takes the head cell, and the head becomes that cell's left."
 abbrev pub take : List ℕ → ℕ → ℕ → ℕ → ℕ → List ℕ
@@ -29,7 +29,7 @@ takeCollected n w r x y v =
     cond (wellFormed registerCount n w)
     (cond (eqb (head (collected registerCount n w)) 0)
     (refused 5, w)
-    (allocated (3 * reachedCount registerCount n w), take (collected registerCount n w) r x y v))
+    (allocated (reachedVisits registerCount n w), take (collected registerCount n w) r x y v))
     (refused 3, w)
 
 -- "new r a b v", which "also reports visits: 0, or 3 × kept where it collected".

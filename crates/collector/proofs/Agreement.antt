@@ -5,10 +5,11 @@ use native.Mathlib.Decide.{ℕ-discrete, decLe}
 use mathlib.Core.Path.{_≡_, refl, sym, _∙_}
 use mathlib.Core.Bool.{true, false}
 use mathlib.Core.List.{List, [], _∷_, List·Memᴰ, List·Memᴰ·head, List·Memᴰ·tail}
-use borrow.Author.Tests.{eq-eqb, ne-eqb}
+use borrow.Author.Tests.{ne-eqb}
 use Rattle.graph.specs.Graph.{Graph}
 use Rattle.graph.specs.Dfs.{mark, marks, Dfs}
 use Rattle.pool.specs.Layout.{cell, state, left, right, setNode}
+use Rattle.pool.specs.States.{isUsed, asMarked}
 use Rattle.collector.specs.Reversal.{unmarked, markAll}
 use Rattle.collector.specs.ReversalTheorem.{Agreement, Untouched}
 use Rattle.pool.proofs.Node.{length-setNode, cell-setNode, state-setNode, setNode-links}
@@ -27,15 +28,15 @@ module _ (R n : ℕ) (g : Graph) where
   -- the test of a link in the words tells whether it is marked
   pub unmarked-true : {m : ℕ → ℕ} {w : List ℕ} → Agreement R n g m w → (x : ℕ) → m x ≡ 0 → unmarked R w x ≡ true
   unmarked-true {w = w} a x e =
-      let hx = unmarked-cell a x e .0 in simp (ne-eqb x 0 (omega arith), eq-eqb (state R w x) 0 (a .unmarked x e .state))
+      let hx = unmarked-cell a x e .0 in simp (ne-eqb x 0 (omega arith), a .unmarked x e .state)
 
   pub unmarked-false : {m : ℕ → ℕ} {w : List ℕ} → Agreement R n g m w → (x : ℕ) → x ≤ n → 0 < m x → unmarked R w x ≡ false
   unmarked-false a zero hn h = refl
   unmarked-false {w = w} a (suc x) hn h =
-      let hs = a .marked (suc x) (omega arith) hn h in simp (ne-eqb (suc x) 0 (omega arith), ne-eqb (state R w (suc x)) 0 (omega arith))
+      simp (ne-eqb (suc x) 0 (omega arith), a .marked (suc x) (omega arith) hn h)
 
   -- the state and the links of a cell are written, and the cell is marked from then on
-  pub agreement-setNode : {m : ℕ → ℕ} {w : List ℕ} → Agreement R n g m w → (m′ : ℕ → ℕ) (p s l r : ℕ) → 0 < p → p ≤ n → 0 < s → 0 < m′ p
+  pub agreement-setNode : {m : ℕ → ℕ} {w : List ℕ} → Agreement R n g m w → (m′ : ℕ → ℕ) (p s l r : ℕ) → 0 < p → p ≤ n → isUsed s ≡ false → 0 < m′ p
       → ((x : ℕ) → (x ≡ p → ⊥) → m′ x ≡ m x) → Agreement R n g m′ (setNode R w p s l r)
   agreement-setNode {m} {w} a m′ p s l r hp hn hs hm other =
       record {
@@ -63,11 +64,11 @@ module _ (R n : ℕ) (g : Graph) where
             right-bound = u .right-bound;
           }
 
-      stated : (x : ℕ) → 0 < x → x ≤ n → 0 < m′ x → Dec (x ≡ p) → 0 < state R (setNode R w p s l r) x
+      stated : (x : ℕ) → 0 < x → x ≤ n → 0 < m′ x → Dec (x ≡ p) → isUsed (state R (setNode R w p s l r) x) ≡ false
       stated x hx hxn hmx (yes e) = rw (e, state-setNode R w p hp (omega (arith, a .room)) s l r) hs
       stated x hx hxn hmx (no apart) = rw (field x apart hx 0 (omega arith)) (a .marked x hx hxn (rw (other x apart) at hmx))
 
-  -- cells get state 3, and are marked from then on
+  -- cells are marked in the words, and by the marks from then on
   pub agreement-markAll : (t : List ℕ) {m : ℕ → ℕ} {w : List ℕ} → Agreement R n g m w → ((x : ℕ) → List·Memᴰ x t → (0 < x) × (x ≤ n))
       → Agreement R n g (marks m t) (markAll R w t)
   unfolding marks markAll
@@ -76,7 +77,7 @@ module _ (R n : ℕ) (g : Graph) where
       let here = cells x (List·Memᴰ·head refl) in
       agreement-markAll xs
       (rw (setNode-links R w x (here .0)) at
-      (agreement-setNode a (mark m x) x 3 (left R w x) (right R w x) (here .0) (here .1) (omega arith) (mark-self m x x refl) (mark-other m x)))
+      (agreement-setNode a (mark m x) x (asMarked (state R w x)) (left R w x) (right R w x) (here .0) (here .1) refl (mark-self m x x refl) (mark-other m x)))
       λ y mem. cells y (List·Memᴰ·tail mem)
 
   -- so, too, after a visit: the next one can start

@@ -10,6 +10,7 @@ use Rattle.graph.proofs.Theorems.{preorder-reached, preorder-distinct}
 use Rattle.graph.proofs.Reached.{reach-above, reach-within}
 use Rattle.pool.specs.Layout.{registerCount, poolLength, cellCount, count, graphOf, rootsOf}
 use Rattle.pool.specs.Validity.{wellFormed}
+use Rattle.pool.specs.States.{isFree}
 use Rattle.pool.specs.Retain.{sweepOf}
 use Rattle.answers.specs.Outcome.{Outcome, answered}
 use Rattle.pool.proofs.Questions.{cells-sized, cells-same}
@@ -17,11 +18,12 @@ use Rattle.pool.proofs.WellFormed.{WellFormed, well-formed-read, well-formed-ma
 use Rattle.pool.proofs.PoolGraph.{pool-within}
 use Rattle.pool.proofs.Retained.{length-retain, retain-register, retain-count}
 use Rattle.pool.proofs.RetainedPool.{retained-used, retained-free, retained-free-list}
-use Rattle.collector.specs.Collect.{reachedCells, isReached, reachedCount, collected, collectIn, collectOf}
+use Rattle.collector.specs.Collect.{reachedCells, isReached, reachedCount, collected, collectIn, collectOf, visitsOf, reachedVisits}
 use Rattle.collector.specs.ReversalTheorem.{markedOf}
 use Rattle.collector.specs.CollectTheorem.{Reached, Collected, CollectionKeepsTheReached, CollectionMarksAndSweeps}
 use Rattle.collector.proofs.Roots.{run-over-pool, roots-same}
 use Rattle.collector.proofs.MarkSweep.{swept-reached}
+use Rattle.collector.proofs.VisitCount.{visits-three}
 use Rattle.collector.proofs.Collected.{reached-kept, kept-reached, collected-field, collected-well-formed, collected-order, collected-again, collected-full}
 
 -- the collection of a pool of n cells is the marker's runs and the sweep
@@ -31,7 +33,7 @@ swept : (n : ℕ) (w : List ℕ) → wellFormed registerCount n w ≡ true → p
     collectIn n w ≡ (answered (kept ∷ visits ∷ []), after)
 swept n w well room =
     rw well
-    (ap (λ (x : ℕ × List ℕ). (answered (x .0 ∷ 3 * reachedCount registerCount n w ∷ []), x .1))
+    (ap (λ (x : ℕ × List ℕ). (answered (x .0 ∷ reachedVisits registerCount n w ∷ []), x .1))
     (sym (swept-reached registerCount n w (well-formed-read registerCount n w well) room)))
 
 -- so the code that marks and then sweeps collects
@@ -47,6 +49,10 @@ collect-made n w w₁ w₂ visits kept well room mark sweep =
 -- the words of a pool of n cells pass the first question
 accepted : (n : ℕ) (w : List ℕ) → 0 < n → cellCount registerCount w ≡ n → collectOf w ≡ collectIn n w
 accepted n w some cells = rw cells (simp (lt-ltb 0 n some))
+
+-- what a collection that keeps the cells t answers: three visits for each
+three : (t v : List ℕ) → _≡_ {A = Outcome × List ℕ} (answered (length t ∷ visitsOf t ∷ []), v) (answered (length t ∷ 3 * length t ∷ []), v)
+three t v = rw (visits-three t) refl
 
 module _ (n : ℕ) (w : List ℕ) (some : 0 < n) (cells : cellCount registerCount w ≡ n) (well : wellFormed registerCount n w ≡ true) where
   facts : WellFormed registerCount n w
@@ -93,14 +99,15 @@ module _ (n : ℕ) (w : List ℕ) (some : 0 < n) (cells : cellCount registerCoun
               right = collected-field registerCount n w facts room 1 (omega arith) reach;
               value = collected-field registerCount n w facts room 2 (omega arith) reach;
             };
-        free = λ x low high none. retained-free registerCount n keep w room x low high (not-kept x none);
+        free = λ x low high none. ap isFree (retained-free registerCount n keep w room x low high (not-kept x none));
         chain = retained-free-list registerCount n keep w some room;
         registers = retain-register registerCount n keep w room;
         count = count-after;
         cells = cells-after;
         well-formed = well-after;
         again = accepted n after some cells-after
-            ∙ rw well-after (ap₂ (λ (k : ℕ) (v : List ℕ). (answered (k ∷ 3 * k ∷ []), v)) (ap length (collected-order registerCount n w facts room)) (collected-again registerCount n w facts room));
+            ∙ (rw well-after (ap₂ (λ (t v : List ℕ). (answered (length t ∷ visitsOf t ∷ []), v)) (collected-order registerCount n w facts room) (collected-again registerCount n w facts room))
+            ∙ three (reachedCells registerCount n w) after);
         full = collected-full registerCount n w facts room;
       }
 
@@ -119,4 +126,4 @@ collection-marks-and-sweeps n w some cells well =
 
 pub collection-keeps-the-reached : CollectionKeepsTheReached
 collection-keeps-the-reached n w some cells well =
-    (reachedCells registerCount n w, collected registerCount n w, accepted n w some cells ∙ rw well refl, what-is-left n w some cells well)
+    (reachedCells registerCount n w, collected registerCount n w, accepted n w some cells ∙ rw well (three (reachedCells registerCount n w) (collected registerCount n w)), what-is-left n w some cells well)

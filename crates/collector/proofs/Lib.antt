@@ -1,4 +1,5 @@
 pub mod MarkAll
+pub mod VisitCount
 pub mod Agreement
 pub mod Run
 pub mod PoolMarks

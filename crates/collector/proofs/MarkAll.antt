@@ -1,34 +1,37 @@
--- Reading the words in which every cell of a list has state 3.
+-- Reading the words in which every cell of a list is marked.
 use Prim.Native.Nat.{ℕ, _+_, _*_, _<_, _≤_}
 use native.Mathlib.Omega.{arith}
 use native.Mathlib.Decide.{ℕ-discrete}
 use mathlib.Core.Path.{_≡_, refl, ap, _∙_}
 use mathlib.Core.Logic.{_⊎_, inl, inr, ⊎-elim}
 use mathlib.Core.List.{List, [], _∷_, _++_, List·Memᴰ, List·Memᴰ·head, List·Memᴰ·tail, List·Memᴰ·cases-cons, Memᴰ·cast, List·Memᴰ·not-nil}
+use mathlib.Core.Bool.{true}
 use lib.ListN.{length}
 use Rattle.pool.specs.Layout.{poolLength, cell, setCell, state, register, setNode}
+use Rattle.pool.specs.States.{isMarked, asMarked}
+use Rattle.pool.proofs.States.{marked-marked}
 use Rattle.pool.proofs.Laws.{length-setCell, register-setCell, cell-same, cell-other, setCell-comm}
 use Rattle.collector.specs.Reversal.{markAll}
 
 module _ (R : ℕ) where
   -- every part of the words that a write of a state leaves as it is
-  kept : {A : Type 0} (part : List ℕ → A) → ((w : List ℕ) (x : ℕ) → part (setCell R w x 0 3) ≡ part w) → (w t : List ℕ)
+  kept : {A : Type 0} (part : List ℕ → A) → ((w : List ℕ) (x v : ℕ) → part (setCell R w x 0 v) ≡ part w) → (w t : List ℕ)
       → part (markAll R w t) ≡ part w
   unfolding markAll
   kept part same w [] = refl
-  kept part same w (x ∷ xs) = kept part same (setCell R w x 0 3) xs ∙ same w x
+  kept part same w (x ∷ xs) = kept part same (setCell R w x 0 (asMarked (state R w x))) xs ∙ same w x (asMarked (state R w x))
 
   pub length-markAll : (w t : List ℕ) → length (markAll R w t) ≡ length w
-  length-markAll = kept length λ w x. length-setCell R w x 0 3
+  length-markAll = kept length λ w x v. length-setCell R w x 0 v
 
   pub register-markAll : (k : ℕ) → k < R → (w t : List ℕ) → register (markAll R w t) k ≡ register w k
-  register-markAll k hk = kept (λ w. register w k) λ w x. register-setCell R w x 0 3 k hk
+  register-markAll k hk = kept (λ w. register w k) λ w x v. register-setCell R w x 0 v k hk
 
   -- one list after the other
   pub markAll-append : (w t u : List ℕ) → markAll R w (t ++ u) ≡ markAll R (markAll R w t) u
   unfolding markAll
   markAll-append w [] u = refl
-  markAll-append w (x ∷ xs) u = markAll-append (setCell R w x 0 3) xs u
+  markAll-append w (x ∷ xs) u = markAll-append (setCell R w x 0 (asMarked (state R w x))) xs u
 
   -- a write of a field that is no state of a cell of the list can be made before or after
   pub markAll-setCell : (i f v : ℕ) → 0 < i → f < 4 → (t : List ℕ) → ((x : ℕ) → List·Memᴰ x t → (0 < x) × (4 * x ≡ 4 * i + f → ⊥)) → (w : List ℕ)
@@ -37,8 +40,8 @@ module _ (R : ℕ) where
   markAll-setCell i f v hi hf [] away w = refl
   markAll-setCell i f v hi hf (x ∷ xs) away w =
       let here = away x (List·Memᴰ·head refl) in
-      ap (λ w. markAll R w xs) (setCell-comm R w i f v x 0 3 hi hf (here .0) (omega arith) λ e. here .1 (omega arith))
-      ∙ markAll-setCell i f v hi hf xs (λ y mem. away y (List·Memᴰ·tail mem)) (setCell R w x 0 3)
+      ap (λ w. markAll R w xs) (setCell-comm R w i f v x 0 (asMarked (state R w x)) hi hf (here .0) (omega arith) λ e. here .1 (omega arith))
+      ∙ markAll-setCell i f v hi hf xs (λ y mem. away y (List·Memᴰ·tail mem)) (setCell R w x 0 (asMarked (state R w x)))
 
   -- a field that is no state of a cell of the list is as before
   cell-markAll : (i f : ℕ) → 0 < i → f < 4 → (t : List ℕ) → ((x : ℕ) → List·Memᴰ x t → (0 < x) × (4 * x ≡ 4 * i + f → ⊥)) → (w : List ℕ)
@@ -47,8 +50,8 @@ module _ (R : ℕ) where
   cell-markAll i f hi hf [] away w = refl
   cell-markAll i f hi hf (x ∷ xs) away w =
       let here = away x (List·Memᴰ·head refl) in
-      cell-markAll i f hi hf xs (λ y mem. away y (List·Memᴰ·tail mem)) (setCell R w x 0 3)
-      ∙ cell-other R w x 0 3 i f (here .0) (omega arith) hi hf λ e. here .1 (omega arith)
+      cell-markAll i f hi hf xs (λ y mem. away y (List·Memᴰ·tail mem)) (setCell R w x 0 (asMarked (state R w x)))
+      ∙ cell-other R w x 0 (asMarked (state R w x)) i f (here .0) (omega arith) hi hf λ e. here .1 (omega arith)
 
   -- the links and the values are as before
   pub field-markAll : (i f : ℕ) → 0 < i → 0 < f → f < 4 → (t : List ℕ) → ((x : ℕ) → List·Memᴰ x t → 0 < x) → (w : List ℕ)
@@ -61,23 +64,26 @@ module _ (R : ℕ) where
   state-markAll-other i hi t cells out =
       cell-markAll i 0 hi (omega arith) t λ x mem. (cells x mem, λ e. out (Memᴰ·cast (omega arith) mem))
 
-  -- a cell that is in the list, or has state 3 before, has state 3
+  -- a cell that is in the list, or was marked before, is marked
   marked : (i : ℕ) → 0 < i → (t : List ℕ) → ((x : ℕ) → List·Memᴰ x t → 0 < x) → (w : List ℕ) → poolLength R i ≤ length w
-      → (state R w i ≡ 3) ⊎ List·Memᴰ i t → state R (markAll R w t) i ≡ 3
+      → (isMarked (state R w i) ≡ true) ⊎ List·Memᴰ i t → isMarked (state R (markAll R w t) i) ≡ true
   unfolding markAll
   marked i hi [] cells w room mem = ⊎-elim (λ e. e) (λ m. absurd (List·Memᴰ·not-nil m)) mem
   marked i hi (x ∷ xs) cells w room mem =
-      marked i hi xs (λ y m. cells y (List·Memᴰ·tail m)) (setCell R w x 0 3) (simp length-setCell room) (first (ℕ-discrete i x))
+      marked i hi xs (λ y m. cells y (List·Memᴰ·tail m)) (setCell R w x 0 (asMarked (state R w x))) (simp length-setCell room) (first (ℕ-discrete i x))
     where
-      first : Dec (i ≡ x) → (state R (setCell R w x 0 3) i ≡ 3) ⊎ List·Memᴰ i xs
-      first (yes e) = inl (rw (← e) (cell-same R w i 0 3 hi (omega arith) room))
+      first : Dec (i ≡ x) → (isMarked (state R (setCell R w x 0 (asMarked (state R w x))) i) ≡ true) ⊎ List·Memᴰ i xs
+      first (yes e) =
+          let here : state R (setCell R w x 0 (asMarked (state R w x))) i ≡ asMarked (state R w x) =
+          rw (← e) (cell-same R w i 0 (asMarked (state R w x)) hi (omega arith) room) in
+          inl (ap isMarked here ∙ marked-marked (state R w x))
       first (no apart) =
-          ⊎-elim (λ e. inl (cell-other R w x 0 3 i 0 (cells x (List·Memᴰ·head refl)) (omega arith) hi (omega arith) (λ e′. apart (omega arith)) ∙ e))
+          ⊎-elim (λ e. inl (ap isMarked (cell-other R w x 0 (asMarked (state R w x)) i 0 (cells x (List·Memᴰ·head refl)) (omega arith) hi (omega arith) (λ e′. apart (omega arith))) ∙ e))
           (λ m. ⊎-elim (λ e. absurd (apart e)) (λ m′. inr m′) (List·Memᴰ·cases-cons m)) mem
 
-  -- so the state of a cell of the list is 3
+  -- so a cell of the list is marked
   pub state-markAll-same : (i : ℕ) → 0 < i → (t : List ℕ) → ((x : ℕ) → List·Memᴰ x t → 0 < x) → List·Memᴰ i t → (w : List ℕ)
-      → poolLength R i ≤ length w → state R (markAll R w t) i ≡ 3
+      → poolLength R i ≤ length w → isMarked (state R (markAll R w t) i) ≡ true
   state-markAll-same i hi t cells mem w room = marked i hi t cells w room (inr mem)
 
   -- a cell that is not in the list can be written before or after

@@ -1,16 +1,16 @@
 -- Sweeping a marked pool keeps the reached cells.
 use Prim.Native.Nat.{ℕ, suc, _<_, _≤_}
 use native.Mathlib.Omega.{arith}
-use mathlib.Core.Path.{_≡_, refl, sym, ap₂, _∙_}
+use mathlib.Core.Path.{_≡_, refl, sym, ap, ap₂, _∙_}
 use mathlib.Core.List.{List, [], _∷_, List·Memᴰ, List·Memᴰ·head, List·Memᴰ·tail}
 use mathlib.Core.Bool.{Bool, true, false, true≢false}
 use lib.ListN.{length, getD}
-use borrow.Author.Tests.{eq-eqb, ne-eqb}
 use Rattle.graph.proofs.Lists.{has-member, member-has}
 use Rattle.graph.proofs.Reached.{reach-above, reach-within}
 use Rattle.pool.specs.Layout.{poolLength, setCell, state}
-use Rattle.pool.specs.Retain.{isMarked, sweepOf}
-use Rattle.pool.proofs.WellFormed.{Cell, WellFormed}
+use Rattle.pool.specs.Retain.{markedCell, sweepOf}
+use Rattle.pool.specs.States.{isMarked, asMarked}
+use Rattle.pool.proofs.WellFormed.{Cell, WellFormed, cell-unmarked}
 use Rattle.pool.proofs.PoolGraph.{pool-within}
 use Rattle.pool.proofs.Retained.{Elsewhere, setCell-elsewhere, kept-cong, retain-cong}
 use Rattle.collector.specs.Reversal.{markAll}
@@ -25,8 +25,8 @@ unfolding markAll
 markAll-elsewhere R n [] w k cells away = refl
 markAll-elsewhere R n (x ∷ t) w k cells away =
     let here = cells x (List·Memᴰ·head refl) in
-    markAll-elsewhere R n t (setCell R w x 0 3) k (λ y mem. cells y (List·Memᴰ·tail mem)) away
-    ∙ setCell-elsewhere R n w x 0 3 k (here .0) (here .1) (omega arith) away
+    markAll-elsewhere R n t (setCell R w x 0 (asMarked (state R w x))) k (λ y mem. cells y (List·Memᴰ·tail mem)) away
+    ∙ setCell-elsewhere R n w x 0 (asMarked (state R w x)) k (here .0) (here .1) (omega arith) away
 
 module _ (R n : ℕ) (w : List ℕ) (well : WellFormed R n w) (room : poolLength R n ≤ length w) where
   -- the reached cells are cells
@@ -38,25 +38,23 @@ module _ (R n : ℕ) (w : List ℕ) (well : WellFormed R n w) (room : poolLength
   positive : (x : ℕ) → List·Memᴰ x (reachedCells R n w) → 0 < x
   positive x mem = reached-cells x mem .0
 
-  -- after marking, a cell has state 3 exactly where it is reached
-  marked-reached : (j : ℕ) → 0 < j → j ≤ n → isMarked R (markAll R w (reachedCells R n w)) j ≡ isReached R n w j
+  -- after marking, a cell is marked exactly where it is reached
+  marked-reached : (j : ℕ) → 0 < j → j ≤ n → markedCell R (markAll R w (reachedCells R n w)) j ≡ isReached R n w j
   marked-reached j low high = go (isReached R n w j) refl (well .cells j low high)
     where
-      go : (t : Bool) → isReached R n w j ≡ t → Cell R n w j → isMarked R (markAll R w (reachedCells R n w)) j ≡ isReached R n w j
-      go true e h =
-          rw e (eq-eqb _ 3 (state-markAll-same R j low (reachedCells R n w) positive (member-has j (reachedCells R n w) e) w (omega arith)))
-      go false e h = rw e (ne-eqb _ 3 λ three. other h (sym (state-markAll-other R j low (reachedCells R n w) positive (λ mem. true≢false (sym (has-member j mem) ∙ e)) w) ∙ three))
-        where
-          other : Cell R n w j → state R w j ≡ 3 → ⊥
-          other (Cell.free s) three = omega arith
-          other (Cell.used s l r) three = omega arith
+      go : (t : Bool) → isReached R n w j ≡ t → Cell R n w j → markedCell R (markAll R w (reachedCells R n w)) j ≡ isReached R n w j
+      go true e h = rw e (state-markAll-same R j low (reachedCells R n w) positive (member-has j (reachedCells R n w) e) w (omega arith))
+      go false e h =
+          rw e
+          (ap isMarked (state-markAll-other R j low (reachedCells R n w) positive (λ mem. true≢false (sym (has-member j mem) ∙ e)) w)
+          ∙ cell-unmarked h)
 
   -- so the sweep counts and keeps the reached cells
   pub swept-reached : sweepOf R n (markAll R w (reachedCells R n w)) ≡ (reachedCount R n w, collected R n w)
   swept-reached =
       ap₂ (λ (k : ℕ) (v : List ℕ). (k, v))
-      (kept-cong (isMarked R (markAll R w (reachedCells R n w))) (isReached R n w) n marked-reached ∙ kept-count R n w well room)
-      (retain-cong R n (isMarked R (markAll R w (reachedCells R n w))) (isReached R n w) (markAll R w (reachedCells R n w)) w
+      (kept-cong (markedCell R (markAll R w (reachedCells R n w))) (isReached R n w) n marked-reached ∙ kept-count R n w well room)
+      (retain-cong R n (markedCell R (markAll R w (reachedCells R n w))) (isReached R n w) (markAll R w (reachedCells R n w)) w
       (length-markAll R w (reachedCells R n w)) marked-reached
       (λ k other away. markAll-elsewhere R n (reachedCells R n w) w k reached-cells away)
       λ j f low high hf e. field-markAll R j (suc f) low (omega arith) hf (reachedCells R n w) positive w)

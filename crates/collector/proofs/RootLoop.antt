@@ -18,6 +18,8 @@ use Rattle.collector.specs.declared.Marker.{Marker}
 use Rattle.collector.specs.Reversal.{unmarked, visitOf, Visits, Run, EndingRun}
 use Rattle.collector.specs.ReversalTheorem.{MarkRoots, markedOf}
 use Rattle.collector.proofs.RunLoop.{counted}
+use Rattle.collector.specs.Collect.{reachedCells}
+use Rattle.collector.proofs.VisitCount.{visits-three}
 use Rattle.collector.proofs.Roots.{run-over-pool}
 
 module _ (R n : ℕ) where
@@ -88,7 +90,7 @@ module _ (R n : ℕ) where
       marking-ends limit e =
           let (u, run, rest) = next .0 e in
           let most = preorder-length n (graphOf R w₀) (rootsOf R w₀) (pool-within (well-formed-read R n w₀ well)) in
-          record { last = u; run = run; fits = omega (arith, roots-more rest) }
+          record { last = u; run = run; fits = omega (arith, roots-more rest, visits-three (reachedCells R n w₀)) }
 
       pub marking-run : (visits' : ℕ) (w' : List ℕ) → unmarked R w p ≡ true
           → ((u : ℕ × List ℕ) → Run R n p (visits, w) u → _≡_ {A = ℕ × List ℕ} (visits', w') u) → Marking w₀ w' visits' (k + 1)

@@ -9,7 +9,7 @@ use Rattle.graph.specs.Graph.{Graph}
 use Rattle.graph.specs.Dfs.{marks, Dfs, DfsAll}
 use Rattle.pool.specs.Layout.{graphOf, rootsOf}
 use Rattle.collector.specs.Reversal.{markAll}
-use Rattle.collector.specs.Collect.{reachedCells}
+use Rattle.collector.specs.Collect.{reachedCells, visitsOf}
 use Rattle.collector.specs.ReversalTheorem.{Agreement, MarkRoots, RunFromRoots, RunOverPool}
 use Rattle.collector.proofs.MarkAll.{markAll-append}
 use Rattle.collector.proofs.Agreement.{unmarked-true, unmarked-false, agreement-dfs}
@@ -17,6 +17,7 @@ use Rattle.graph.proofs.Congruence.{dfs-all-alike}
 use Rattle.graph.proofs.Depth.{order-dfs}
 use Rattle.pool.proofs.WellFormed.{well-formed-read}
 use Rattle.pool.proofs.PoolGraph.{pool-within}
+use Rattle.collector.proofs.VisitCount.{visits-of-append}
 use Rattle.collector.proofs.PoolMarks.{stateMarks, agreement, alike}
 use Rattle.collector.proofs.Run.{run-from-link}
 use Rattle.collector.proofs.RunLoop.{run-same}
@@ -26,17 +27,17 @@ module _ (R n : ℕ) (g : Graph) where
   recount ec ew v = rw (← ec, ← ew) v
 
   runs : {m : ℕ → ℕ} {ps t : List ℕ} → DfsAll g m ps t → (w : List ℕ) → Agreement R n g m w → ((x : ℕ) → List·Memᴰ x ps → x ≤ n) → (c : ℕ)
-      → MarkRoots R n ps (c, w) (c + 3 * length t, markAll R w t)
-  unfolding marks markAll
+      → MarkRoots R n ps (c, w) (c + visitsOf t, markAll R w t)
+  unfolding marks markAll visitsOf
   runs DfsAll.none w a bound c = recount (omega arith) refl MarkRoots.none
   runs (DfsAll.next {p = p} (Dfs.stop marked) rest) w a bound c =
       MarkRoots.skip (unmarked-false R n g a p (bound p (List·Memᴰ·head refl)) marked) (runs rest w a (λ x mem. bound x (List·Memᴰ·tail mem)) c)
   runs (DfsAll.next {u = v} (Dfs.step {m = m} {p = p} {t = t} {u = u} e dl dr) rest) w a bound c =
       let d = Dfs.step e dl dr in
       let new : List ℕ = p ∷ (t ++ u) in
-      recount (simp length-append (omega arith)) (sym (markAll-append R w new v))
-      (MarkRoots.run (unmarked-true R n g a p e) (3 * length new, p, run-from-link R n g m p new w a d e (suc n) c)
-      (runs rest (markAll R w new) (agreement-dfs R n g a d) (λ x mem. bound x (List·Memᴰ·tail mem)) (c + 3 * length new)))
+      recount (omega (arith, visits-of-append new v)) (sym (markAll-append R w new v))
+      (MarkRoots.run (unmarked-true R n g a p e) (visitsOf new, p, run-from-link R n g m p new w a d e (suc n) c)
+      (runs rest (markAll R w new) (agreement-dfs R n g a d) (λ x mem. bound x (List·Memᴰ·tail mem)) (c + visitsOf new)))
 
   -- two derivations from one start have one end
   pub roots-same : {ps : List ℕ} {s t u : ℕ × List ℕ} → MarkRoots R n ps s t → MarkRoots R n ps s u → t ≡ u

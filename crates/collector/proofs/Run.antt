@@ -1,29 +1,32 @@
 -- Marking by link reversal: from (p, q), with p unmarked, three visits for each cell newly marked lead to (q, p).
 use Prim.Native.Nat.{ℕ, zero, suc, _+_, _*_, _<_, _≤_}
 use native.Mathlib.Omega.{arith}
-use mathlib.Core.Path.{_≡_, refl, sym, subst, _∙_}
+use mathlib.Core.Path.{_≡_, refl, sym, ap, subst, _∙_}
 use mathlib.Core.Bool.{Bool, true, false, cond, _||_}
 use mathlib.Core.List.{List, _∷_, _++_}
-use lib.ListN.{length, length-append}
+use lib.ListN.{length}
 use lib.Dec.{eqb}
 use borrow.Author.Tests.{ne-eqb}
 use Rattle.graph.specs.Graph.{Graph}
 use Rattle.graph.specs.Dfs.{mark, marks, Dfs}
 use Rattle.pool.specs.Layout.{poolLength, setCell, state, left, right, setNode}
+use Rattle.pool.specs.States.{isMarked}
 use Rattle.pool.proofs.Laws.{cell-same, cell-other}
 use Rattle.collector.specs.declared.Marker.{Marker}
 use Rattle.collector.specs.Reversal.{unmarked, visitOf, Visitable, Visits, marker, markAll}
 use Rattle.collector.specs.ReversalTheorem.{Agreement, Untouched, RunFromLink}
 use Rattle.pool.proofs.Node.{state-setLinks, setNode-again, setNode-links, setNode-same, Node, node-set}
 use Rattle.collector.proofs.MarkAll.{markAll-append, length-markAll, markAll-setNode}
+use Rattle.collector.proofs.VisitCount.{visits-cons, visits-of-append}
 use Rattle.graph.proofs.Marks.{marks-keeps, mark-self, mark-other}
 use Rattle.collector.proofs.Agreement.{unmarked-cell, unmarked-true, unmarked-false, agreement-setNode, agreement-dfs, away}
+use Rattle.collector.specs.Collect.{visitsOf}
 
 -- The run from (p, q) to (q, p), where the visit of p newly marks t.
 abbrev Run : ℕ → ℕ → Graph → (ℕ → ℕ) → ℕ → List ℕ → Type 0
 Run R n g m p t =
     m p ≡ 0 → (w : List ℕ) → Agreement R n g m w → (q c : ℕ)
-    → Visits R n (3 * length t) (marker p q c, w) (marker q p (c + 3 * length t), markAll R w t)
+    → Visits R n (visitsOf t) (marker p q c, w) (marker q p (c + visitsOf t), markAll R w t)
 
 module _ (R n : ℕ) where
   -- visits compose
@@ -34,7 +37,7 @@ module _ (R n : ℕ) where
 
   -- a visit of a cell whose state and links are s, l and r, where the outcome b of the test is known
   pub visit-of : {w : List ℕ} {p s l r : ℕ} → Node R n w p s l r → (q c : ℕ) (b : Bool)
-      → (eqb (suc s) 3 || unmarked R (setNode R w p (suc s) r q) l) ≡ b
+      → (isMarked (suc s) || unmarked R (setNode R w p (suc s) r q) l) ≡ b
       → visitOf R (marker p q c, w) ≡ (cond b (marker l p (suc c)) (marker p l (suc c)), setNode R w p (suc s) r q)
   unfolding visitOf
   visit-of {w} {p} {s} {l} {r} h q c b e =
@@ -60,7 +63,7 @@ module _ (R n : ℕ) where
   module _ (p : ℕ) (positive : 0 < p) (bounded : p ≤ n) where
     -- a visit of p and what follows it: s becomes one more, and l, r, q become r, q, l
     turn : (w : List ℕ) → poolLength R n ≤ length w → (s l r q c : ℕ) → s < 3 → (s < 2 → l ≤ n) → (b : Bool)
-        → (eqb (suc s) 3 || unmarked R (setNode R w p (suc s) r q) l) ≡ b → {k : ℕ} {t : Marker × List ℕ}
+        → (isMarked (suc s) || unmarked R (setNode R w p (suc s) r q) l) ≡ b → {k : ℕ} {t : Marker × List ℕ}
         → Visits R n k (cond b (marker l p (suc c)) (marker p l (suc c)), setNode R w p (suc s) r q) t
         → Visits R n (suc k) (marker p q c, setNode R w p s l r) t
     turn w room s l r q c hs hl b e {k} {t} rest =
@@ -76,9 +79,9 @@ module _ (R n : ℕ) where
       -- leads to (p, l).
       half : {m : ℕ → ℕ} {l : ℕ} {t : List ℕ} → Dfs g m l t → Run R n g m l t → (w : List ℕ) → poolLength R n ≤ length w → (s r q c : ℕ) → s < 2 → l ≤ n
           → 0 < m p → Agreement R n g m (setNode R w p (suc s) r q)
-          → Visits R n (suc (3 * length t)) (marker p q c, setNode R w p s l r)
-          (marker p l (suc c + 3 * length t), setNode R (markAll R w t) p (suc s) r q)
-      unfolding markAll
+          → Visits R n (suc (visitsOf t)) (marker p q c, setNode R w p s l r)
+          (marker p l (suc c + visitsOf t), setNode R (markAll R w t) p (suc s) r q)
+      unfolding markAll visitsOf
       half {l = l} (Dfs.stop marked) sub w room s r q c hs hl hm a =
           turn w room s l r q c (omega arith) (λ low. hl) false (simp (ne-eqb (suc s) 3 (omega arith)) (unmarked-false R n g a l hl marked))
           (recount refl (omega arith) refl Visits.done)
@@ -93,9 +96,12 @@ module _ (R n : ℕ) (g : Graph) where
       → Dfs g (marks (mark m p) t) (g .right p) u → Run R n g (marks (mark m p) t) (g .right p) u → Run R n g m p (p ∷ (t ++ u))
   unfolding markAll
   both {m} {p} {t} {u} dl runl dr runr e w a q c =
-      recount R n (simp length-append (omega arith)) (simp length-append (omega arith)) all
+      recount R n (omega (arith, count)) (omega (arith, count)) all
       (visits-append R n (visits-append R n first second) third)
     where
+      count : visitsOf (p ∷ (t ++ u)) ≡ 3 + (visitsOf t + visitsOf u)
+      count = visits-cons p (t ++ u) ∙ ap (λ (k : ℕ). 3 + k) (visits-of-append t u)
+
       l : ℕ
       l = g .left p
 
@@ -118,7 +124,7 @@ module _ (R n : ℕ) (g : Graph) where
       stays = marks-keeps (mark m p) t p (mark-self m p p refl)
 
       a₁ : Agreement R n g (mark m p) (setNode R w p 1 r q)
-      a₁ = agreement-setNode R n g a (mark m p) p 1 r q (here .0) (here .1) (omega arith) (mark-self m p p refl) (mark-other m p)
+      a₁ = agreement-setNode R n g a (mark m p) p 1 r q (here .0) (here .1) refl (mark-self m p p refl) (mark-other m p)
 
       -- p can be written before or after its left link is followed
       past-left : (s l r : ℕ) → markAll R (setNode R w p s l r) t ≡ setNode R w₁ p s l r
@@ -127,23 +133,23 @@ module _ (R n : ℕ) (g : Graph) where
       a₂ : Agreement R n g (marks (mark m p) t) (setNode R w₁ p 2 q l)
       a₂ =
           rw (past-left 1 r q, setNode-again R w₁ p (here .0) 1 r q 2 q l) at
-          (agreement-setNode R n g (agreement-dfs R n g a₁ dl) (marks (mark m p) t) p 2 q l (here .0) (here .1) (omega arith) stays (λ x apart. refl))
+          (agreement-setNode R n g (agreement-dfs R n g a₁ dl) (marks (mark m p) t) p 2 q l (here .0) (here .1) refl stays (λ x apart. refl))
 
-      first : Visits R n (suc (3 * length t)) (marker p q c, w) (marker p l (suc c + 3 * length t), setNode R w₁ p 1 r q)
+      first : Visits R n (suc (visitsOf t)) (marker p q c, w) (marker p l (suc c + visitsOf t), setNode R w₁ p 1 r q)
       first =
           rw (setNode-same R w p (here .0) (before .state) (before .left) (before .right)) at
           (half R n p (here .0) (here .1) g dl runl w (a .room) 0 r q c (omega arith) (before .left-bound) (mark-self m p p refl) a₁)
 
-      second : Visits R n (suc (3 * length u)) (marker p l (suc c + 3 * length t), setNode R w₁ p 1 r q)
-          (marker p r (suc (suc c + 3 * length t) + 3 * length u), setNode R w₂ p 2 q l)
+      second : Visits R n (suc (visitsOf u)) (marker p l (suc c + visitsOf t), setNode R w₁ p 1 r q)
+          (marker p r (suc (suc c + visitsOf t) + visitsOf u), setNode R w₂ p 2 q l)
       second =
-          half R n p (here .0) (here .1) g dr runr w₁ (rw length-markAll (a .room)) 1 q l (suc c + 3 * length t) (omega arith) (before .right-bound)
+          half R n p (here .0) (here .1) g dr runr w₁ (rw length-markAll (a .room)) 1 q l (suc c + visitsOf t) (omega arith) (before .right-bound)
           stays a₂
 
-      third : Visits R n 1 (marker p r (suc (suc c + 3 * length t) + 3 * length u), setNode R w₂ p 2 q l)
-          (marker q p (suc (suc (suc c + 3 * length t) + 3 * length u)), setNode R w₂ p 3 l r)
+      third : Visits R n 1 (marker p r (suc (suc c + visitsOf t) + visitsOf u), setNode R w₂ p 2 q l)
+          (marker q p (suc (suc (suc c + visitsOf t) + visitsOf u)), setNode R w₂ p 3 l r)
       third =
-          turn R n p (here .0) (here .1) w₂ (simp length-markAll (a .room)) 2 q l r (suc (suc c + 3 * length t) + 3 * length u) (omega arith)
+          turn R n p (here .0) (here .1) w₂ (simp length-markAll (a .room)) 2 q l r (suc (suc c + visitsOf t) + visitsOf u) (omega arith)
           (omega arith) true refl Visits.done
 
       all : setNode R w₂ p 3 l r ≡ markAll R (setCell R w p 0 3) (t ++ u)

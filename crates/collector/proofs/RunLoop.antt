@@ -5,8 +5,8 @@ use mathlib.Core.Path.{_≡_, refl, ap, _∙_}
 use mathlib.Core.List.{List}
 use mathlib.Core.Bool.{Bool, true, false, cond, _||_}
 use lib.ListN.{length}
-use lib.Dec.{eqb}
 use Rattle.pool.specs.Layout.{poolLength, setCell, state, left}
+use Rattle.pool.specs.States.{isMarked}
 use Rattle.pool.proofs.Laws.{length-setCell}
 use Rattle.collector.specs.declared.Marker.{Marker}
 use Rattle.collector.specs.Reversal.{unmarked, visitOf, Visitable, Visits, marker, Run, EndingRun}
@@ -18,7 +18,7 @@ length-visit R s = simp length-setCell
 
 visits-visit : (R : ℕ) (s : Marker × List ℕ) → visitOf R s .0 .visits ≡ suc (s .0 .visits)
 unfolding visitOf
-visits-visit R s = go (eqb (state R w p) 3 || unmarked R w (left R (s .1) p))
+visits-visit R s = go (isMarked (state R w p) || unmarked R w (left R (s .1) p))
   where
     p : ℕ
     p = s .0 .cell

@@ -5,9 +5,9 @@ use mathlib.Core.Path.{_≡_, ap, _∙_}
 use mathlib.Core.List.{List}
 use mathlib.Core.Bool.{Bool, cond, _||_}
 use lib.ListN.{length}
-use lib.Dec.{eqb}
 use native.Mathlib.Omega.{arith}
 use Rattle.pool.specs.Layout.{poolLength, cell, setCell, state, left, right}
+use Rattle.pool.specs.States.{isMarked}
 use Rattle.pool.proofs.Laws.{cell-same}
 use Rattle.collector.specs.declared.Marker.{Marker}
 use Rattle.collector.specs.Reversal.{unmarked, visitOf, marker}
@@ -20,7 +20,7 @@ pub record Writes (R : ℕ) (m : Marker) (w w₁ w₂ w₃ : List ℕ) (s l r : 
   pub left : l ≡ left R w (m .cell)
   pub first : w₁ ≡ setCell R w (m .cell) 0 s
   pub right : r ≡ right R w₁ (m .cell)
-  pub test : on ≡ (eqb s 3 || unmarked R w₁ l)
+  pub test : on ≡ (isMarked s || unmarked R w₁ l)
   pub second : w₂ ≡ setCell R w₁ (m .cell) 1 r
   pub third : w₃ ≡ setCell R w₂ (m .cell) 2 (m .previous)
 

@@ -8,6 +8,7 @@ use lib.ListN.{length}
 use Rattle.graph.specs.Graph.{Reach}
 use Rattle.graph.specs.Theorems.{Distinct}
 use Rattle.pool.specs.Layout.{registerCount, cellCount, count, head, register, state, left, right, value, graphOf, rootsOf}
+use Rattle.pool.specs.States.{isUsed, isFree}
 use Rattle.pool.specs.Validity.{wellFormed}
 use Rattle.pool.specs.Retain.{freeList, freeCells, sweepOf}
 use Rattle.answers.specs.Outcome.{answered}
@@ -20,7 +21,7 @@ Reached w x = Reach (graphOf registerCount w) (rootsOf registerCount w) x
 
 -- Cell x is used, with the links and the value that it has in w.
 pub record SameCell (w w' : List ℕ) (x : ℕ) : Type 0 where
-  pub used : state registerCount w' x ≡ 0
+  pub used : isUsed (state registerCount w' x) ≡ true
   pub left : left registerCount w' x ≡ left registerCount w x
   pub right : right registerCount w' x ≡ right registerCount w x
   pub value : value registerCount w' x ≡ value registerCount w x
@@ -33,7 +34,7 @@ pub record Collected (n : ℕ) (w w' kept : List ℕ) : Type 0 where
   -- A reached cell is used, its links and its value as before.
   pub same : (x : ℕ) → Reached w x → SameCell w w' x
   -- Every other cell is free, and the free list has exactly these, ascending.
-  pub free : (x : ℕ) → 0 < x → x ≤ n → (Reached w x → ⊥) → state registerCount w' x ≡ 4
+  pub free : (x : ℕ) → 0 < x → x ≤ n → (Reached w x → ⊥) → isFree (state registerCount w' x) ≡ true
   pub chain : freeList registerCount n w' ≡ freeCells (isReached registerCount n w) n 1
   -- The registers and N are as before.
   pub registers : (k : ℕ) → k < registerCount → register w' k ≡ register w k

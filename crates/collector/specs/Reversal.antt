@@ -4,11 +4,12 @@ use mathlib.Core.List.{List, [], _∷_}
 use mathlib.Core.Bool.{Bool, cond, _||_, _&&_, not}
 use lib.Dec.{eqb}
 use Rattle.pool.specs.Layout.{state, left, right, setCell}
+use Rattle.pool.specs.States.{isUsed, isMarked, asMarked}
 use Rattle.collector.specs.declared.Marker.{Marker}
 
--- "nil counts as marked and is never visited": a link is unmarked if it is a cell's number and that cell has state 0.
+-- "nil counts as marked and is never visited": a link is unmarked if it is a cell's number and that cell's state is that of a used one.
 abbrev pub unmarked : ℕ → List ℕ → ℕ → Bool
-unmarked R w x = not (eqb x 0) && eqb (state R w x) 0
+unmarked R w x = not (eqb x 0) && isUsed (state R w x)
 
 -- One visit: p is the cell in hand and q its predecessor. "add 1 to m[p]; if m[p] is now 3 or l[p] has state 0, then p, l[p], r[p], q become
 -- l[p], r[p], q, p; else l[p], r[p], q become r[p], q, l[p]". Both write r[p] to l[p] and q to r[p]; they differ in p and q.
@@ -17,7 +18,7 @@ visitOf R s =
     let p = s .0 .cell in
     let l = left R (s .1) p in
     let w = setCell R (s .1) p 0 (suc (state R (s .1) p)) in (
-      cond (eqb (state R w p) 3 || unmarked R w l)
+      cond (isMarked (state R w p) || unmarked R w l)
           (record { cell = l; previous = p; visits = suc (s .0 .visits) })
           (record { cell = p; previous = l; visits = suc (s .0 .visits) }),
       setCell R (setCell R w p 1 (right R w p)) p 2 (s .0 .previous),
@@ -51,7 +52,7 @@ pub record EndingRun (R n p : ℕ) (s : ℕ × List ℕ) : Type 0 where
   pub run : Run R n p s last
   pub fits : last .0 < 2 ^ 32
 
--- The words with state 3 in every cell of a list.
+-- The words with every cell of a list marked.
 unfoldable pub markAll : ℕ → List ℕ → List ℕ → List ℕ
 markAll R w [] = w
-markAll R w (x ∷ xs) = markAll R (setCell R w x 0 3) xs
+markAll R w (x ∷ xs) = markAll R (setCell R w x 0 (asMarked (state R w x))) xs

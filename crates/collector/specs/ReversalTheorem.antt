@@ -7,27 +7,28 @@ use lib.ListN.{length}
 use Rattle.graph.specs.Graph.{Graph}
 use Rattle.graph.specs.Dfs.{Dfs, DfsAll}
 use Rattle.pool.specs.Layout.{poolLength, state, left, right, rootsOf}
+use Rattle.pool.specs.States.{usedState, isUsed}
 use Rattle.pool.specs.Validity.{wellFormed}
 use Rattle.collector.specs.Reversal.{unmarked, Visits, marker, Run, markAll}
-use Rattle.collector.specs.Collect.{reachedCells, reachedCount}
+use Rattle.collector.specs.Collect.{reachedCells, reachedCount, visitsOf, reachedVisits}
 
--- What the words have to say of an unmarked cell x of the graph g of n cells: state 0, and the links of the graph, which are nil or cells.
+-- What the words have to say of an unmarked cell x of the graph g of n cells: it is used, and has the links of the graph, which are nil or cells.
 pub record Untouched (R n : ℕ) (g : Graph) (w : List ℕ) (x : ℕ) : Type 0 where
-  pub state : state R w x ≡ 0
+  pub state : state R w x ≡ usedState
   pub left : left R w x ≡ g .left x
   pub right : right R w x ≡ g .right x
   pub left-bound : g .left x ≤ n
   pub right-bound : g .right x ≤ n
 
 -- The words w hold the n cells of the graph g, of which m marks some (above 0 is marked): everything that is no cell is marked, an unmarked
--- cell is as the graph has it, and a marked cell does not have state 0. Nothing is said of the links of a marked cell: it may lie on the path
+-- cell is as the graph has it, and the state of a marked cell is not that of a used one. Nothing is said of the links of a marked cell: it may lie on the path
 -- from the virtual root to the cell in hand, where 000 keeps its links rotated.
 pub record Agreement (R n : ℕ) (g : Graph) (m : ℕ → ℕ) (w : List ℕ) : Type 0 where
   pub room : poolLength R n ≤ length w
   pub nil : 0 < m 0
   pub past : (x : ℕ) → n < x → 0 < m x
   pub unmarked : (x : ℕ) → m x ≡ 0 → Untouched R n g w x
-  pub marked : (x : ℕ) → 0 < x → x ≤ n → 0 < m x → 0 < state R w x
+  pub marked : (x : ℕ) → 0 < x → x ≤ n → 0 < m x → isUsed (state R w x) ≡ false
 
 -- Where p is unmarked and the depth-first visit of p newly marks the cells t, three visits for each of them lead from (p, q) to (q, p), whatever
 -- q is: every cell of t then has state 3, all links are as before, and no other word is changed. As in 001 this holds of every link that the
@@ -35,7 +36,7 @@ pub record Agreement (R n : ℕ) (g : Graph) (m : ℕ → ℕ) (w : List ℕ) : 
 abbrev pub RunFromLink : Type 0
 RunFromLink =
     (R n : ℕ) (g : Graph) (m : ℕ → ℕ) (p : ℕ) (t w : List ℕ) → Agreement R n g m w → Dfs g m p t → m p ≡ 0 → (q c : ℕ)
-    → Visits R n (3 * length t) (marker p q c, w) (marker q p (c + 3 * length t), markAll R w t)
+    → Visits R n (visitsOf t) (marker p q c, w) (marker q p (c + visitsOf t), markAll R w t)
 
 -- "It runs from each register in order .. whose cell has state 0": the links of the registers are given; a pair is the number of visits and the
 -- words, before and after.
@@ -50,11 +51,11 @@ pub data MarkRoots (R n : ℕ) : List ℕ → ℕ × List ℕ → ℕ × List �
 abbrev pub RunFromRoots : Type 0
 RunFromRoots =
     (R n : ℕ) (g : Graph) (m : ℕ → ℕ) (ps t w : List ℕ) → Agreement R n g m w → DfsAll g m ps t → ((x : ℕ) → List·Memᴰ x ps → x ≤ n) → (c : ℕ)
-    → MarkRoots R n ps (c, w) (c + 3 * length t, markAll R w t)
+    → MarkRoots R n ps (c, w) (c + visitsOf t, markAll R w t)
 
 -- What marking a pool of n cells makes of it: three visits for each reached cell, and state 3 in exactly these.
 abbrev pub markedOf : ℕ → ℕ → List ℕ → ℕ × List ℕ
-markedOf R n w = (3 * reachedCount R n w, markAll R w (reachedCells R n w))
+markedOf R n w = (reachedVisits R n w, markAll R w (reachedCells R n w))
 
 -- The same of a well-formed pool and its registers: the runs make three visits for each reached cell, leave state 3 in exactly these, and change no
 -- other word. (A free cell has state 4 and so counts as marked, but no free cell is reached.)

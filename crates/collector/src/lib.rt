@@ -6,10 +6,10 @@ use pool::Pool;
 ghost use mathlib.Core.Path.{_≡_};
 ghost use Prim.Native.Nat.{ℕ, _+_, _^_, _<_, _≤_};
 ghost use mathlib.Core.List.{List};
-ghost use mathlib.Core.Bool.{true, cond, _||_};
+ghost use mathlib.Core.Bool.{true, false, cond, _||_};
 ghost use lib.ListN.{length};
-ghost use lib.Dec.{eqb};
 ghost use Rattle.pool.specs.Layout.{registerCount, cellLimit, poolLength};
+ghost use Rattle.pool.specs.States.{isMarked};
 ghost use Rattle.pool.specs.Validity.{wellFormed};
 ghost use Rattle.collector.specs.Reversal.{unmarked, visitOf, Visitable, marker, Run, EndingRun};
 ghost use Rattle.collector.specs.ReversalTheorem.{markedOf};
@@ -31,15 +31,15 @@ pub fn is_unmarked(words: &[u32], x: u32) -> bool
     if x == 0 {
         return false;
     }
-    pool::read_cell(words, x, Pool::STATE) == Pool::USED
+    pool::is_used(pool::read_cell(words, x, Pool::STATE))
 }
 
 // Does a visit that leaves the cell in hand at this state move on to its left link? At the third visit that is the predecessor, of which nothing is read.
 fn moves_on(words: &[u32], state: u32, left: u32) -> bool
-    requires { ⌜ (state < 3 → poolLength registerCount left ≤ length (now words)) × (state ≤ 3) ⌝ }
-    ensures { λ r. ⌜ r ≡ (eqb state 3 || unmarked registerCount (now (words .entry)) left) ⌝ }
+    requires { ⌜ (isMarked state ≡ false → poolLength registerCount left ≤ length (now words)) ⌝ }
+    ensures { λ r. ⌜ r ≡ (isMarked state || unmarked registerCount (now (words .entry)) left) ⌝ }
 {
-    if state == Pool::MARKED {
+    if pool::is_marked(state) {
         return true;
     }
     is_unmarked(words, left)

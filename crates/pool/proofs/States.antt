@@ -28,6 +28,9 @@ module _ (s : ℕ) where
   pub used-used : isUsed (asUsed s) ≡ true
   used-used = refl
 
+  pub used-is : isUsed s ≡ true → s ≡ usedState
+  used-is e = eqb-true s usedState e
+
   -- a used state is what the sweep makes of it
   pub used-same : isUsed s ≡ true → s ≡ asUsed s
   used-same e = eqb-true s usedState e

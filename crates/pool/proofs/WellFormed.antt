@@ -7,10 +7,10 @@ use mathlib.Core.Bool.{Bool, true, false, _&&_, _||_}
 use lib.Dec.{eqb, leb}
 use borrow.Author.Tests.{le-leb, eq-eqb, eqb-true, eqb-false, leb-true}
 use Rattle.pool.specs.Layout.{register, state, linkOf}
-use Rattle.pool.specs.States.{isUsed, isFree}
+use Rattle.pool.specs.States.{isUsed, isMarked, isFree}
 use Rattle.pool.specs.Validity.{validLink, validCell, registersValid, cellsValid, wellFormed}
 use Rattle.pool.proofs.Questions.{both}
-use Rattle.pool.proofs.States.{used-not-free}
+use Rattle.pool.proofs.States.{used-not-free, used-not-marked, free-not-marked}
 use Rattle.pool.proofs.Every.{every-each, each-every}
 
 -- a valid link is nil or a used cell
@@ -25,6 +25,11 @@ pub data Cell (R n : ℕ) (w : List ℕ) (i : ℕ) : Type 0 where
 pub record WellFormed (R n : ℕ) (w : List ℕ) : Type 0 where
   pub registers : (k : ℕ) → k < R → Link R n w (register w k)
   pub cells : (i : ℕ) → 0 < i → i ≤ n → Cell R n w i
+
+-- no cell of a well-formed pool is marked
+pub cell-unmarked : {R n : ℕ} {w : List ℕ} {i : ℕ} → Cell R n w i → isMarked (state R w i) ≡ false
+cell-unmarked {R} {n} {w} {i} (free s) = free-not-marked (state R w i) s
+cell-unmarked {R} {n} {w} {i} (used s l r) = used-not-marked (state R w i) s
 
 module _ (R n : ℕ) (w : List ℕ) where
   pub link-read : (x : ℕ) → validLink R n w x ≡ true → Link R n w x

@@ -18,6 +18,7 @@ use Rattle.collector.specs.ReversalTheorem.{Agreement}
 use Rattle.collector.proofs.MarkAll.{markAll-append, field-markAll}
 use Rattle.collector.proofs.Agreement.{unmarked-cell, unmarked-false, unmarked-true, agreement-markAll, agreement-dfs, away}
 use Rattle.recursive_marker.specs.Recursive.{Markable, visited}
+use Rattle.collector.specs.Collect.{visitsOf}
 
 module _ (R n depth p visits : ℕ) (w : List ℕ) (h : Markable R n depth p visits w) where
   abbrev g : Graph
@@ -61,8 +62,8 @@ module _ (R n depth p visits : ℕ) (w : List ℕ) (h : Markable R n depth p vis
     one-more : markedCount n (mark m p) ≡ suc (markedCount n m)
     one-more = marked-mark n m p (cell .0) (cell .1) (parts .fresh)
 
-    count : 3 * length (h .cells) ≡ 3 + 3 * length (parts .t) + 3 * length (parts .u)
-    count = ap (λ (x : List ℕ). 3 * length x) (parts .all) ∙ simp length-append (omega arith)
+    count : visitsOf (h .cells) ≡ 3 + visitsOf (parts .t) + visitsOf (parts .u)
+    count = ap (λ (x : List ℕ). visitsOf x) (parts .all) ∙ simp length-append (omega arith)
 
     -- its cell is one, some depth is left, and its three visits fit
     pub visit-cell : (0 < p) × (p ≤ n) × (0 < depth) × (visits + 3 < 2 ^ 32)
@@ -96,7 +97,7 @@ module _ (R n depth p visits : ℕ) (w : List ℕ) (h : Markable R n depth p vis
       module _ (v : ℕ) (w₂ : List ℕ) (r : ℕ)
           (made : (a : Markable R n (depth - 1) l (visits + 1) w₁) → _≡_ {A = ℕ × List ℕ} (v, w₂) (visited R n (depth - 1) l (visits + 1) w₁ a))
           (read₂ : r ≡ right R w₂ p) where
-        v-is : v ≡ visits + 1 + 3 * length (parts .t)
+        v-is : v ≡ visits + 1 + visitsOf (parts .t)
         unfolding visit-left
         v-is = ap (λ (x : ℕ × List ℕ). x .0) (made visit-left)
 
@@ -128,7 +129,7 @@ module _ (R n depth p visits : ℕ) (w : List ℕ) (h : Markable R n depth p vis
 
         module _ (v₃ : ℕ) (w₃ : List ℕ)
             (made₃ : (a : Markable R n (depth - 1) r (v + 1) w₂) → _≡_ {A = ℕ × List ℕ} (v₃, w₃) (visited R n (depth - 1) r (v + 1) w₂ a)) where
-          v₃-is : v₃ ≡ v + 1 + 3 * length (parts .u)
+          v₃-is : v₃ ≡ v + 1 + visitsOf (parts .u)
           unfolding visit-right
           v₃-is = ap (λ (x : ℕ × List ℕ). x .0) (made₃ visit-right)
 

@@ -18,7 +18,7 @@ use Rattle.pool.proofs.Every.{length-tabulate, getD-tabulate, member-tabulate}
 use Rattle.pool.proofs.WellFormed.{well-formed-read}
 use Rattle.pool.proofs.PoolGraph.{pool-within}
 use Rattle.collector.specs.Reversal.{markAll}
-use Rattle.collector.specs.Collect.{reachedCells}
+use Rattle.collector.specs.Collect.{reachedCells, visitsOf}
 use Rattle.collector.specs.ReversalTheorem.{Agreement, markedOf}
 use Rattle.collector.proofs.MarkAll.{markAll-append, length-markAll, register-markAll}
 use Rattle.collector.proofs.PoolMarks.{stateMarks, agreement, alike}
@@ -51,7 +51,7 @@ module _ (R n : ℕ) (w₀ : List ℕ) where
     pub todo : List ℕ
     pub all : reachedCells R n w₀ ≡ done ++ todo
     pub words : w ≡ markAll R w₀ done
-    pub counted : visits ≡ 3 * length done
+    pub counted : visits ≡ visitsOf done
     pub agree : Agreement R n (graphOf R w₀) marks w
     pub rest : DfsAll (graphOf R w₀) marks (drop k (rootsOf R w₀)) todo
 
@@ -116,7 +116,7 @@ module _ (R n : ℕ) (w₀ : List ℕ) where
       unfolding marking-visit
       marking-next limit visits' w' made =
           let words' : w' ≡ markAll R w (from .t) = ap (λ (x : ℕ × List ℕ). x .1) (made (marking-visit limit)) in
-          let count : visits' ≡ visits + 3 * length (from .t) = ap (λ (x : ℕ × List ℕ). x .0) (made (marking-visit limit)) in
+          let count : visits' ≡ visits + visitsOf (from .t) = ap (λ (x : ℕ × List ℕ). x .0) (made (marking-visit limit)) in
           record {
             most = omega arith;
             marks = Rattle.graph.specs.Dfs.marks (g .marks) (from .t);
@@ -134,4 +134,4 @@ module _ (R n : ℕ) (w₀ : List ℕ) where
         let end : k ≡ length (rootsOf R w₀) = omega (arith, g .most, roots-length) in
         let none : g .todo ≡ [] = last (g .rest) (rw end (drop-length (rootsOf R w₀))) in
         let all : g .done ≡ reachedCells R n w₀ = sym (g .all ∙ (ap (λ (x : List ℕ). g .done ++ x) none ∙ append-nil (g .done))) in
-        ap₂ (λ (v : ℕ) (x : List ℕ). (v, x)) (g .counted ∙ ap (λ (x : List ℕ). 3 * length x) all) (g .words ∙ ap (markAll R w₀) all)
+        ap₂ (λ (v : ℕ) (x : List ℕ). (v, x)) (g .counted ∙ ap (λ (x : List ℕ). visitsOf x) all) (g .words ∙ ap (markAll R w₀) all)

@@ -10,7 +10,7 @@ use Rattle.graph.specs.Marking.{markedCount}
 use Rattle.pool.specs.Layout.{registerCount}
 use Rattle.pool.specs.Calls.{sizedOf, admittedTo}
 use Rattle.answers.specs.Outcome.{Outcome, refused}
-use Rattle.collector.specs.Collect.{collectIn}
+use Rattle.collector.specs.Collect.{collectIn, visitsOf}
 use Rattle.collector.specs.Reversal.{markAll}
 use Rattle.collector.specs.ReversalTheorem.{Agreement}
 
@@ -32,8 +32,8 @@ pub record Markable (R n depth p visits : ℕ) (w : List ℕ) : Type 0 where
   pub dfs : Dfs graph marks p cells
   pub bounded : p ≤ n
   pub deep : n ≤ depth + markedCount n marks
-  pub fits : visits + 3 * length cells < 2 ^ 32
+  pub fits : visits + visitsOf cells < 2 ^ 32
 
 -- What it does: three visits for each cell that it newly marks, and state 3 in each of these; no other word is changed.
 abbrev pub visited : (R n depth p visits : ℕ) (w : List ℕ) → Markable R n depth p visits w → ℕ × List ℕ
-visited R n depth p visits w h = (visits + 3 * length (h .cells), markAll R w (h .cells))
+visited R n depth p visits w h = (visits + visitsOf (h .cells), markAll R w (h .cells))

@@ -8,7 +8,7 @@ use lib.ListN.{length}
 use lib.Dec.{leb}
 use borrow.Author.Tests.{lt-ltb, leb-true, leb-false}
 use Rattle.pool.specs.Layout.{registerCount, graphOf, rootsOf}
-use Rattle.collector.specs.Collect.{reachedCount, collected}
+use Rattle.collector.specs.Collect.{reachedCount, collected, reachedVisits}
 use Rattle.stack_marker.specs.Stack.{maxEntries}
 use Rattle.stack_marker.specs.StackCollect.{isEnough}
 use Rattle.stack_marker.specs.StackTheorem.{StackCollects}
@@ -25,7 +25,7 @@ pub stack-collects : StackCollects
 stack-collects n w stack some cells well =
     let (enough, short) = yes-or-no (maxEntries n (graphOf registerCount w) (rootsOf registerCount w)) (length stack) in (
       reachedCount registerCount n w,
-      3 * reachedCount registerCount n w,
+      reachedVisits registerCount n w,
       cond (isEnough n w stack) 1 0,
       collected registerCount n w,
       rw cells (simp (lt-ltb 0 n some, well)),

@@ -5,7 +5,9 @@ use Rattle.collector.proofs.Marker.visit.Tie as tie
 use native.Mathlib.Omega.{arith}
 use Prim.Native.Nat.{ℕ, _+_}
 use mathlib.Core.Path.{ap, _∙_}
+use borrow.Author.Tests.{eqb-false}
 use Rattle.pool.specs.Layout.{registerCount}
+use Rattle.pool.specs.States.{markedState}
 use Rattle.collector.specs.declared.Marker.{Marker}
 use Rattle.collector.proofs.VisitStep.{visit-made}
 
@@ -26,10 +28,11 @@ read-cell-requires-3 c κs = search needs
 
 moves-on-requires : tie.Need-moves-on-requires
 moves-on-requires c κs =
-    let pre = c .before .before .before .before .before .before .before .before .before .before .before .before .pre in (
-      λ early. omega (arith, pre .1, pre .0 .link (omega (arith, c .before .before .before .before .before .before .before .before .before .read-cell .ensures)), c .before .before .before .before .before .before .before .read-cell2 .ensures, c .before .before .before .before .before .write-cell .kept .0),
-      omega (arith, pre .0 .early, c .before .before .before .before .before .before .before .before .before .read-cell .ensures),
-    )
+    let at-write-cell = c .before .before .before .before .before in
+    let at-read-cell2 = at-write-cell .before .before in
+    let at-read-cell = at-read-cell2 .before .before in
+    let at-start = at-read-cell .before .before .before in
+    λ other. omega (arith, at-start .pre .1, at-start .pre .0 .early, at-start .pre .0 .link (omega (arith, at-start .pre .0 .early, at-read-cell .read-cell .ensures, eqb-false (at-read-cell .read-cell .result + 1) markedState other)), at-read-cell2 .read-cell2 .ensures, at-write-cell .write-cell .kept .0)
 
 write-cell-requires-2 : tie.Need-write-cell-requires-2
 write-cell-requires-2 c κs = search needs
@@ -48,19 +51,26 @@ same-length c = search needs
 
 returns : tie.Need-returns
 returns c =
-    let s = c .before .before .before .before .before .before .before .before .before .before .before .before .before .before .before .before .before .before .before .before .before .before .before in
-    ap (λ (r : Marker). (r, c .before .before .before .before .write-cell3 .last .0)) (c .exchanged .ensures)
-    ∙ visit-made registerCount (s .args .self) _ _ _ _ _ _ _ _
+    let at-write-cell3 = c .before .before .before .before in
+    let at-write-cell2 = at-write-cell3 .before .before .before .before in
+    let at-moves-on = at-write-cell2 .before .before in
+    let at-read-cell3 = at-moves-on .before .before in
+    let at-write-cell = at-read-cell3 .before .before .before .before in
+    let at-read-cell2 = at-write-cell .before .before in
+    let at-read-cell = at-read-cell2 .before .before in
+    let at-start = at-read-cell .before .before .before in
+    ap (λ (r : Marker). (r, at-write-cell3 .write-cell3 .last .0)) (c .exchanged .ensures)
+    ∙ visit-made registerCount (at-start .args .self) _ _ _ _ _ _ _ _
     (record {
-      positive = s .pre .0 .positive;
-      room = omega (arith, s .pre .0 .bounded, s .pre .1);
-      count = ap (λ (k : ℕ). k + 1) (c .before .before .before .before .before .before .before .before .before .before .before .before .before .before .before .before .before .before .before .before .read-cell .ensures);
-      left = c .before .before .before .before .before .before .before .before .before .before .before .before .before .before .before .before .before .before .read-cell2 .ensures;
-      first = c .before .before .before .before .before .before .before .before .before .before .before .before .before .before .before .before .write-cell .ensures;
-      right = c .before .before .before .before .before .before .before .before .before .before .before .before .read-cell3 .ensures;
-      test = c .before .before .before .before .before .before .before .before .before .before .moves-on .ensures;
-      second = c .before .before .before .before .before .before .before .before .write-cell2 .ensures;
-      third = c .before .before .before .before .write-cell3 .ensures;
+      positive = at-start .pre .0 .positive;
+      room = omega (arith, at-start .pre .0 .bounded, at-start .pre .1);
+      count = ap (λ (k : ℕ). k + 1) (at-read-cell .read-cell .ensures);
+      left = at-read-cell2 .read-cell2 .ensures;
+      first = at-write-cell .write-cell .ensures;
+      right = at-read-cell3 .read-cell3 .ensures;
+      test = at-moves-on .moves-on .ensures;
+      second = at-write-cell2 .write-cell2 .ensures;
+      third = at-write-cell3 .write-cell3 .ensures;
     })
 
 pub visit-spec : {M : Type 1} → statement M
