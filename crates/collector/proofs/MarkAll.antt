@@ -8,7 +8,7 @@ use mathlib.Core.List.{List, [], _∷_, _++_, List·Memᴰ, List·Memᴰ·head, 
 use mathlib.Core.Bool.{true}
 use lib.ListN.{length}
 use Rattle.pool.specs.Layout.{poolLength, cell, setCell, state, register, setNode}
-use Rattle.pool.specs.States.{isMarked, asMarked}
+use Rattle.pool.specs.States.{isMarked, asMarked, markCell}
 use Rattle.pool.proofs.States.{marked-marked}
 use Rattle.pool.proofs.Laws.{length-setCell, register-setCell, cell-same, cell-other, setCell-comm}
 use Rattle.collector.specs.Reversal.{markAll}
@@ -19,7 +19,7 @@ module _ (R : ℕ) where
       → part (markAll R w t) ≡ part w
   unfolding markAll
   kept part same w [] = refl
-  kept part same w (x ∷ xs) = kept part same (setCell R w x 0 (asMarked (state R w x))) xs ∙ same w x (asMarked (state R w x))
+  kept part same w (x ∷ xs) = kept part same (markCell R w x) xs ∙ same w x (asMarked (state R w x))
 
   pub length-markAll : (w t : List ℕ) → length (markAll R w t) ≡ length w
   length-markAll = kept length λ w x v. length-setCell R w x 0 v
@@ -31,7 +31,7 @@ module _ (R : ℕ) where
   pub markAll-append : (w t u : List ℕ) → markAll R w (t ++ u) ≡ markAll R (markAll R w t) u
   unfolding markAll
   markAll-append w [] u = refl
-  markAll-append w (x ∷ xs) u = markAll-append (setCell R w x 0 (asMarked (state R w x))) xs u
+  markAll-append w (x ∷ xs) u = markAll-append (markCell R w x) xs u
 
   -- a write of a field that is no state of a cell of the list can be made before or after
   pub markAll-setCell : (i f v : ℕ) → 0 < i → f < 4 → (t : List ℕ) → ((x : ℕ) → List·Memᴰ x t → (0 < x) × (4 * x ≡ 4 * i + f → ⊥)) → (w : List ℕ)
@@ -41,7 +41,7 @@ module _ (R : ℕ) where
   markAll-setCell i f v hi hf (x ∷ xs) away w =
       let here = away x (List·Memᴰ·head refl) in
       ap (λ w. markAll R w xs) (setCell-comm R w i f v x 0 (asMarked (state R w x)) hi hf (here .0) (omega arith) λ e. here .1 (omega arith))
-      ∙ markAll-setCell i f v hi hf xs (λ y mem. away y (List·Memᴰ·tail mem)) (setCell R w x 0 (asMarked (state R w x)))
+      ∙ markAll-setCell i f v hi hf xs (λ y mem. away y (List·Memᴰ·tail mem)) (markCell R w x)
 
   -- a field that is no state of a cell of the list is as before
   cell-markAll : (i f : ℕ) → 0 < i → f < 4 → (t : List ℕ) → ((x : ℕ) → List·Memᴰ x t → (0 < x) × (4 * x ≡ 4 * i + f → ⊥)) → (w : List ℕ)
@@ -50,7 +50,7 @@ module _ (R : ℕ) where
   cell-markAll i f hi hf [] away w = refl
   cell-markAll i f hi hf (x ∷ xs) away w =
       let here = away x (List·Memᴰ·head refl) in
-      cell-markAll i f hi hf xs (λ y mem. away y (List·Memᴰ·tail mem)) (setCell R w x 0 (asMarked (state R w x)))
+      cell-markAll i f hi hf xs (λ y mem. away y (List·Memᴰ·tail mem)) (markCell R w x)
       ∙ cell-other R w x 0 (asMarked (state R w x)) i f (here .0) (omega arith) hi hf λ e. here .1 (omega arith)
 
   -- the links and the values are as before
@@ -70,11 +70,11 @@ module _ (R : ℕ) where
   unfolding markAll
   marked i hi [] cells w room mem = ⊎-elim (λ e. e) (λ m. absurd (List·Memᴰ·not-nil m)) mem
   marked i hi (x ∷ xs) cells w room mem =
-      marked i hi xs (λ y m. cells y (List·Memᴰ·tail m)) (setCell R w x 0 (asMarked (state R w x))) (simp length-setCell room) (first (ℕ-discrete i x))
+      marked i hi xs (λ y m. cells y (List·Memᴰ·tail m)) (markCell R w x) (simp length-setCell room) (first (ℕ-discrete i x))
     where
-      first : Dec (i ≡ x) → (isMarked (state R (setCell R w x 0 (asMarked (state R w x))) i) ≡ true) ⊎ List·Memᴰ i xs
+      first : Dec (i ≡ x) → (isMarked (state R (markCell R w x) i) ≡ true) ⊎ List·Memᴰ i xs
       first (yes e) =
-          let here : state R (setCell R w x 0 (asMarked (state R w x))) i ≡ asMarked (state R w x) =
+          let here : state R (markCell R w x) i ≡ asMarked (state R w x) =
           rw (← e) (cell-same R w i 0 (asMarked (state R w x)) hi (omega arith) room) in
           inl (ap isMarked here ∙ marked-marked (state R w x))
       first (no apart) =

@@ -9,7 +9,7 @@ use Rattle.graph.proofs.Lists.{has-member, member-has}
 use Rattle.graph.proofs.Reached.{reach-above, reach-within}
 use Rattle.pool.specs.Layout.{poolLength, setCell, state}
 use Rattle.pool.specs.Retain.{markedCell, sweepOf}
-use Rattle.pool.specs.States.{isMarked, asMarked}
+use Rattle.pool.specs.States.{isMarked, asMarked, markCell}
 use Rattle.pool.proofs.WellFormed.{Cell, WellFormed, cell-unmarked}
 use Rattle.pool.proofs.PoolGraph.{pool-within}
 use Rattle.pool.proofs.Retained.{Elsewhere, setCell-elsewhere, kept-cong, retain-cong}
@@ -25,7 +25,7 @@ unfolding markAll
 markAll-elsewhere R n [] w k cells away = refl
 markAll-elsewhere R n (x ∷ t) w k cells away =
     let here = cells x (List·Memᴰ·head refl) in
-    markAll-elsewhere R n t (setCell R w x 0 (asMarked (state R w x))) k (λ y mem. cells y (List·Memᴰ·tail mem)) away
+    markAll-elsewhere R n t (markCell R w x) k (λ y mem. cells y (List·Memᴰ·tail mem)) away
     ∙ setCell-elsewhere R n w x 0 (asMarked (state R w x)) k (here .0) (here .1) (omega arith) away
 
 module _ (R n : ℕ) (w : List ℕ) (well : WellFormed R n w) (room : poolLength R n ≤ length w) where

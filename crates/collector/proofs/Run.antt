@@ -10,7 +10,7 @@ use borrow.Author.Tests.{ne-eqb}
 use Rattle.graph.specs.Graph.{Graph}
 use Rattle.graph.specs.Dfs.{mark, marks, Dfs}
 use Rattle.pool.specs.Layout.{poolLength, setCell, state, left, right, setNode}
-use Rattle.pool.specs.States.{isMarked}
+use Rattle.pool.specs.States.{isMarked, markCell}
 use Rattle.pool.proofs.Laws.{cell-same, cell-other}
 use Rattle.collector.specs.declared.Marker.{Marker}
 use Rattle.collector.specs.Reversal.{unmarked, visitOf, Visitable, Visits, marker, markAll}
@@ -152,10 +152,10 @@ module _ (R n : ℕ) (g : Graph) where
           turn R n p (here .0) (here .1) w₂ (simp length-markAll (a .room)) 2 q l r (suc (suc c + visitsOf t) + visitsOf u) (omega arith)
           (omega arith) true refl Visits.done
 
-      all : setNode R w₂ p 3 l r ≡ markAll R (setCell R w p 0 3) (t ++ u)
+      all : setNode R w₂ p 3 l r ≡ markAll R (markCell R w p) (t ++ u)
       all =
           sym
-          (markAll-append R (setCell R w p 0 3) t u
+          (markAll-append R (markCell R w p) t u
           ∙ rw (← setNode-links R w p (here .0) 3, before .left, before .right, past-left 3 l r)
           (markAll-setNode R p 3 l r (here .0) u (away R n g a₂ dr p stays) w₁))
 

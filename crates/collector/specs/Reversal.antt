@@ -4,7 +4,7 @@ use mathlib.Core.List.{List, [], _∷_}
 use mathlib.Core.Bool.{Bool, cond, _||_, _&&_, not}
 use lib.Dec.{eqb}
 use Rattle.pool.specs.Layout.{state, left, right, setCell}
-use Rattle.pool.specs.States.{isUsed, isMarked, asMarked}
+use Rattle.pool.specs.States.{isUsed, isMarked, markCell}
 use Rattle.collector.specs.declared.Marker.{Marker}
 
 -- "nil counts as marked and is never visited": a link is unmarked if it is a cell's number and that cell's state is that of a used one.
@@ -55,4 +55,4 @@ pub record EndingRun (R n p : ℕ) (s : ℕ × List ℕ) : Type 0 where
 -- The words with every cell of a list marked.
 unfoldable pub markAll : ℕ → List ℕ → List ℕ → List ℕ
 markAll R w [] = w
-markAll R w (x ∷ xs) = markAll R (setCell R w x 0 (asMarked (state R w x))) xs
+markAll R w (x ∷ xs) = markAll R (markCell R w x) xs

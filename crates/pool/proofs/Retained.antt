@@ -10,8 +10,8 @@ use lib.Seq.{getD-set-same, getD-set-other}
 use lib.Dec.{ltb, leb}
 use borrow.Author.Tests.{lt-ltb, le-ltb, le-leb, lt-leb, eq-eqb, ne-eqb}
 use Rattle.pool.specs.Words.{tabulate}
-use Rattle.pool.specs.Layout.{firstRegister, firstCell, poolLength, cellAt, cell, setCell, setNode, putCell, head, setHead, count, register}
-use Rattle.pool.specs.States.{usedState, freeState, isMarked}
+use Rattle.pool.specs.Layout.{firstRegister, firstCell, poolLength, cellAt, cell, setCell, setNode, putCell, state, head, setHead, count, register}
+use Rattle.pool.specs.States.{freeState, isMarked, asUsed, unmarkCell}
 use Rattle.pool.specs.Retain.{lowestFree, freeAbove, keptField, freeField, retainedField, retainedWord, retain, keptCount, markedCell, sweepOf}
 use Rattle.pool.proofs.Laws.{cell-same, cell-other, length-setCell, length-setHead}
 use Rattle.pool.proofs.Node.{written, length-putCell, cell-putCell, cell-putCell-other}
@@ -93,26 +93,26 @@ module _ (R n : ℕ) (keep : ℕ → Bool) (w₀ : List ℕ) where
       record { len = refl; elsewhere = λ k away. refl; below = λ j f hj low hf. refl; above = λ j f low high hf. absurd (omega arith) }
 
   module _ (w : List ℕ) (i : ℕ) (here : i < n) (room : poolLength R n ≤ length w₀) (s : Swept R n keep w₀ w (suc i)) where
-    pub swept-kept : keep (suc i) ≡ true → Swept R n keep w₀ (setCell R w (suc i) 0 usedState) i
+    pub swept-kept : keep (suc i) ≡ true → Swept R n keep w₀ (unmarkCell R w (suc i)) i
     swept-kept e =
         record {
-          len = length-setCell R w (suc i) 0 usedState ∙ s .len;
-          elsewhere = λ k away. setCell-elsewhere R n w (suc i) 0 usedState k (omega arith) here (omega arith) away ∙ s .elsewhere k away;
+          len = length-setCell R w (suc i) 0 (asUsed (state R w (suc i))) ∙ s .len;
+          elsewhere = λ k away. setCell-elsewhere R n w (suc i) 0 (asUsed (state R w (suc i))) k (omega arith) here (omega arith) away ∙ s .elsewhere k away;
           below = λ j f hj low hf.
-              cell-other R w (suc i) 0 usedState j f (omega arith) (omega arith) hj hf (λ q. omega arith) ∙ s .below j f hj (omega arith) hf;
+              cell-other R w (suc i) 0 (asUsed (state R w (suc i))) j f (omega arith) (omega arith) hj hf (λ q. omega arith) ∙ s .below j f hj (omega arith) hf;
           above = λ j f low high hf. go j f low high hf (ℕ-discrete j (suc i));
         }
       where
-        this : (f : ℕ) → f < 4 → cell R (setCell R w (suc i) 0 usedState) (suc i) f ≡ keptField R w₀ (suc i) f
-        this zero hf = cell-same R w (suc i) 0 usedState (omega arith) hf (omega (arith, s .len))
+        this : (f : ℕ) → f < 4 → cell R (unmarkCell R w (suc i)) (suc i) f ≡ keptField R w₀ (suc i) f
+        this zero hf = cell-same R w (suc i) 0 (asUsed (state R w (suc i))) (omega arith) hf (omega (arith, s .len))
         this (suc f) hf =
-            cell-other R w (suc i) 0 usedState (suc i) (suc f) (omega arith) (omega arith) (omega arith) hf (λ q. omega arith)
+            cell-other R w (suc i) 0 (asUsed (state R w (suc i))) (suc i) (suc f) (omega arith) (omega arith) (omega arith) hf (λ q. omega arith)
             ∙ s .below (suc i) (suc f) (omega arith) (omega arith) hf
 
-        go : (j f : ℕ) → i < j → j ≤ n → f < 4 → Dec (j ≡ suc i) → cell R (setCell R w (suc i) 0 usedState) j f ≡ retainedField R n keep w₀ j f
+        go : (j f : ℕ) → i < j → j ≤ n → f < 4 → Dec (j ≡ suc i) → cell R (unmarkCell R w (suc i)) j f ≡ retainedField R n keep w₀ j f
         go j f low high hf (yes same) = rw (same, e) (this f hf)
         go j f low high hf (no other) =
-            cell-other R w (suc i) 0 usedState j f (omega arith) (omega arith) (omega arith) hf (λ q. other (omega arith))
+            cell-other R w (suc i) 0 (asUsed (state R w (suc i))) j f (omega arith) (omega arith) (omega arith) hf (λ q. other (omega arith))
             ∙ s .above j f (omega arith) high hf
 
     pub swept-free : (next : ℕ) → keep (suc i) ≡ false → next ≡ freeAbove keep n (suc i) → Swept R n keep w₀ (putCell R w (suc i) freeState next 0 0) i
@@ -242,12 +242,12 @@ module _ (R n : ℕ) (w₀ : List ℕ) (room : poolLength R n ≤ length w₀) w
     state-read : (s : ℕ) → s ≡ cell R w i 0 → cell R w₀ (suc (i - 1)) 0 ≡ s
     state-read s read = rw this (sym (read ∙ t .swept .below i 0 some (omega arith) (omega arith)))
 
-    pub turn-kept : (s : ℕ) (w' : List ℕ) → s ≡ cell R w i 0 → isMarked s ≡ true → w' ≡ setCell R w i 0 usedState → Turn R n w₀ w' (i - 1) next (kept + 1)
+    pub turn-kept : (s : ℕ) (w' : List ℕ) → s ≡ cell R w i 0 → isMarked s ≡ true → w' ≡ unmarkCell R w i → Turn R n w₀ w' (i - 1) next (kept + 1)
     turn-kept s w' read is write =
         let keep : markedCell R w₀ (suc (i - 1)) ≡ true = ap isMarked (state-read s read) ∙ is in
         record {
           few = omega (arith, t .few);
-          swept = rw (write ∙ ap (λ (k : ℕ). setCell R w k 0 usedState) (sym this))
+          swept = rw (write ∙ ap (λ (k : ℕ). unmarkCell R w k) (sym this))
               (swept-kept R n (markedCell R w₀) w₀ w (i - 1) top room (rw this (t .swept)) keep);
           chain = t .chain ∙ sym (free-kept (markedCell R w₀) n (i - 1) top keep ∙ ap (freeAbove (markedCell R w₀) n) this);
           counted = omega (arith, t .counted, kept-more (markedCell R w₀) i some (rw this at keep));

@@ -1,7 +1,9 @@
 -- The states of a cell (01, "The pool's words").
 use Prim.Native.Nat.{ℕ}
 use mathlib.Core.Bool.{Bool}
+use mathlib.Core.List.{List}
 use lib.Dec.{eqb}
+use Rattle.pool.specs.Layout.{state, setCell}
 
 -- "State 0 is used, 4 is free; 1, 2 and 3 stand only inside a collection": a marked cell has state 3.
 abbrev pub usedState : ℕ
@@ -28,3 +30,10 @@ asMarked s = markedState
 
 abbrev pub asUsed : ℕ → ℕ
 asUsed s = usedState
+
+-- Cell i marked, and made used again.
+abbrev pub markCell : ℕ → List ℕ → ℕ → List ℕ
+markCell R w i = setCell R w i 0 (asMarked (state R w i))
+
+abbrev pub unmarkCell : ℕ → List ℕ → ℕ → List ℕ
+unmarkCell R w i = setCell R w i 0 (asUsed (state R w i))

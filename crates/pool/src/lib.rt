@@ -8,7 +8,7 @@ ghost use mathlib.Core.Path.{_≡_};
 ghost use Prim.Native.Nat.{_+_, _<_, _≤_};
 ghost use lib.ListN.{length, replicate};
 ghost use Rattle.pool.specs.Layout.{registerCount, poolLength, cellCountOfLength, cell, setCell, putCell, linkOf, register, setRegister, head, setHead};
-ghost use Rattle.pool.specs.States.{isUsed, isMarked, isFree};
+ghost use Rattle.pool.specs.States.{isUsed, isMarked, isFree, markCell, unmarkCell};
 ghost use Rattle.pool.specs.Validity.{validLink, validCell, registersValid, cellsValid, wellFormed};
 ghost use Rattle.pool.specs.Retain.{sweepOf};
 ghost use Rattle.answers.specs.Outcome.{answerOutcome};
@@ -221,6 +221,21 @@ pub fn is_free(state: u32) -> bool
     state == Pool::FREE
 }
 
+// Marks a cell, or makes a marked cell used again.
+pub fn mark_cell(words: &mut [u32], i: u32)
+    requires { ⌜ (0 < i) × (poolLength registerCount i ≤ length (now words)) ⌝ }
+    ensures { λ _. ⌜ now (words .exit) ≡ markCell registerCount (now (words .entry)) i ⌝ }
+{
+    write_cell(words, i, Pool::STATE, Pool::MARKED);
+}
+
+pub fn unmark_cell(words: &mut [u32], i: u32)
+    requires { ⌜ (0 < i) × (poolLength registerCount i ≤ length (now words)) ⌝ }
+    ensures { λ _. ⌜ now (words .exit) ≡ unmarkCell registerCount (now (words .entry)) i ⌝ }
+{
+    write_cell(words, i, Pool::STATE, Pool::USED);
+}
+
 // A link of a cell: its left or right field.
 pub fn link_of(words: &[u32], i: u32, field: usize) -> u32
     requires { ⌜ (0 < i) × (field < 4) × (poolLength registerCount i ≤ length (now words)) ⌝ }
@@ -341,7 +356,7 @@ pub fn sweep(words: &mut [u32], n: u32) -> u32
     while 0 < i {
         let state = read_cell(words, i, Pool::STATE);
         if is_marked(state) {
-            write_cell(words, i, Pool::STATE, Pool::USED);
+            unmark_cell(words, i);
             kept += 1;
             i -= 1;
         } else {

@@ -22,8 +22,8 @@ read-cell-requires c κs = omega (arith, c .before .before .loop .inv .swept .le
 is-marked-requires : tie.Need-is-marked-requires Inv-loop μ-loop
 is-marked-requires c κs = search needs
 
-write-cell-requires : tie.Need-write-cell-requires Inv-loop μ-loop
-write-cell-requires c κs =
+unmark-cell-requires : tie.Need-unmark-cell-requires Inv-loop μ-loop
+unmark-cell-requires c κs =
     let at-loop = c .before .before .before .before .before .before in
     omega (arith, at-loop .loop .inv .swept .len)
 
@@ -41,15 +41,15 @@ loop-less c = omega arith
 
 loop-again : tie.Need-loop-again Inv-loop μ-loop
 loop-again c =
-    let at-write-cell = c .before .before in
-    let at-if1 = at-write-cell .before .before in
+    let at-unmark-cell = c .before .before in
+    let at-if1 = at-unmark-cell .before .before in
     let at-is-marked = at-if1 .before in
     let at-read-cell = at-is-marked .before in
     let at-loop-test = at-read-cell .before .before in
     let at-loop = at-loop-test .before in
     let at-start = at-loop .before .before in
     turn-kept registerCount _ _ (at-start .pre) _ _ _ _ (at-loop-test .loop-test .taken) (at-loop .loop .inv) _ _
-    (at-read-cell .read-cell .ensures) (sym (at-is-marked .is-marked .ensures) ∙ at-if1 .if1 .taken) (at-write-cell .write-cell .ensures)
+    (at-read-cell .read-cell .ensures) (sym (at-is-marked .is-marked .ensures) ∙ at-if1 .if1 .taken) (at-unmark-cell .unmark-cell .ensures)
 
 put-cell-requires : tie.Need-put-cell-requires Inv-loop μ-loop
 put-cell-requires c κs =
@@ -94,7 +94,7 @@ sweep-spec =
     loop-holds
     read-cell-requires
     is-marked-requires
-    write-cell-requires
+    unmark-cell-requires
     add-kept
     sub-i
     loop-less
