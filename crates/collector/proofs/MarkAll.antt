@@ -2,14 +2,14 @@
 use Prim.Native.Nat.{ℕ, _+_, _*_, _<_, _≤_}
 use native.Mathlib.Omega.{arith}
 use native.Mathlib.Decide.{ℕ-discrete}
-use mathlib.Core.Path.{_≡_, refl, ap, _∙_}
+use mathlib.Core.Path.{_≡_, refl, sym, ap, _∙_}
 use mathlib.Core.Logic.{_⊎_, inl, inr, ⊎-elim}
 use mathlib.Core.List.{List, [], _∷_, _++_, List·Memᴰ, List·Memᴰ·head, List·Memᴰ·tail, List·Memᴰ·cases-cons, Memᴰ·cast, List·Memᴰ·not-nil}
 use mathlib.Core.Bool.{true}
 use lib.ListN.{length}
 use Rattle.pool.specs.Layout.{poolLength, cell, setCell, state, register, setNode}
 use Rattle.pool.specs.States.{isMarked, asMarked, markCell}
-use Rattle.pool.proofs.States.{marked-marked}
+use Rattle.pool.proofs.States.{marked-marked, marked-again}
 use Rattle.pool.proofs.Laws.{length-setCell, register-setCell, cell-same, cell-other, setCell-comm}
 use Rattle.collector.specs.Reversal.{markAll}
 
@@ -64,27 +64,33 @@ module _ (R : ℕ) where
   state-markAll-other i hi t cells out =
       cell-markAll i 0 hi (omega arith) t λ x mem. (cells x mem, λ e. out (Memᴰ·cast (omega arith) mem))
 
-  -- a cell that is in the list, or was marked before, is marked
+  -- a cell that is in the list, or has the state of a marked cell before, has it after
   marked : (i : ℕ) → 0 < i → (t : List ℕ) → ((x : ℕ) → List·Memᴰ x t → 0 < x) → (w : List ℕ) → poolLength R i ≤ length w
-      → (isMarked (state R w i) ≡ true) ⊎ List·Memᴰ i t → isMarked (state R (markAll R w t) i) ≡ true
+      → (state R w i ≡ asMarked (state R w i)) ⊎ List·Memᴰ i t → state R (markAll R w t) i ≡ asMarked (state R w i)
   unfolding markAll
   marked i hi [] cells w room mem = ⊎-elim (λ e. e) (λ m. absurd (List·Memᴰ·not-nil m)) mem
-  marked i hi (x ∷ xs) cells w room mem =
-      marked i hi xs (λ y m. cells y (List·Memᴰ·tail m)) (markCell R w x) (simp length-setCell room) (first (ℕ-discrete i x))
+  marked i hi (x ∷ xs) cells w room mem = go (ℕ-discrete i x) (marked i hi xs (λ y m. cells y (List·Memᴰ·tail m)) (markCell R w x) (simp length-setCell room))
     where
-      first : Dec (i ≡ x) → (isMarked (state R (markCell R w x) i) ≡ true) ⊎ List·Memᴰ i xs
-      first (yes e) =
-          let here : state R (markCell R w x) i ≡ asMarked (state R w x) =
-          rw (← e) (cell-same R w i 0 (asMarked (state R w x)) hi (omega arith) room) in
-          inl (ap isMarked here ∙ marked-marked (state R w x))
-      first (no apart) =
-          ⊎-elim (λ e. inl (ap isMarked (cell-other R w x 0 (asMarked (state R w x)) i 0 (cells x (List·Memᴰ·head refl)) (omega arith) hi (omega arith) (λ e′. apart (omega arith))) ∙ e))
-          (λ m. ⊎-elim (λ e. absurd (apart e)) (λ m′. inr m′) (List·Memᴰ·cases-cons m)) mem
+      go : Dec (i ≡ x)
+          → ((state R (markCell R w x) i ≡ asMarked (state R (markCell R w x) i)) ⊎ List·Memᴰ i xs → state R (markAll R (markCell R w x) xs) i ≡ asMarked (state R (markCell R w x) i))
+          → state R (markAll R (markCell R w x) xs) i ≡ asMarked (state R w i)
+      go (yes e) rest =
+          let here : state R (markCell R w x) i ≡ asMarked (state R w i) = rw (← e) (cell-same R w i 0 (asMarked (state R w i)) hi (omega arith) room) in
+          rest (inl (here ∙ sym (ap asMarked here ∙ marked-again (state R w i)))) ∙ (ap asMarked here ∙ marked-again (state R w i))
+      go (no apart) rest =
+          let same : state R (markCell R w x) i ≡ state R w i =
+          cell-other R w x 0 (asMarked (state R w x)) i 0 (cells x (List·Memᴰ·head refl)) (omega arith) hi (omega arith) (λ e′. apart (omega arith)) in
+          rest (⊎-elim (λ e. inl (same ∙ (e ∙ sym (ap asMarked same)))) (λ m. ⊎-elim (λ e. absurd (apart e)) (λ m′. inr m′) (List·Memᴰ·cases-cons m)) mem)
+          ∙ ap asMarked same
 
-  -- so a cell of the list is marked
+  -- so a cell of the list has the state of a marked cell, and is marked
+  pub state-markAll : (i : ℕ) → 0 < i → (t : List ℕ) → ((x : ℕ) → List·Memᴰ x t → 0 < x) → List·Memᴰ i t → (w : List ℕ)
+      → poolLength R i ≤ length w → state R (markAll R w t) i ≡ asMarked (state R w i)
+  state-markAll i hi t cells mem w room = marked i hi t cells w room (inr mem)
+
   pub state-markAll-same : (i : ℕ) → 0 < i → (t : List ℕ) → ((x : ℕ) → List·Memᴰ x t → 0 < x) → List·Memᴰ i t → (w : List ℕ)
       → poolLength R i ≤ length w → isMarked (state R (markAll R w t) i) ≡ true
-  state-markAll-same i hi t cells mem w room = marked i hi t cells w room (inr mem)
+  state-markAll-same i hi t cells mem w room = ap isMarked (state-markAll i hi t cells mem w room) ∙ marked-marked (state R w i)
 
   -- a cell that is not in the list can be written before or after
   pub markAll-setNode : (p s l r : ℕ) → 0 < p → (t : List ℕ) → ((x : ℕ) → List·Memᴰ x t → (0 < x) × (x ≡ p → ⊥)) → (w : List ℕ)

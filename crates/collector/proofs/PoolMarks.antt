@@ -3,12 +3,13 @@ use Prim.Native.Nat.{ℕ, _<_, _≤_}
 use native.Mathlib.Omega.{arith}
 use mathlib.Core.Path.{_≡_, refl}
 use mathlib.Core.Bool.{Bool, true, false, cond, _&&_}
+use mathlib.Core.Logic.{_⊎_, inl, inr}
 use mathlib.Core.List.{List}
 use lib.ListN.{length}
 use lib.Dec.{leb}
 use borrow.Author.Tests.{le-leb, lt-leb, leb-true}
 use Rattle.graph.specs.Marking.{outside}
-use Rattle.graph.proofs.Marks.{outside-nil, outside-cell}
+use Rattle.graph.proofs.Marks.{outside-nil, outside-cell, zero-or-above}
 use Rattle.graph.proofs.Congruence.{Alike}
 use Rattle.pool.specs.Layout.{poolLength, state, graphOf, rootsOf}
 use Rattle.pool.specs.States.{isUsed}
@@ -39,6 +40,14 @@ module _ (R n : ℕ) (w : List ℕ) where
           let inner = both (leb 1 x) (leb x n) (outer .0) in
           record { positive = leb-true 1 x (inner .0); bounded = leb-true x n (inner .1); state = outer .1 }
       go false e z = absurd (omega arith)
+
+  -- what is no used cell is marked
+  pub stateMarks-other : (x : ℕ) → (Used R n w x → ⊥) → 0 < stateMarks R n w x
+  stateMarks-other x none = go (zero-or-above (stateMarks R n w x))
+    where
+      go : (stateMarks R n w x ≡ 0) ⊎ (0 < stateMarks R n w x) → 0 < stateMarks R n w x
+      go (inl e) = absurd (none (unmarked-used x e))
+      go (inr h) = h
 
   marked-other : (x : ℕ) → 0 < x → x ≤ n → 0 < stateMarks R n w x → isUsed (state R w x) ≡ false
   marked-other x positive bounded h = go (isUsed (state R w x)) refl

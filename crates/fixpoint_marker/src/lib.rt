@@ -35,8 +35,8 @@ fn mark_links(words: &[u32], n: u32, marks: &mut [u32], i: u32) -> u32
     if marks[i as usize] == 0 {
         return 0;
     }
-    let by_left = mark_link(marks, n, pool::read_cell(words, i, Pool::LEFT));
-    let by_right = mark_link(marks, n, pool::read_cell(words, i, Pool::RIGHT));
+    let by_left = mark_link(marks, n, pool::link_of(words, i, Pool::LEFT));
+    let by_right = mark_link(marks, n, pool::link_of(words, i, Pool::RIGHT));
     by_left + by_right
 }
 

@@ -25,6 +25,9 @@ module _ (s : ℕ) where
   pub marked-marked : isMarked (asMarked s) ≡ true
   marked-marked = refl
 
+  pub marked-again : asMarked (asMarked s) ≡ asMarked s
+  marked-again = refl
+
   pub used-used : isUsed (asUsed s) ≡ true
   used-used = refl
 

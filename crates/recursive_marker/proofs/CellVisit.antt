@@ -4,17 +4,19 @@ use native.Mathlib.Omega.{arith}
 use mathlib.Core.Path.{_≡_, refl, sym, ap, ap₂, _∙_}
 use mathlib.Core.List.{List, [], _∷_, _++_}
 use mathlib.Core.Bool.{true, false, true≢false, false≢true}
-use lib.ListN.{length, length-append}
+use lib.ListN.{length}
 use Rattle.graph.specs.Graph.{Graph}
 use Rattle.graph.specs.Dfs.{mark, marks, Dfs}
 use Rattle.graph.specs.Marking.{markedCount}
 use Rattle.graph.proofs.Lists.{each-nil, each-cons}
 use Rattle.graph.proofs.Marks.{Cells, cells-mark, mark-self}
 use Rattle.graph.proofs.Count.{marked-mark, marked-le, counts}
-use Rattle.pool.specs.Layout.{setCell, left, right}
+use Rattle.pool.specs.Layout.{state, left, right}
+use Rattle.pool.specs.States.{asMarked, markCell}
 use Rattle.pool.proofs.Laws.{cell-other}
 use Rattle.collector.specs.Reversal.{unmarked, markAll}
 use Rattle.collector.specs.ReversalTheorem.{Agreement}
+use Rattle.collector.proofs.VisitCount.{visits-cons, visits-of-append}
 use Rattle.collector.proofs.MarkAll.{markAll-append, field-markAll}
 use Rattle.collector.proofs.Agreement.{unmarked-cell, unmarked-false, unmarked-true, agreement-markAll, agreement-dfs, away}
 use Rattle.recursive_marker.specs.Recursive.{Markable, visited}
@@ -38,7 +40,7 @@ module _ (R n depth p visits : ℕ) (w : List ℕ) (h : Markable R n depth p vis
 
   -- a marked link: nothing is done
   pub visit-none : unmarked R w p ≡ false → _≡_ {A = ℕ × List ℕ} (visits, w) (visited R n depth p visits w h)
-  unfolding markAll
+  unfolding markAll visitsOf
   visit-none e = go (h .dfs) refl
     where
       go : {t : List ℕ} → Dfs g m p t → h .cells ≡ t → _≡_ {A = ℕ × List ℕ} (visits, w) (visited R n depth p visits w h)
@@ -63,20 +65,20 @@ module _ (R n depth p visits : ℕ) (w : List ℕ) (h : Markable R n depth p vis
     one-more = marked-mark n m p (cell .0) (cell .1) (parts .fresh)
 
     count : visitsOf (h .cells) ≡ 3 + visitsOf (parts .t) + visitsOf (parts .u)
-    count = ap (λ (x : List ℕ). visitsOf x) (parts .all) ∙ simp length-append (omega arith)
+    count = ap visitsOf (parts .all) ∙ (visits-cons p (parts .t ++ parts .u) ∙ omega (arith, visits-of-append (parts .t) (parts .u)))
 
     -- its cell is one, some depth is left, and its three visits fit
     pub visit-cell : (0 < p) × (p ≤ n) × (0 < depth) × (visits + 3 < 2 ^ 32)
     visit-cell = (cell .0, cell .1, omega (arith, one-more, marked-le n (mark m p), h .deep), omega (arith, count, h .fits))
 
-    module _ (w₁ : List ℕ) (l : ℕ) (wrote : w₁ ≡ setCell R w p 0 3) (read : l ≡ left R w₁ p) where
+    module _ (w₁ : List ℕ) (l : ℕ) (wrote : w₁ ≡ markCell R w p) (read : l ≡ left R w₁ p) where
       agree₁ : Agreement R n g (mark m p) w₁
       unfolding marks markAll
       agree₁ = rw wrote (agreement-markAll R n g (p ∷ []) (h .agree) (each-cons (λ x. (0 < x) × (x ≤ n)) cell (each-nil (λ x. (0 < x) × (x ≤ n)))))
 
       -- a link of the cell is the graph's
       link : (f : ℕ) → 0 < f → f < 4 → (x : ℕ) → Rattle.pool.specs.Layout.cell R w p f ≡ x → Rattle.pool.specs.Layout.cell R w₁ p f ≡ x
-      link f hf hf′ x e = rw wrote (cell-other R w p 0 3 p f (cell .0) (omega arith) (cell .0) hf′ (omega arith) ∙ e)
+      link f hf hf′ x e = rw wrote (cell-other R w p 0 (asMarked (state R w p)) p f (cell .0) (omega arith) (cell .0) hf′ (omega arith) ∙ e)
 
       -- what the visit of the left link may rely on
       pub visit-left : Markable R n (depth - 1) l (visits + 1) w₁
@@ -143,4 +145,4 @@ module _ (R n depth p visits : ℕ) (w : List ℕ) (h : Markable R n depth p vis
               ap₂ (λ (k : ℕ) (x : List ℕ). (k, x)) (omega (arith, count, v-is, v₃-is))
               (ap (λ (x : ℕ × List ℕ). x .1) (made₃ visit-right)
               ∙ (ap (λ (x : List ℕ). markAll R x (parts .u)) (w₂-is ∙ ap (λ (x : List ℕ). markAll R x (parts .t)) wrote)
-              ∙ (sym (markAll-append R (setCell R w p 0 3) (parts .t) (parts .u)) ∙ ap (markAll R w) (sym (parts .all)))))
+              ∙ (sym (markAll-append R (markCell R w p) (parts .t) (parts .u)) ∙ ap (markAll R w) (sym (parts .all)))))

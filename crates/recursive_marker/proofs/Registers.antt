@@ -20,6 +20,7 @@ use Rattle.pool.proofs.PoolGraph.{pool-within}
 use Rattle.collector.specs.Reversal.{markAll}
 use Rattle.collector.specs.Collect.{reachedCells, visitsOf}
 use Rattle.collector.specs.ReversalTheorem.{Agreement, markedOf}
+use Rattle.collector.proofs.VisitCount.{visits-of-append, visits-three}
 use Rattle.collector.proofs.MarkAll.{markAll-append, length-markAll, register-markAll}
 use Rattle.collector.proofs.PoolMarks.{stateMarks, agreement, alike}
 use Rattle.collector.proofs.Agreement.{agreement-dfs}
@@ -60,7 +61,7 @@ module _ (R n : ℕ) (w₀ : List ℕ) where
 
   module _ (well : wellFormed R n w₀ ≡ true) (room : poolLength R n ≤ length w₀) where
     pub marking-first : Marking w₀ 0 0
-    unfolding markAll
+    unfolding markAll visitsOf
     marking-first =
         let facts = well-formed-read R n w₀ well in
         record {
@@ -108,7 +109,7 @@ module _ (R n : ℕ) (w₀ : List ℕ) where
             dfs = from .first;
             bounded = rw this (pool-within (well-formed-read R n w₀ well) .root (register w₀ k) (member-tabulate R (λ j. register w₀ j) k here));
             deep = omega arith;
-            fits = omega (arith, few, g .counted);
+            fits = omega (arith, few, g .counted, visits-three (g .done), visits-three (from .t));
           }
 
       pub marking-next : n < 2 ^ 16 → (visits' : ℕ) (w' : List ℕ)
@@ -124,7 +125,7 @@ module _ (R n : ℕ) (w₀ : List ℕ) where
             todo = from .u;
             all = g .all ∙ (ap (λ (x : List ℕ). g .done ++ x) (from .all) ∙ sym (append-assoc (g .done) (from .t) (from .u)));
             words = words' ∙ (ap (λ (x : List ℕ). markAll R x (from .t)) (g .words) ∙ sym (markAll-append R w₀ (g .done) (from .t)));
-            counted = simp length-append (omega (arith, count, g .counted));
+            counted = omega (arith, count, g .counted, visits-of-append (g .done) (from .t));
             agree = rw words' (agreement-dfs R n (graphOf R w₀) (g .agree) (from .first));
             rest = from .others;
           }
@@ -134,4 +135,4 @@ module _ (R n : ℕ) (w₀ : List ℕ) where
         let end : k ≡ length (rootsOf R w₀) = omega (arith, g .most, roots-length) in
         let none : g .todo ≡ [] = last (g .rest) (rw end (drop-length (rootsOf R w₀))) in
         let all : g .done ≡ reachedCells R n w₀ = sym (g .all ∙ (ap (λ (x : List ℕ). g .done ++ x) none ∙ append-nil (g .done))) in
-        ap₂ (λ (v : ℕ) (x : List ℕ). (v, x)) (g .counted ∙ ap (λ (x : List ℕ). visitsOf x) all) (g .words ∙ ap (markAll R w₀) all)
+        ap₂ (λ (v : ℕ) (x : List ℕ). (v, x)) (g .counted ∙ ap visitsOf all) (g .words ∙ ap (markAll R w₀) all)

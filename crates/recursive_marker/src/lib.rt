@@ -26,10 +26,10 @@ fn visit(words: &mut [u32], n: u32, depth: u32, p: u32, visits: u32) -> u32
     ensures { λ r. ⌜ ((h : Markable registerCount n depth p visits (now (words .entry))) → _≡_ {A = ℕ × List ℕ} (r, now (words .exit)) (visited registerCount n depth p visits (now (words .entry)) h)) ⌝ }
 {
     if collector::is_unmarked(words, p) {
-        pool::write_cell(words, p, Pool::STATE, Pool::MARKED);
-        let left = pool::read_cell(words, p, Pool::LEFT);
+        pool::mark_cell(words, p);
+        let left = pool::link_of(words, p, Pool::LEFT);
         let after_left = visit(words, n, depth - 1, left, visits + 1);
-        let right = pool::read_cell(words, p, Pool::RIGHT);
+        let right = pool::link_of(words, p, Pool::RIGHT);
         let after_right = visit(words, n, depth - 1, right, after_left + 1);
         after_right + 1
     } else {

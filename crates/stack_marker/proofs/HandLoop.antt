@@ -4,22 +4,23 @@ use native.Mathlib.Omega.{arith}
 use mathlib.Core.Path.{_≡_, refl, sym, ap, _∙_}
 use mathlib.Core.Logic.{inr}
 use mathlib.Core.List.{List, [], _∷_, _++_, List·Memᴰ, List·Memᴰ·head}
-use mathlib.Core.Bool.{Bool, true, false, true≢false, false≢true, cond, _&&_, not}
+use mathlib.Core.Bool.{Bool, true, false, true≢false, false≢true, not}
 use lib.ListN.{length, getD, set, length-set}
-use lib.Dec.{leb, eqb}
-use borrow.Author.Tests.{eqb-true, leb-true}
+use lib.Dec.{eqb}
 use Rattle.graph.specs.Graph.{Graph}
 use Rattle.graph.specs.Marking.{markedCount}
 use Rattle.graph.proofs.Lists.{has-member, member-has, each-nil}
 use Rattle.graph.specs.Preorder.{elem}
 use Rattle.graph.proofs.Count.{marked-le}
-use Rattle.pool.specs.Layout.{poolLength, setCell, left, right, state, graphOf, rootsOf}
+use Rattle.pool.specs.Layout.{poolLength, left, right, state, graphOf, rootsOf}
+use Rattle.pool.specs.States.{isUsed, markCell}
+use Rattle.pool.proofs.States.{marked-not-used}
 use Rattle.pool.proofs.WellFormed.{WellFormed, well-formed-read}
 use Rattle.pool.proofs.Questions.{both}
-use Rattle.pool.proofs.PoolGraph.{pool-within}
+use Rattle.pool.proofs.PoolGraph.{Used, pool-within}
 use Rattle.collector.specs.Reversal.{unmarked, markAll}
 use Rattle.collector.proofs.MarkAll.{length-markAll, state-markAll-same, state-markAll-other}
-use Rattle.collector.proofs.PoolMarks.{stateMarks, stateMarks-cell}
+use Rattle.collector.proofs.PoolMarks.{stateMarks, stateMarks-used, stateMarks-other}
 use Rattle.stack_marker.specs.StackRun.{onwardIn, Settled, Started, runFromCell, Ran}
 use Rattle.stack_marker.proofs.Fresh.{marked-more, Passing, passing}
 use Rattle.stack_marker.proofs.Going.{Going, weight-most, begin}
@@ -92,8 +93,8 @@ module _ (R n p : ℕ) (words₀ : List ℕ) (room : poolLength R n ≤ length w
         }
 
     -- both are unmarked: both are marked, the right one is pushed and the left one taken in hand
-    pub hand-push : (l r : ℕ) (w₁ w₂ stack' : List ℕ) → l ∷ r ∷ [] ≡ onwardIn R words hand → top < length stack → w₁ ≡ setCell R words l 0 3
-        → w₂ ≡ setCell R w₁ r 0 3 → stack' ≡ set stack top r → Hand R n p words₀ stack₀ w₂ stack' l (top + 1)
+    pub hand-push : (l r : ℕ) (w₁ w₂ stack' : List ℕ) → l ∷ r ∷ [] ≡ onwardIn R words hand → top < length stack → w₁ ≡ markCell R words l
+        → w₂ ≡ markCell R w₁ r → stack' ≡ set stack top r → Hand R n p words₀ stack₀ w₂ stack' l (top + 1)
     unfolding markAll
     hand-push l r w₁ w₂ stack' links fits e₁ e₂ es =
         record {
@@ -103,7 +104,7 @@ module _ (R n p : ℕ) (words₀ : List ℕ) (room : poolLength R n ≤ length w
         }
 
     -- one is unmarked: it is marked and taken in hand
-    pub hand-go : (x : ℕ) (w₁ : List ℕ) → x ∷ [] ≡ onwardIn R words hand → w₁ ≡ setCell R words x 0 3 → Hand R n p words₀ stack₀ w₁ stack x top
+    pub hand-go : (x : ℕ) (w₁ : List ℕ) → x ∷ [] ≡ onwardIn R words hand → w₁ ≡ markCell R words x → Hand R n p words₀ stack₀ w₁ stack x top
     unfolding markAll
     hand-go x w₁ links e₁ = record { lent = s .lent; fits = s .fits; run = λ h. rw e₁ (turned (x ∷ []) links h) }
 
@@ -132,29 +133,25 @@ module _ (R n p : ℕ) (words₀ : List ℕ) (room : poolLength R n ≤ length w
           rw links (passing (unmarked R words) (left R words hand) (right R words hand)) in
           let (low, high) = hand-new new links h x mem in
           marked-more n (stateMarks R n words) (stateMarks R n (markAll R words new)) keeps x low high
-          (stateMarks-cell R n words x low high ∙ eqb-true (state R words x) 0 (both (not (eqb x 0)) (eqb (state R words x) 0) (facts .passes x mem) .1))
-          (rw (stateMarks-cell R n (markAll R words new) x low high, three x low high mem) (omega arith))
+          (stateMarks-used R n words (record { positive = low; bounded = high; state = both (not (eqb x 0)) (isUsed (state R words x)) (facts .passes x mem) .1 }))
+          (stateMarks-other R n (markAll R words new) x (λ u. true≢false (sym (u .state) ∙ marked x low high mem)))
         where
           positive : (y : ℕ) → List·Memᴰ y new → 0 < y
           positive y k = hand-new new links h y k .0
 
-          three : (y : ℕ) → 0 < y → y ≤ n → List·Memᴰ y new → state R (markAll R words new) y ≡ 3
-          three y low high k = state-markAll-same R y low new positive k words (omega (arith, hand-cell h .4))
+          marked : (y : ℕ) → 0 < y → y ≤ n → List·Memᴰ y new → isUsed (state R (markAll R words new) y) ≡ false
+          marked y low high k = marked-not-used (state R (markAll R words new) y) (state-markAll-same R y low new positive k words (omega (arith, hand-cell h .4)))
 
           keeps : (y : ℕ) → 0 < stateMarks R n words y → 0 < stateMarks R n (markAll R words new) y
-          keeps y = go (leb 1 y && leb y n) refl (elem y new) refl
+          keeps y above = stateMarks-other R n (markAll R words new) y (λ u. go u (elem y new) refl)
             where
-              go : (t : Bool) → (leb 1 y && leb y n) ≡ t → (b : Bool) → elem y new ≡ b → 0 < cond t (state R words y) 1
-                  → 0 < cond t (state R (markAll R words new) y) 1
-              go false e b k above = above
-              go true e true k above =
-                  let (low, high) = both (leb 1 y) (leb y n) e in
-                  rw (three y (leb-true 1 y low) (leb-true y n high) (member-has y new k)) (omega arith)
-              go true e false k above =
-                  let low = leb-true 1 y (both (leb 1 y) (leb y n) e .0) in
-                  rw (state-markAll-other R y low new positive (λ m. true≢false (sym (has-member y m) ∙ k)) words) above
+              go : Used R n (markAll R words new) y → (b : Bool) → elem y new ≡ b → ⊥
+              go u true k = true≢false (sym (u .state) ∙ marked y (u .positive) (u .bounded) (member-has y new k))
+              go u false k =
+                  let same = state-markAll-other R y (u .positive) new positive (λ m. true≢false (sym (has-member y m) ∙ k)) words in
+                  omega (arith, stateMarks-used R n words (record { positive = u .positive; bounded = u .bounded; state = sym (ap isUsed same) ∙ u .state }))
 
-      pub less-push : (l r : ℕ) (w₁ w₂ : List ℕ) → l ∷ r ∷ [] ≡ onwardIn R words hand → w₁ ≡ setCell R words l 0 3 → w₂ ≡ setCell R w₁ r 0 3
+      pub less-push : (l r : ℕ) (w₁ w₂ : List ℕ) → l ∷ r ∷ [] ≡ onwardIn R words hand → w₁ ≡ markCell R words l → w₂ ≡ markCell R w₁ r
           → turnsLeft R n w₂ (top + 1) < turnsLeft R n words top
       unfolding markAll
       less-push l r w₁ w₂ links e₁ e₂ =
@@ -165,7 +162,7 @@ module _ (R n p : ℕ) (words₀ : List ℕ) (room : poolLength R n ≤ length w
             marked-le n (stateMarks R n (markAll R words (l ∷ r ∷ []))),
           ))
 
-      pub less-go : (x : ℕ) (w₁ : List ℕ) → x ∷ [] ≡ onwardIn R words hand → w₁ ≡ setCell R words x 0 3 → turnsLeft R n w₁ top < turnsLeft R n words top
+      pub less-go : (x : ℕ) (w₁ : List ℕ) → x ∷ [] ≡ onwardIn R words hand → w₁ ≡ markCell R words x → turnsLeft R n w₁ top < turnsLeft R n words top
       unfolding markAll
       less-go x w₁ links e₁ =
           rw e₁ (omega (arith, spent-more (x ∷ []) links x (List·Memᴰ·head refl), marked-le n (stateMarks R n (markAll R words (x ∷ [])))))

@@ -12,7 +12,7 @@ use Rattle.graph.proofs.Lists.{has-member, member-has}
 use Rattle.pool.specs.Layout.{poolLength, cell}
 use Rattle.pool.proofs.Retained.{Place, place}
 use Rattle.collector.specs.Reversal.{markAll}
-use Rattle.collector.proofs.MarkAll.{length-markAll, field-markAll, state-markAll-same, state-markAll-other}
+use Rattle.collector.proofs.MarkAll.{length-markAll, field-markAll, state-markAll, state-markAll-other}
 use Rattle.collector.proofs.MarkSweep.{markAll-elsewhere}
 
 pub markAll-members : (R n : ℕ) (w t u : List ℕ) → poolLength R n ≤ length w → ((x : ℕ) → List·Memᴰ x t → (0 < x) × (x ≤ n))
@@ -27,8 +27,8 @@ markAll-members R n w t u room cells same =
     field : (i f : ℕ) → 0 < i → i ≤ n → f < 4 → (b : Bool) → elem i t ≡ b → cell R (markAll R w t) i f ≡ cell R (markAll R w u) i f
     field i zero low high hf true e =
         let mem = member-has i t e in
-        state-markAll-same R i low t (λ x m. cells x m .0) mem w (omega arith)
-        ∙ sym (state-markAll-same R i low u (λ x m. cells-u x m .0) (same i .0 mem) w (omega arith))
+        state-markAll R i low t (λ x m. cells x m .0) mem w (omega arith)
+        ∙ sym (state-markAll R i low u (λ x m. cells-u x m .0) (same i .0 mem) w (omega arith))
     field i zero low high hf false e =
         let out : List·Memᴰ i t → ⊥ = λ m. true≢false (sym (has-member i m) ∙ e) in
         state-markAll-other R i low t (λ x m. cells x m .0) out w

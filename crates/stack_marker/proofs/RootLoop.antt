@@ -11,7 +11,8 @@ use lib.Seq.{drop-cons, drop-length}
 use lib.Dec.{leb}
 use borrow.Author.Tests.{le-leb, lt-leb, leb-true, leb-false}
 use Rattle.graph.specs.Graph.{Graph, Reach}
-use Rattle.pool.specs.Layout.{poolLength, register, setCell, graphOf, rootsOf}
+use Rattle.pool.specs.Layout.{poolLength, register, graphOf, rootsOf}
+use Rattle.pool.specs.States.{markCell}
 use Rattle.pool.specs.Validity.{wellFormed}
 use Rattle.pool.proofs.Every.{length-tabulate, getD-tabulate, member-tabulate}
 use Rattle.pool.proofs.WellFormed.{WellFormed, well-formed-read}
@@ -136,7 +137,7 @@ module _ (R n : ℕ) (pool : List ℕ) (well : wellFormed R n pool ≡ true) (ro
       pub registers-cell : 0 < p
       registers-cell = fresh-true (s .seen) p fresh .0
 
-      module _ (w₁ : List ℕ) (wrote : w₁ ≡ setCell R w p 0 3) where
+      module _ (w₁ : List ℕ) (wrote : w₁ ≡ markCell R w p) where
         -- what the run from an unmarked link may rely on
         pub registers-start : Started R n p w₁
         unfolding markAll
@@ -145,7 +146,7 @@ module _ (R n : ℕ) (pool : List ℕ) (well : wellFormed R n pool ≡ true) (ro
               pool = pool;
               seen = s .seen;
               well = well;
-              words = wrote ∙ (ap (λ (x : List ℕ). setCell R x p 0 3) (s .words) ∙ sym (markAll-append R pool (s .seen) (p ∷ [])));
+              words = wrote ∙ (ap (λ (x : List ℕ). markCell R x p) (s .words) ∙ sym (markAll-append R pool (s .seen) (p ∷ [])));
               settled = s .settled;
               reached = reach registers-cell;
               fresh = fresh;

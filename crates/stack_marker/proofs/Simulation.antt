@@ -14,6 +14,8 @@ use Rattle.graph.specs.Preorder.{elem}
 use Rattle.graph.proofs.Lists.{Each, has-member, member-has}
 use Rattle.graph.proofs.Reached.{reach-above, reach-within}
 use Rattle.pool.specs.Layout.{poolLength, cell, left, right, state, graphOf, rootsOf}
+use Rattle.pool.specs.States.{isUsed}
+use Rattle.pool.proofs.States.{marked-not-used}
 use Rattle.pool.proofs.WellFormed.{WellFormed}
 use Rattle.pool.proofs.PoolGraph.{Used, reached-used, pool-within}
 use Rattle.collector.specs.Reversal.{unmarked, markAll}
@@ -93,12 +95,12 @@ module _ (R n : ℕ) (pool : List ℕ) (well : WellFormed R n pool) (room : pool
       go : (t : Bool) → elem (suc x) seen ≡ t → unmarked R (markAll R pool seen) (suc x) ≡ isUnmarked seen (suc x)
       go true e =
           let mem = member-has (suc x) seen e in
-          let three = state-markAll-same R (suc x) (omega arith) seen positive mem pool (omega (arith, used .bounded)) in
-          rw (member-fresh seen (suc x) mem, ne-eqb (suc x) 0 (omega arith), three)
+          let marked = state-markAll-same R (suc x) (omega arith) seen positive mem pool (omega (arith, used .bounded)) in
+          rw (member-fresh seen (suc x) mem, ne-eqb (suc x) 0 (omega arith), marked-not-used (state R (markAll R pool seen) (suc x)) marked)
       go false e =
           let out : List·Memᴰ (suc x) seen → ⊥ = λ mem. true≢false (sym (has-member (suc x) mem) ∙ e) in
-          let zero' = state-markAll-other R (suc x) (omega arith) seen positive out pool ∙ used .state in
-          rw (other-fresh seen (suc x) (omega arith) out, ne-eqb (suc x) 0 (omega arith), zero')
+          let free = ap isUsed (state-markAll-other R (suc x) (omega arith) seen positive out pool) ∙ used .state in
+          rw (other-fresh seen (suc x) (omega arith) out, ne-eqb (suc x) 0 (omega arith), free)
 
   links : (seen : List ℕ) → Each (Reach (graphOf R pool) (rootsOf R pool)) seen → (p : ℕ) → Reach (graphOf R pool) (rootsOf R pool) p → onwardIn R (markAll R pool seen) p ≡ onward (graphOf R pool) seen p
   links seen cells p reach =

@@ -4,10 +4,11 @@ use mathlib.Core.List.{List, [], _∷_}
 use mathlib.Core.Bool.{Bool, cond}
 use lib.ListN.{length, replicate}
 use lib.Dec.{leb}
-use Rattle.pool.specs.Layout.{registerCount, setCell, graphOf, rootsOf}
+use Rattle.pool.specs.Layout.{registerCount, graphOf, rootsOf}
 use Rattle.pool.specs.Validity.{wellFormed}
 use Rattle.pool.specs.Calls.{sizedOf, admittedTo}
-use Rattle.pool.specs.Retain.{isMarked}
+use Rattle.pool.specs.States.{unmarkCell}
+use Rattle.pool.specs.Retain.{markedCell}
 use Rattle.answers.specs.Outcome.{Outcome, answered, refused}
 use Rattle.collector.specs.Collect.{reachedCount, collected}
 use Rattle.stack_marker.specs.Stack.{maxEntries}
@@ -27,7 +28,7 @@ stackIn n w stack =
 abbrev pub stackOf : List ℕ → List ℕ → Outcome × List ℕ × List ℕ
 stackOf w stack = admittedTo (λ n. stackIn n w stack) (λ k. (refused k, w, stack)) (sizedOf w)
 
--- "marks are cleared": every one of the cells i to 1 that has state 3 becomes used.
+-- "marks are cleared": every one of the cells i to 1 that is marked becomes used.
 unfoldable pub cleared : ℕ → ℕ → List ℕ → List ℕ
 cleared R zero w = w
-cleared R (suc i) w = cleared R i (cond (isMarked R w (suc i)) (setCell R w (suc i) 0 0) w)
+cleared R (suc i) w = cleared R i (cond (markedCell R w (suc i)) (unmarkCell R w (suc i)) w)

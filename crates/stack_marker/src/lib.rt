@@ -26,8 +26,8 @@ fn look(words: &[u32], n: u32, p: u32) -> Onward
     requires { ⌜ (0 < p) × (p ≤ n) × (left registerCount (now words) p ≤ n) × (right registerCount (now words) p ≤ n) × (poolLength registerCount n ≤ length (now words)) ⌝ }
     ensures { λ r. ⌜ linksOf r ≡ onwardIn registerCount (now (words .entry)) p ⌝ }
 {
-    let left = pool::read_cell(words, p, Pool::LEFT);
-    let right = pool::read_cell(words, p, Pool::RIGHT);
+    let left = pool::link_of(words, p, Pool::LEFT);
+    let right = pool::link_of(words, p, Pool::RIGHT);
     if collector::is_unmarked(words, left) {
         if collector::is_unmarked(words, right) {
             Onward::Both(left, right)
@@ -56,14 +56,14 @@ fn mark_from(words: &mut [u32], n: u32, stack: &mut [u32], p: u32) -> bool
                 if top == stack.len() {
                     return false;
                 }
-                pool::write_cell(words, left, Pool::STATE, Pool::MARKED);
-                pool::write_cell(words, right, Pool::STATE, Pool::MARKED);
+                pool::mark_cell(words, left);
+                pool::mark_cell(words, right);
                 stack[top] = right;
                 top += 1;
                 hand = left;
             }
             Onward::To(x) => {
-                pool::write_cell(words, x, Pool::STATE, Pool::MARKED);
+                pool::mark_cell(words, x);
                 hand = x;
             }
             Onward::Nowhere => {
@@ -84,8 +84,8 @@ fn clear_marks(words: &mut [u32], n: u32)
 {
     let mut i = n;
     while 0 < i {
-        if pool::read_cell(words, i, Pool::STATE) == Pool::MARKED {
-            pool::write_cell(words, i, Pool::STATE, Pool::USED);
+        if pool::is_marked(pool::read_cell(words, i, Pool::STATE)) {
+            pool::unmark_cell(words, i);
             i -= 1;
         } else {
             i -= 1;
@@ -102,7 +102,7 @@ fn mark_registers(words: &mut [u32], n: u32, stack: &mut [u32]) -> bool
     while k < Pool::REGISTERS {
         let p = pool::read_register(words, k);
         if collector::is_unmarked(words, p) {
-            pool::write_cell(words, p, Pool::STATE, Pool::MARKED);
+            pool::mark_cell(words, p);
             if mark_from(words, n, stack, p) {
                 k += 1;
             } else {

@@ -14,14 +14,14 @@ slice-read-if1 c = search needs
 returns : tie.Need-returns
 returns c = (grown-none _ _ _, λ h. absurd (omega arith))
 
-read-cell-requires : tie.Need-read-cell-requires
-read-cell-requires c κs = search needs
+link-of-requires : tie.Need-link-of-requires
+link-of-requires c κs = search needs
 
 mark-link-requires : tie.Need-mark-link-requires
 mark-link-requires c κs = search needs
 
-read-cell-requires-2 : tie.Need-read-cell-requires-2
-read-cell-requires-2 c κs = search needs
+link-of-requires-2 : tie.Need-link-of-requires-2
+link-of-requires-2 c κs = search needs
 
 mark-link-requires-2 : tie.Need-mark-link-requires-2
 mark-link-requires-2 c κs = search needs
@@ -35,7 +35,7 @@ same-length c = search needs
 returns-2 : tie.Need-returns-2
 returns-2 c =
     let a = c .before .before .before .before .before .before .before .before .before .before .before .before .before .before .args in
-    grown-links (a .n) (a .words .now) (a .i) (c .before .before .before .before .before .before .before .before .read-cell .ensures) (c .before .before .before .read-cell2 .ensures) (omega arith)
+    grown-links (a .n) (a .words .now) (a .i) (c .before .before .before .before .before .before .before .before .link-of .ensures) (c .before .before .before .link-of2 .ensures) (omega arith)
     (c .before .before .before .before .before .before .before .mark-link .ensures) (c .before .before .mark-link2 .ensures)
 
 pub mark-links-spec : {M : Type 1} → statement M
@@ -45,9 +45,9 @@ mark-links-spec =
     mul-if1
     slice-read-if1
     returns
-    read-cell-requires
+    link-of-requires
     mark-link-requires
-    read-cell-requires-2
+    link-of-requires-2
     mark-link-requires-2
     add-result
     same-length

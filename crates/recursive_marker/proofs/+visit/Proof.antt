@@ -8,8 +8,8 @@ use Rattle.recursive_marker.proofs.visit.Reads as visit
 use Rattle.recursive_marker.proofs.visit.Kinds as visit-kinds
 use Rattle.recursive_marker.proofs.+visit.Lts-visit as visit-lts
 use Rattle.collector.proofs.is_unmarked.Reads as is-unmarked-reads
-use Rattle.pool.proofs.read_cell.Reads as read-cell-reads
-use Rattle.pool.proofs.write_cell.Reads as write-cell-reads
+use Rattle.pool.proofs.link_of.Reads as link-of-reads
+use Rattle.pool.proofs.mark_cell.Reads as mark-cell-reads
 use Rattle.recursive_marker.proofs.+visit.{statement}
 use Rattle.recursive_marker.proofs.+visit.Tie.{close}
 use Rattle.pool.specs.Layout.{registerCount}
@@ -28,10 +28,10 @@ abbrev callees : ℕ → visit-lts.Claims
 callees t = (
   is-unmarked-reads.Asked,
   is-unmarked-reads.Learnt,
-  write-cell-reads.Asked,
-  write-cell-reads.Learnt,
-  read-cell-reads.Asked,
-  read-cell-reads.Learnt,
+  mark-cell-reads.Asked,
+  mark-cell-reads.Learnt,
+  link-of-reads.Asked,
+  link-of-reads.Learnt,
   visit-below t,
   visit.Post,
 )
@@ -40,22 +40,22 @@ visit-is-unmarked-requires : (t : ℕ) → visit-lts.Need-is-unmarked-requires (
 visit-is-unmarked-requires t c κs =
     omega (arith, c .before .before .pre .1 .agree .room, c .before .before .pre .1 .bounded)
 
-visit-write-cell-requires : (t : ℕ) → visit-lts.Need-write-cell-requires (callees t) (visit-at t) visit.Post
-visit-write-cell-requires t c κs =
+visit-mark-cell-requires : (t : ℕ) → visit-lts.Need-mark-cell-requires (callees t) (visit-at t) visit.Post
+visit-mark-cell-requires t c κs =
     let at-if1 = c .before in
     let at-is-unmarked = at-if1 .before in
     let at-start = at-is-unmarked .before .before .before in
     let (low, high, some, fits) = visit-cell registerCount _ _ _ _ _ (at-start .pre .1) (sym (at-is-unmarked .is-unmarked .ensures) ∙ at-if1 .if1 .taken) in
-    (low, omega arith, omega (arith, at-start .pre .1 .agree .room))
+    (low, omega (arith, at-start .pre .1 .agree .room))
 
-visit-read-cell-requires : (t : ℕ) → visit-lts.Need-read-cell-requires (callees t) (visit-at t) visit.Post
-visit-read-cell-requires t c κs =
-    let at-write-cell = c .before .before .before in
-    let at-if1 = at-write-cell .before .before in
+visit-link-of-requires : (t : ℕ) → visit-lts.Need-link-of-requires (callees t) (visit-at t) visit.Post
+visit-link-of-requires t c κs =
+    let at-mark-cell = c .before .before .before in
+    let at-if1 = at-mark-cell .before .before in
     let at-is-unmarked = at-if1 .before in
     let at-start = at-is-unmarked .before .before .before in
     let (low, high, some, fits) = visit-cell registerCount _ _ _ _ _ (at-start .pre .1) (sym (at-is-unmarked .is-unmarked .ensures) ∙ at-if1 .if1 .taken) in
-    (low, omega arith, omega (arith, at-start .pre .1 .agree .room, at-write-cell .write-cell .kept .0))
+    (low, omega arith, omega (arith, at-start .pre .1 .agree .room, at-mark-cell .mark-cell .kept .0))
 
 visit-sub-visit : (t : ℕ) → visit-lts.Need-sub-visit (callees t) (visit-at t) visit.Post
 visit-sub-visit t c =
@@ -73,25 +73,25 @@ visit-add-visit t c =
 
 visit-visit-requires : (t : ℕ) → visit-lts.Need-visit-requires (callees t) (visit-at t) visit.Post
 visit-visit-requires t c κs =
-    let at-read-cell = c .before in
-    let at-write-cell = at-read-cell .before .before .before .before in
-    let at-if1 = at-write-cell .before .before in
+    let at-link-of = c .before in
+    let at-mark-cell = at-link-of .before .before .before .before in
+    let at-if1 = at-mark-cell .before .before in
     let at-is-unmarked = at-if1 .before in
     let at-start = at-is-unmarked .before .before .before in
     let h = at-start .pre .1 in (
       omega (arith, at-start .pre .0, visit-cell registerCount _ _ _ _ _ h (sym (at-is-unmarked .is-unmarked .ensures) ∙ at-if1 .if1 .taken) .2),
-      visit-left registerCount _ _ _ _ _ h (sym (at-is-unmarked .is-unmarked .ensures) ∙ at-if1 .if1 .taken) _ _ (at-write-cell .write-cell .ensures) (at-read-cell .read-cell .ensures),
+      visit-left registerCount _ _ _ _ _ h (sym (at-is-unmarked .is-unmarked .ensures) ∙ at-if1 .if1 .taken) _ _ (at-mark-cell .mark-cell .ensures) (at-link-of .link-of .ensures),
     )
 
-visit-read-cell-requires-2 : (t : ℕ) → visit-lts.Need-read-cell-requires-2 (callees t) (visit-at t) visit.Post
-visit-read-cell-requires-2 t c κs =
+visit-link-of-requires-2 : (t : ℕ) → visit-lts.Need-link-of-requires-2 (callees t) (visit-at t) visit.Post
+visit-link-of-requires-2 t c κs =
     let at-visit = c .before .before .before in
-    let at-write-cell = at-visit .before .before .before .before .before .before in
-    let at-if1 = at-write-cell .before .before in
+    let at-mark-cell = at-visit .before .before .before .before .before .before in
+    let at-if1 = at-mark-cell .before .before in
     let at-is-unmarked = at-if1 .before in
     let at-start = at-is-unmarked .before .before .before in
     let (low, high, some, fits) = visit-cell registerCount _ _ _ _ _ (at-start .pre .1) (sym (at-is-unmarked .is-unmarked .ensures) ∙ at-if1 .if1 .taken) in
-    (low, omega arith, omega (arith, at-start .pre .1 .agree .room, at-write-cell .write-cell .kept .0, at-visit .visit .kept .0))
+    (low, omega arith, omega (arith, at-start .pre .1 .agree .room, at-mark-cell .mark-cell .kept .0, at-visit .visit .kept .0))
 
 visit-sub-visit-2 : (t : ℕ) → visit-lts.Need-sub-visit-2 (callees t) (visit-at t) visit.Post
 visit-sub-visit-2 t c =
@@ -102,57 +102,57 @@ visit-sub-visit-2 t c =
 
 visit-add-visit-2 : (t : ℕ) → visit-lts.Need-add-visit-2 (callees t) (visit-at t) visit.Post
 visit-add-visit-2 t c =
-    let at-read-cell2 = c .before in
-    let at-visit = at-read-cell2 .before .before .before .before in
-    let at-read-cell = at-visit .before .before in
-    let at-write-cell = at-read-cell .before .before .before .before in
-    let at-if1 = at-write-cell .before .before in
+    let at-link-of2 = c .before in
+    let at-visit = at-link-of2 .before .before .before .before in
+    let at-link-of = at-visit .before .before in
+    let at-mark-cell = at-link-of .before .before .before .before in
+    let at-if1 = at-mark-cell .before .before in
     let at-is-unmarked = at-if1 .before in
     let at-start = at-is-unmarked .before .before .before in
-    record { fits = visit-fits registerCount _ _ _ _ _ (at-start .pre .1) (sym (at-is-unmarked .is-unmarked .ensures) ∙ at-if1 .if1 .taken) _ _ (at-write-cell .write-cell .ensures) (at-read-cell .read-cell .ensures) _ _ _ (at-visit .visit .ensures) (at-read-cell2 .read-cell2 .ensures) }
+    record { fits = visit-fits registerCount _ _ _ _ _ (at-start .pre .1) (sym (at-is-unmarked .is-unmarked .ensures) ∙ at-if1 .if1 .taken) _ _ (at-mark-cell .mark-cell .ensures) (at-link-of .link-of .ensures) _ _ _ (at-visit .visit .ensures) (at-link-of2 .link-of2 .ensures) }
 
 visit-visit-requires-2 : (t : ℕ) → visit-lts.Need-visit-requires-2 (callees t) (visit-at t) visit.Post
 visit-visit-requires-2 t c κs =
-    let at-read-cell2 = c .before in
-    let at-visit = at-read-cell2 .before .before .before .before in
-    let at-read-cell = at-visit .before .before in
-    let at-write-cell = at-read-cell .before .before .before .before in
-    let at-if1 = at-write-cell .before .before in
+    let at-link-of2 = c .before in
+    let at-visit = at-link-of2 .before .before .before .before in
+    let at-link-of = at-visit .before .before in
+    let at-mark-cell = at-link-of .before .before .before .before in
+    let at-if1 = at-mark-cell .before .before in
     let at-is-unmarked = at-if1 .before in
     let at-start = at-is-unmarked .before .before .before in (
       omega (arith, at-start .pre .0, visit-cell registerCount _ _ _ _ _ (at-start .pre .1) (sym (at-is-unmarked .is-unmarked .ensures) ∙ at-if1 .if1 .taken) .2),
-      visit-right registerCount _ _ _ _ _ (at-start .pre .1) (sym (at-is-unmarked .is-unmarked .ensures) ∙ at-if1 .if1 .taken) _ _ (at-write-cell .write-cell .ensures) (at-read-cell .read-cell .ensures) _ _ _ (at-visit .visit .ensures) (at-read-cell2 .read-cell2 .ensures),
+      visit-right registerCount _ _ _ _ _ (at-start .pre .1) (sym (at-is-unmarked .is-unmarked .ensures) ∙ at-if1 .if1 .taken) _ _ (at-mark-cell .mark-cell .ensures) (at-link-of .link-of .ensures) _ _ _ (at-visit .visit .ensures) (at-link-of2 .link-of2 .ensures),
     )
 
 visit-add-result : (t : ℕ) → visit-lts.Need-add-result (callees t) (visit-at t) visit.Post
 visit-add-result t c =
     let at-visit2 = c .before .before in
-    let at-read-cell2 = at-visit2 .before .before in
-    let at-visit = at-read-cell2 .before .before .before .before in
-    let at-read-cell = at-visit .before .before in
-    let at-write-cell = at-read-cell .before .before .before .before in
-    let at-if1 = at-write-cell .before .before in
+    let at-link-of2 = at-visit2 .before .before in
+    let at-visit = at-link-of2 .before .before .before .before in
+    let at-link-of = at-visit .before .before in
+    let at-mark-cell = at-link-of .before .before .before .before in
+    let at-if1 = at-mark-cell .before .before in
     let at-is-unmarked = at-if1 .before in
     let at-start = at-is-unmarked .before .before .before in
-    omega (arith, visit-fits-2 registerCount _ _ _ _ _ (at-start .pre .1) (sym (at-is-unmarked .is-unmarked .ensures) ∙ at-if1 .if1 .taken) _ _ (at-write-cell .write-cell .ensures) (at-read-cell .read-cell .ensures) _ _ _ (at-visit .visit .ensures) (at-read-cell2 .read-cell2 .ensures) _ _ (at-visit2 .visit2 .ensures))
+    omega (arith, visit-fits-2 registerCount _ _ _ _ _ (at-start .pre .1) (sym (at-is-unmarked .is-unmarked .ensures) ∙ at-if1 .if1 .taken) _ _ (at-mark-cell .mark-cell .ensures) (at-link-of .link-of .ensures) _ _ _ (at-visit .visit .ensures) (at-link-of2 .link-of2 .ensures) _ _ (at-visit2 .visit2 .ensures))
 
 visit-same-length : (t : ℕ) → visit-lts.Need-same-length (callees t) (visit-at t) visit.Post
 visit-same-length t c =
     let at-visit2 = c .before .before in
     let at-visit = at-visit2 .before .before .before .before .before .before in
-    let at-write-cell = at-visit .before .before .before .before .before .before in
-    at-visit2 .visit2 .kept .0 ∙ (at-visit .visit .kept .0 ∙ at-write-cell .write-cell .kept .0)
+    let at-mark-cell = at-visit .before .before .before .before .before .before in
+    at-visit2 .visit2 .kept .0 ∙ (at-visit .visit .kept .0 ∙ at-mark-cell .mark-cell .kept .0)
 
 visit-returns : (t : ℕ) → visit-lts.Need-returns (callees t) (visit-at t) visit.Post
 visit-returns t c =
     let at-visit2 = c .before .before in
-    let at-read-cell2 = at-visit2 .before .before in
-    let at-visit = at-read-cell2 .before .before .before .before in
-    let at-read-cell = at-visit .before .before in
-    let at-write-cell = at-read-cell .before .before .before .before in
-    let at-if1 = at-write-cell .before .before in
+    let at-link-of2 = at-visit2 .before .before in
+    let at-visit = at-link-of2 .before .before .before .before in
+    let at-link-of = at-visit .before .before in
+    let at-mark-cell = at-link-of .before .before .before .before in
+    let at-if1 = at-mark-cell .before .before in
     let at-is-unmarked = at-if1 .before in
-    λ h. visit-all registerCount _ _ _ _ _ h (sym (at-is-unmarked .is-unmarked .ensures) ∙ at-if1 .if1 .taken) _ _ (at-write-cell .write-cell .ensures) (at-read-cell .read-cell .ensures) _ _ _ (at-visit .visit .ensures) (at-read-cell2 .read-cell2 .ensures) _ _ (at-visit2 .visit2 .ensures)
+    λ h. visit-all registerCount _ _ _ _ _ h (sym (at-is-unmarked .is-unmarked .ensures) ∙ at-if1 .if1 .taken) _ _ (at-mark-cell .mark-cell .ensures) (at-link-of .link-of .ensures) _ _ _ (at-visit .visit .ensures) (at-link-of2 .link-of2 .ensures) _ _ (at-visit2 .visit2 .ensures)
 
 visit-same-length-2 : (t : ℕ) → visit-lts.Need-same-length-2 (callees t) (visit-at t) visit.Post
 visit-same-length-2 t c =
@@ -167,12 +167,12 @@ pub +visit-spec : {M : Type 1} → statement M
     close μ-visit λ t.
     visit-lts.spec (callees t) (visit-at t) visit.Post
     (visit-is-unmarked-requires t)
-    (visit-write-cell-requires t)
-    (visit-read-cell-requires t)
+    (visit-mark-cell-requires t)
+    (visit-link-of-requires t)
     (visit-sub-visit t)
     (visit-add-visit t)
     (visit-visit-requires t)
-    (visit-read-cell-requires-2 t)
+    (visit-link-of-requires-2 t)
     (visit-sub-visit-2 t)
     (visit-add-visit-2 t)
     (visit-visit-requires-2 t)

@@ -1,6 +1,7 @@
 -- `stack_marker::clear_marks` meets its contract: the turns that are left clear the same cells.
 use Rattle.stack_marker.proofs.clear_marks.Statement.{statement}
 use Rattle.stack_marker.proofs.clear_marks.Tie as tie
+use borrow.Author.Needs.{needs}
 use native.Mathlib.Omega.{arith}
 use Rattle.pool.specs.Layout.{registerCount}
 use Prim.Native.Nat.{_≤_}
@@ -21,8 +22,13 @@ loop-holds c = (omega arith, refl, refl)
 read-cell-requires : tie.Need-read-cell-requires Inv-loop μ-loop
 read-cell-requires c κs = omega (arith, c .before .before .loop .inv .2)
 
-write-cell-requires : tie.Need-write-cell-requires Inv-loop μ-loop
-write-cell-requires c κs = omega (arith, c .before .before .before .before .before .loop .inv .2)
+is-marked-requires : tie.Need-is-marked-requires Inv-loop μ-loop
+is-marked-requires c κs = search needs
+
+unmark-cell-requires : tie.Need-unmark-cell-requires Inv-loop μ-loop
+unmark-cell-requires c κs =
+    let at-loop = c .before .before .before .before .before .before in
+    omega (arith, at-loop .loop .inv .2)
 
 sub-i : tie.Need-sub-i Inv-loop μ-loop
 sub-i c = omega arith
@@ -32,7 +38,13 @@ loop-less c = omega arith
 
 loop-again : tie.Need-loop-again Inv-loop μ-loop
 loop-again c =
-    (omega arith, cleared-marked registerCount _ _ _ _ (c .before .before .before .before .before .before .before .loop-test .taken) (c .before .before .before .before .before .read-cell .ensures) (c .before .before .before .before .if1 .taken) (c .before .before .write-cell .ensures) ∙ c .before .before .before .before .before .before .before .before .loop .inv .1, c .before .before .write-cell .kept .0 ∙ c .before .before .before .before .before .before .before .before .loop .inv .2)
+    let at-unmark-cell = c .before .before in
+    let at-if1 = at-unmark-cell .before .before in
+    let at-is-marked = at-if1 .before in
+    let at-read-cell = at-is-marked .before in
+    let at-loop-test = at-read-cell .before .before in
+    let at-loop = at-loop-test .before in
+    (omega arith, cleared-marked registerCount _ _ _ _ (at-loop-test .loop-test .taken) (at-read-cell .read-cell .ensures) (sym (at-is-marked .is-marked .ensures) ∙ at-if1 .if1 .taken) (at-unmark-cell .unmark-cell .ensures) ∙ at-loop .loop .inv .1, at-unmark-cell .unmark-cell .kept .0 ∙ at-loop .loop .inv .2)
 
 sub-i-2 : tie.Need-sub-i-2 Inv-loop μ-loop
 sub-i-2 c = omega arith
@@ -42,7 +54,11 @@ loop-less-2 c = omega arith
 
 loop-again-2 : tie.Need-loop-again-2 Inv-loop μ-loop
 loop-again-2 c =
-    (omega arith, cleared-other registerCount _ _ _ (c .before .before .before .loop-test .taken) (c .before .read-cell .ensures) (c .if1 .left) ∙ c .before .before .before .before .loop .inv .1, c .before .before .before .before .loop .inv .2)
+    let at-is-marked = c .before in
+    let at-read-cell = at-is-marked .before in
+    let at-loop-test = at-read-cell .before .before in
+    let at-loop = at-loop-test .before in
+    (omega arith, cleared-other registerCount _ _ _ (at-loop-test .loop-test .taken) (at-read-cell .read-cell .ensures) (sym (at-is-marked .is-marked .ensures) ∙ c .if1 .left) ∙ at-loop .loop .inv .1, at-loop .loop .inv .2)
 
 same-length : tie.Need-same-length Inv-loop μ-loop
 same-length c = c .before .loop .inv .2
@@ -58,7 +74,8 @@ clear-marks-spec =
     μ-loop
     loop-holds
     read-cell-requires
-    write-cell-requires
+    is-marked-requires
+    unmark-cell-requires
     sub-i
     loop-less
     loop-again

@@ -6,11 +6,11 @@ use mathlib.Core.Path.{sym, _∙_}
 use Rattle.pool.specs.Layout.{registerCount}
 use Rattle.stack_marker.proofs.Simulation.{look-made}
 
-read-cell-requires : tie.Need-read-cell-requires
-read-cell-requires c κs = search needs
+link-of-requires : tie.Need-link-of-requires
+link-of-requires c κs = search needs
 
-read-cell-requires-2 : tie.Need-read-cell-requires-2
-read-cell-requires-2 c κs = search needs
+link-of-requires-2 : tie.Need-link-of-requires-2
+link-of-requires-2 c κs = search needs
 
 is-unmarked-requires : tie.Need-is-unmarked-requires
 is-unmarked-requires c κs = search needs
@@ -23,26 +23,26 @@ is-unmarked-requires-3 c κs = search needs
 
 returns : tie.Need-returns
 returns c =
-    look-made registerCount _ _ _ _ (c .before .before .before .before .before .read-cell .ensures) (c .before .before .before .before .read-cell2 .ensures) (sym (c .before .before .if1 .taken) ∙ c .before .before .before .is-unmarked .ensures) (sym (c .if2 .taken) ∙ c .before .is-unmarked2 .ensures)
+    look-made registerCount _ _ _ _ (c .before .before .before .before .before .link-of .ensures) (c .before .before .before .before .link-of2 .ensures) (sym (c .before .before .if1 .taken) ∙ c .before .before .before .is-unmarked .ensures) (sym (c .if2 .taken) ∙ c .before .is-unmarked2 .ensures)
 
 returns-2 : tie.Need-returns-2
 returns-2 c =
-    look-made registerCount _ _ _ _ (c .before .before .before .before .before .read-cell .ensures) (c .before .before .before .before .read-cell2 .ensures) (sym (c .before .before .if1 .taken) ∙ c .before .before .before .is-unmarked .ensures) (sym (c .if2 .left) ∙ c .before .is-unmarked2 .ensures)
+    look-made registerCount _ _ _ _ (c .before .before .before .before .before .link-of .ensures) (c .before .before .before .before .link-of2 .ensures) (sym (c .before .before .if1 .taken) ∙ c .before .before .before .is-unmarked .ensures) (sym (c .if2 .left) ∙ c .before .is-unmarked2 .ensures)
 
 returns-3 : tie.Need-returns-3
 returns-3 c =
-    look-made registerCount _ _ _ _ (c .before .before .before .before .before .read-cell .ensures) (c .before .before .before .before .read-cell2 .ensures) (sym (c .before .before .if1 .left) ∙ c .before .before .before .is-unmarked .ensures) (sym (c .if3 .taken) ∙ c .before .is-unmarked3 .ensures)
+    look-made registerCount _ _ _ _ (c .before .before .before .before .before .link-of .ensures) (c .before .before .before .before .link-of2 .ensures) (sym (c .before .before .if1 .left) ∙ c .before .before .before .is-unmarked .ensures) (sym (c .if3 .taken) ∙ c .before .is-unmarked3 .ensures)
 
 returns-4 : tie.Need-returns-4
 returns-4 c =
-    look-made registerCount _ _ _ _ (c .before .before .before .before .before .read-cell .ensures) (c .before .before .before .before .read-cell2 .ensures) (sym (c .before .before .if1 .left) ∙ c .before .before .before .is-unmarked .ensures) (sym (c .if3 .left) ∙ c .before .is-unmarked3 .ensures)
+    look-made registerCount _ _ _ _ (c .before .before .before .before .before .link-of .ensures) (c .before .before .before .before .link-of2 .ensures) (sym (c .before .before .if1 .left) ∙ c .before .before .before .is-unmarked .ensures) (sym (c .if3 .left) ∙ c .before .is-unmarked3 .ensures)
 
 pub look-spec : {M : Type 1} → statement M
 look-spec =
     tie.close
     (tie.spec
-    read-cell-requires
-    read-cell-requires-2
+    link-of-requires
+    link-of-requires-2
     is-unmarked-requires
     is-unmarked-requires-2
     is-unmarked-requires-3

@@ -44,24 +44,24 @@ returns c =
     let at-start = at-turn .before .before .before in
     hand-full registerCount _ _ _ (at-start .pre .1) _ _ _ _ _ (at-turn .loop .inv) _ _ (ap linksOf (sym (at-left .left .given .1)) ∙ at-look .look .ensures) (omega (arith, c .if1 .taken))
 
-write-cell-requires : tie.Need-write-cell-requires Inv-loop μ-loop
-write-cell-requires c κs =
+mark-cell-requires : tie.Need-mark-cell-requires Inv-loop μ-loop
+mark-cell-requires c κs =
     let at-left = c .before .before .before in
     let at-look = at-left .before .before in
     let at-turn = at-look .before .before in
     let at-start = at-turn .before .before .before in
     let (low, high) = hand-new registerCount _ _ _ (at-start .pre .1) _ _ _ _ _ (at-turn .loop .inv) _ (ap linksOf (sym (at-left .left .given .1)) ∙ at-look .look .ensures) (at-start .pre .0) _ (List·Memᴰ·head refl) in
-    (low, omega arith, omega (arith, at-start .pre .1, hand-length registerCount _ _ _ (at-start .pre .1) _ _ _ _ _ (at-turn .loop .inv) (at-start .pre .0)))
+    (low, omega (arith, at-start .pre .1, hand-length registerCount _ _ _ (at-start .pre .1) _ _ _ _ _ (at-turn .loop .inv) (at-start .pre .0)))
 
-write-cell-requires-2 : tie.Need-write-cell-requires-2 Inv-loop μ-loop
-write-cell-requires-2 c κs =
-    let at-write-cell = c .before .before .before in
-    let at-left = at-write-cell .before .before .before .before in
+mark-cell-requires-2 : tie.Need-mark-cell-requires-2 Inv-loop μ-loop
+mark-cell-requires-2 c κs =
+    let at-mark-cell = c .before .before .before in
+    let at-left = at-mark-cell .before .before .before .before in
     let at-look = at-left .before .before in
     let at-turn = at-look .before .before in
     let at-start = at-turn .before .before .before in
     let (low, high) = hand-new registerCount _ _ _ (at-start .pre .1) _ _ _ _ _ (at-turn .loop .inv) _ (ap linksOf (sym (at-left .left .given .1)) ∙ at-look .look .ensures) (at-start .pre .0) _ (List·Memᴰ·tail (List·Memᴰ·head refl)) in
-    (low, omega arith, omega (arith, at-start .pre .1, hand-length registerCount _ _ _ (at-start .pre .1) _ _ _ _ _ (at-turn .loop .inv) (at-start .pre .0), at-write-cell .write-cell .kept .0))
+    (low, omega (arith, at-start .pre .1, hand-length registerCount _ _ _ (at-start .pre .1) _ _ _ _ _ (at-turn .loop .inv) (at-start .pre .0), at-mark-cell .mark-cell .kept .0))
 
 mul-stack : tie.Need-mul-stack Inv-loop μ-loop
 mul-stack c = omega arith
@@ -80,54 +80,54 @@ add-top c =
 
 loop-less : tie.Need-loop-less Inv-loop μ-loop
 loop-less c =
-    let at-write-cell2 = c .before .before in
-    let at-write-cell = at-write-cell2 .before .before .before .before in
-    let at-left = at-write-cell .before .before .before .before in
+    let at-mark-cell2 = c .before .before in
+    let at-mark-cell = at-mark-cell2 .before .before .before .before in
+    let at-left = at-mark-cell .before .before .before .before in
     let at-look = at-left .before .before in
     let at-turn = at-look .before .before in
     let at-start = at-turn .before .before .before in
-    less-push registerCount _ _ _ (at-start .pre .1) _ _ _ _ _ (at-turn .loop .inv) (at-start .pre .0) _ _ _ _ (ap linksOf (sym (at-left .left .given .1)) ∙ at-look .look .ensures) (at-write-cell .write-cell .ensures) (at-write-cell2 .write-cell2 .ensures)
+    less-push registerCount _ _ _ (at-start .pre .1) _ _ _ _ _ (at-turn .loop .inv) (at-start .pre .0) _ _ _ _ (ap linksOf (sym (at-left .left .given .1)) ∙ at-look .look .ensures) (at-mark-cell .mark-cell .ensures) (at-mark-cell2 .mark-cell2 .ensures)
 
 loop-again : tie.Need-loop-again Inv-loop μ-loop
 loop-again c =
-    let at-write-cell2 = c .before .before in
-    let at-write-cell = at-write-cell2 .before .before .before .before in
-    let at-if1 = at-write-cell .before .before in
+    let at-mark-cell2 = c .before .before in
+    let at-mark-cell = at-mark-cell2 .before .before .before .before in
+    let at-if1 = at-mark-cell .before .before in
     let at-left = at-if1 .before .before in
     let at-look = at-left .before .before in
     let at-turn = at-look .before .before in
     let at-start = at-turn .before .before .before in
-    hand-push registerCount _ _ _ (at-start .pre .1) _ _ _ _ _ (at-turn .loop .inv) _ _ _ _ _ (ap linksOf (sym (at-left .left .given .1)) ∙ at-look .look .ensures) (omega (arith, at-turn .loop .inv .fits, at-turn .loop .inv .lent, at-if1 .if1 .left)) (at-write-cell .write-cell .ensures) (at-write-cell2 .write-cell2 .ensures) refl
+    hand-push registerCount _ _ _ (at-start .pre .1) _ _ _ _ _ (at-turn .loop .inv) _ _ _ _ _ (ap linksOf (sym (at-left .left .given .1)) ∙ at-look .look .ensures) (omega (arith, at-turn .loop .inv .fits, at-turn .loop .inv .lent, at-if1 .if1 .left)) (at-mark-cell .mark-cell .ensures) (at-mark-cell2 .mark-cell2 .ensures) refl
 
 enum-known-x : tie.Need-enum-known-x Inv-loop μ-loop
 enum-known-x c = search needs
 
-write-cell-requires-3 : tie.Need-write-cell-requires-3 Inv-loop μ-loop
-write-cell-requires-3 c κs =
+mark-cell-requires-3 : tie.Need-mark-cell-requires-3 Inv-loop μ-loop
+mark-cell-requires-3 c κs =
     let at-x = c .before .before in
     let at-look = at-x .before .before in
     let at-turn = at-look .before .before in
     let at-start = at-turn .before .before .before in
     let (low, high) = hand-new registerCount _ _ _ (at-start .pre .1) _ _ _ _ _ (at-turn .loop .inv) _ (ap linksOf (sym (at-x .x .given .1)) ∙ at-look .look .ensures) (at-start .pre .0) _ (List·Memᴰ·head refl) in
-    (low, omega arith, omega (arith, at-start .pre .1, hand-length registerCount _ _ _ (at-start .pre .1) _ _ _ _ _ (at-turn .loop .inv) (at-start .pre .0)))
+    (low, omega (arith, at-start .pre .1, hand-length registerCount _ _ _ (at-start .pre .1) _ _ _ _ _ (at-turn .loop .inv) (at-start .pre .0)))
 
 loop-less-2 : tie.Need-loop-less-2 Inv-loop μ-loop
 loop-less-2 c =
-    let at-write-cell3 = c .before .before in
-    let at-x = at-write-cell3 .before .before .before in
+    let at-mark-cell3 = c .before .before in
+    let at-x = at-mark-cell3 .before .before .before in
     let at-look = at-x .before .before in
     let at-turn = at-look .before .before in
     let at-start = at-turn .before .before .before in
-    less-go registerCount _ _ _ (at-start .pre .1) _ _ _ _ _ (at-turn .loop .inv) (at-start .pre .0) _ _ (ap linksOf (sym (at-x .x .given .1)) ∙ at-look .look .ensures) (at-write-cell3 .write-cell3 .ensures)
+    less-go registerCount _ _ _ (at-start .pre .1) _ _ _ _ _ (at-turn .loop .inv) (at-start .pre .0) _ _ (ap linksOf (sym (at-x .x .given .1)) ∙ at-look .look .ensures) (at-mark-cell3 .mark-cell3 .ensures)
 
 loop-again-2 : tie.Need-loop-again-2 Inv-loop μ-loop
 loop-again-2 c =
-    let at-write-cell3 = c .before .before in
-    let at-x = at-write-cell3 .before .before .before in
+    let at-mark-cell3 = c .before .before in
+    let at-x = at-mark-cell3 .before .before .before in
     let at-look = at-x .before .before in
     let at-turn = at-look .before .before in
     let at-start = at-turn .before .before .before in
-    hand-go registerCount _ _ _ (at-start .pre .1) _ _ _ _ _ (at-turn .loop .inv) _ _ (ap linksOf (sym (at-x .x .given .1)) ∙ at-look .look .ensures) (at-write-cell3 .write-cell3 .ensures)
+    hand-go registerCount _ _ _ (at-start .pre .1) _ _ _ _ _ (at-turn .loop .inv) _ _ (ap linksOf (sym (at-x .x .given .1)) ∙ at-look .look .ensures) (at-mark-cell3 .mark-cell3 .ensures)
 
 enum-told : tie.Need-enum-told Inv-loop μ-loop
 enum-told c = search needs
@@ -185,15 +185,15 @@ mark-from-spec =
     same-length
     same-length-2
     returns
-    write-cell-requires
-    write-cell-requires-2
+    mark-cell-requires
+    mark-cell-requires-2
     mul-stack
     slice-write-stack
     add-top
     loop-less
     loop-again
     enum-known-x
-    write-cell-requires-3
+    mark-cell-requires-3
     loop-less-2
     loop-again-2
     enum-told

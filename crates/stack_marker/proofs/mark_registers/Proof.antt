@@ -31,26 +31,26 @@ is-unmarked-requires c κs =
     let at-start = at-turn .before .before .before in
     omega (arith, at-start .pre .1, registers-length registerCount _ _ _ _ _ _ (at-turn .loop .inv), registers-bound registerCount _ _ (at-start .pre .0) (at-start .pre .1) _ _ _ _ (at-turn .loop .inv) _ (at-test .loop-test .taken) (at-read-register .read-register .ensures))
 
-write-cell-requires : tie.Need-write-cell-requires Inv-loop μ-loop
-write-cell-requires c κs =
+mark-cell-requires : tie.Need-mark-cell-requires Inv-loop μ-loop
+mark-cell-requires c κs =
     let at-if1 = c .before in
     let at-is-unmarked = at-if1 .before in
     let at-read-register = at-is-unmarked .before .before in
     let at-test = at-read-register .before .before in
     let at-turn = at-test .before in
     let at-start = at-turn .before .before .before in
-    (registers-cell registerCount _ _ (at-start .pre .0) (at-start .pre .1) _ _ _ _ (at-turn .loop .inv) _ (at-test .loop-test .taken) (at-read-register .read-register .ensures) (sym (at-is-unmarked .is-unmarked .ensures) ∙ at-if1 .if1 .taken), omega arith, omega (arith, at-start .pre .1, registers-length registerCount _ _ _ _ _ _ (at-turn .loop .inv), registers-bound registerCount _ _ (at-start .pre .0) (at-start .pre .1) _ _ _ _ (at-turn .loop .inv) _ (at-test .loop-test .taken) (at-read-register .read-register .ensures)))
+    (registers-cell registerCount _ _ (at-start .pre .0) (at-start .pre .1) _ _ _ _ (at-turn .loop .inv) _ (at-test .loop-test .taken) (at-read-register .read-register .ensures) (sym (at-is-unmarked .is-unmarked .ensures) ∙ at-if1 .if1 .taken), omega (arith, at-start .pre .1, registers-length registerCount _ _ _ _ _ _ (at-turn .loop .inv), registers-bound registerCount _ _ (at-start .pre .0) (at-start .pre .1) _ _ _ _ (at-turn .loop .inv) _ (at-test .loop-test .taken) (at-read-register .read-register .ensures)))
 
 mark-from-requires : tie.Need-mark-from-requires Inv-loop μ-loop
 mark-from-requires c κs =
-    let at-write-cell = c .before .before .before .before in
-    let at-if1 = at-write-cell .before .before in
+    let at-mark-cell = c .before .before .before .before in
+    let at-if1 = at-mark-cell .before .before in
     let at-is-unmarked = at-if1 .before in
     let at-read-register = at-is-unmarked .before .before in
     let at-test = at-read-register .before .before in
     let at-turn = at-test .before in
     let at-start = at-turn .before .before .before in
-    (registers-start registerCount _ _ (at-start .pre .0) (at-start .pre .1) _ _ _ _ (at-turn .loop .inv) _ (at-test .loop-test .taken) (at-read-register .read-register .ensures) (sym (at-is-unmarked .is-unmarked .ensures) ∙ at-if1 .if1 .taken) _ (at-write-cell .write-cell .ensures), omega (arith, at-start .pre .1, registers-length registerCount _ _ _ _ _ _ (at-turn .loop .inv), at-write-cell .write-cell .kept .0))
+    (registers-start registerCount _ _ (at-start .pre .0) (at-start .pre .1) _ _ _ _ (at-turn .loop .inv) _ (at-test .loop-test .taken) (at-read-register .read-register .ensures) (sym (at-is-unmarked .is-unmarked .ensures) ∙ at-if1 .if1 .taken) _ (at-mark-cell .mark-cell .ensures), omega (arith, at-start .pre .1, registers-length registerCount _ _ _ _ _ _ (at-turn .loop .inv), at-mark-cell .mark-cell .kept .0))
 
 add-k : tie.Need-add-k Inv-loop μ-loop
 add-k c = omega arith
@@ -61,21 +61,21 @@ loop-less c = omega arith
 loop-again : tie.Need-loop-again Inv-loop μ-loop
 loop-again c =
     let at-mark-from = c .before .before .before .before .before in
-    let at-write-cell = at-mark-from .before .before .before .before .before in
-    let at-if1 = at-write-cell .before .before in
+    let at-mark-cell = at-mark-from .before .before .before .before .before in
+    let at-if1 = at-mark-cell .before .before in
     let at-is-unmarked = at-if1 .before in
     let at-read-register = at-is-unmarked .before .before in
     let at-test = at-read-register .before .before in
     let at-turn = at-test .before in
     let at-start = at-turn .before .before .before in
-    registers-next registerCount _ _ (at-start .pre .0) (at-start .pre .1) _ _ _ _ (at-turn .loop .inv) _ (at-test .loop-test .taken) (at-read-register .read-register .ensures) (sym (at-is-unmarked .is-unmarked .ensures) ∙ at-if1 .if1 .taken) _ (at-write-cell .write-cell .ensures) _ _ (at-mark-from .mark-from .ensures) (c .if2 .taken) _ (at-mark-from .mark-from .kept .1 .1 .0)
+    registers-next registerCount _ _ (at-start .pre .0) (at-start .pre .1) _ _ _ _ (at-turn .loop .inv) _ (at-test .loop-test .taken) (at-read-register .read-register .ensures) (sym (at-is-unmarked .is-unmarked .ensures) ∙ at-if1 .if1 .taken) _ (at-mark-cell .mark-cell .ensures) _ _ (at-mark-from .mark-from .ensures) (c .if2 .taken) _ (at-mark-from .mark-from .kept .1 .1 .0)
 
 same-length : tie.Need-same-length Inv-loop μ-loop
 same-length c =
     let at-mark-from = c .before .before .before .before .before in
-    let at-write-cell = at-mark-from .before .before .before .before .before in
-    let at-turn = at-write-cell .before .before .before .before .before .before .before .before in
-    at-mark-from .mark-from .kept .0 ∙ (at-write-cell .write-cell .kept .0 ∙ registers-length registerCount _ _ _ _ _ _ (at-turn .loop .inv))
+    let at-mark-cell = at-mark-from .before .before .before .before .before in
+    let at-turn = at-mark-cell .before .before .before .before .before .before .before .before in
+    at-mark-from .mark-from .kept .0 ∙ (at-mark-cell .mark-cell .kept .0 ∙ registers-length registerCount _ _ _ _ _ _ (at-turn .loop .inv))
 
 same-length-2 : tie.Need-same-length-2 Inv-loop μ-loop
 same-length-2 c =
@@ -86,14 +86,14 @@ same-length-2 c =
 returns : tie.Need-returns Inv-loop μ-loop
 returns c =
     let at-mark-from = c .before .before .before .before .before in
-    let at-write-cell = at-mark-from .before .before .before .before .before in
-    let at-if1 = at-write-cell .before .before in
+    let at-mark-cell = at-mark-from .before .before .before .before .before in
+    let at-if1 = at-mark-cell .before .before in
     let at-is-unmarked = at-if1 .before in
     let at-read-register = at-is-unmarked .before .before in
     let at-test = at-read-register .before .before in
     let at-turn = at-test .before in
     let at-start = at-turn .before .before .before in
-    registers-full registerCount _ _ (at-start .pre .0) (at-start .pre .1) _ _ _ _ (at-turn .loop .inv) _ (at-test .loop-test .taken) (at-read-register .read-register .ensures) (sym (at-is-unmarked .is-unmarked .ensures) ∙ at-if1 .if1 .taken) _ (at-write-cell .write-cell .ensures) _ _ (at-mark-from .mark-from .ensures) (c .if2 .left)
+    registers-full registerCount _ _ (at-start .pre .0) (at-start .pre .1) _ _ _ _ (at-turn .loop .inv) _ (at-test .loop-test .taken) (at-read-register .read-register .ensures) (sym (at-is-unmarked .is-unmarked .ensures) ∙ at-if1 .if1 .taken) _ (at-mark-cell .mark-cell .ensures) _ _ (at-mark-from .mark-from .ensures) (c .if2 .left)
 
 add-k-2 : tie.Need-add-k-2 Inv-loop μ-loop
 add-k-2 c = omega arith
@@ -131,7 +131,7 @@ mark-registers-spec =
     loop-holds
     read-register-requires
     is-unmarked-requires
-    write-cell-requires
+    mark-cell-requires
     mark-from-requires
     add-k
     loop-less
