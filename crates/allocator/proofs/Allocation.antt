@@ -7,8 +7,9 @@ use mathlib.Core.Bool.{Bool, true, false, cond, _&&_}
 use lib.ListN.{length}
 use lib.Dec.{leb}
 use borrow.Author.Tests.{eq-eqb, ne-eqb, leb-true}
-use Rattle.pool.specs.Layout.{registerCount, poolLength, head, setHead, setRegister, setCell, state, left}
-use Rattle.pool.specs.Validity.{isFree, wellFormed}
+use Rattle.pool.specs.Layout.{registerCount, poolLength, head, setHead, setRegister, putCell, state, left}
+use Rattle.pool.specs.Validity.{wellFormed}
+use Rattle.pool.specs.States.{usedState, isFree}
 use Rattle.pool.specs.Retain.{lowestFree}
 use Rattle.pool.specs.Calls.{holdsLink}
 use Rattle.answers.specs.Outcome.{Outcome, answered, allocated, refused, status, given}
@@ -21,10 +22,9 @@ use Rattle.allocator.specs.Allocation.{take, takeCollected, goodHead, ne
 use Rattle.pool.proofs.RegisterLinks.{Holds}
 
 -- the head cell is taken by one write after the other
-pub taken : (w : List ℕ) (r x y v : ℕ) {i next : ℕ} {w₁ w₂ w₃ w₄ w₅ w₆ : List ℕ} → i ≡ head w → next ≡ left registerCount w i
-    → w₁ ≡ setCell registerCount w i 0 0 → w₂ ≡ setCell registerCount w₁ i 1 x → w₃ ≡ setCell registerCount w₂ i 2 y → w₄ ≡ setCell registerCount w₃ i 3 v
-    → w₅ ≡ setHead w₄ next → w₆ ≡ setRegister w₅ r i → w₆ ≡ take w r x y v
-taken w r x y v at after e₁ e₂ e₃ e₄ e₅ e₆ = rw (e₆, e₅, e₄, e₃, e₂, e₁, after, at)
+pub taken : (w : List ℕ) (r x y v : ℕ) {i next : ℕ} {w₁ w₂ w₃ : List ℕ} → i ≡ head w → next ≡ left registerCount w i
+    → w₁ ≡ putCell registerCount w i usedState x y v → w₂ ≡ setHead w₁ next → w₃ ≡ setRegister w₂ r i → w₃ ≡ take w r x y v
+taken w r x y v at after e₁ e₂ e₃ = rw (e₃, e₂, e₁, after, at)
 
 -- the lowest free cell is one of the cells
 lowest-below : (keep : ℕ → Bool) (k i : ℕ) → 0 < i → lowestFree keep k i < k + i

@@ -4,8 +4,9 @@ use Prim.Native.Nat.{ℕ, _*_}
 use mathlib.Core.List.{List}
 use mathlib.Core.Bool.{Bool, cond, _&&_}
 use lib.Dec.{eqb, leb}
-use Rattle.pool.specs.Layout.{registerCount, head, setHead, register, setRegister, setCell, state, left}
-use Rattle.pool.specs.Validity.{isFree, wellFormed}
+use Rattle.pool.specs.Layout.{registerCount, head, setHead, register, setRegister, putCell, state, left}
+use Rattle.pool.specs.Validity.{wellFormed}
+use Rattle.pool.specs.States.{usedState, isFree}
 use Rattle.pool.specs.Calls.{holdsLink}
 use Rattle.answers.specs.Outcome.{Outcome, allocated, refused}
 use Rattle.collector.specs.Collect.{reachedCount, collected, reachedVisits}
@@ -14,9 +15,7 @@ use Rattle.collector.specs.Collect.{reachedCount, collected, reachedVisits}
 abbrev pub take : List ℕ → ℕ → ℕ → ℕ → ℕ → List ℕ
 take w r x y v =
     let i = head w in
-    let next = left registerCount w i in
-    let used = setCell registerCount (setCell registerCount (setCell registerCount (setCell registerCount w i 0 0) i 1 x) i 2 y) i 3 v in
-    setRegister (setHead used next) r i
+    setRegister (setHead (putCell registerCount w i usedState x y v) (left registerCount w i)) r i
 
 -- "new with another head: is it 1 to N and free, its left at most N? No: 3."
 abbrev pub goodHead : ℕ → List ℕ → Bool

@@ -17,10 +17,7 @@ fn take_head(words: &mut [u32], r: u32, x: u32, y: u32, v: u32)
 {
     let i = pool::read_head(words);
     let next = pool::read_cell(words, i, Pool::LEFT);
-    pool::write_cell(words, i, Pool::STATE, Pool::USED);
-    pool::write_cell(words, i, Pool::LEFT, x);
-    pool::write_cell(words, i, Pool::RIGHT, y);
-    pool::write_cell(words, i, Pool::VALUE, v);
+    pool::put_cell(words, i, Pool::USED, x, y, v);
     pool::write_head(words, next);
     pool::write_register(words, r, i);
 }
@@ -34,7 +31,7 @@ fn good_head(words: &[u32], n: u32) -> bool
     if n < i {
         return false;
     }
-    if pool::read_cell(words, i, Pool::STATE) == Pool::FREE {
+    if pool::is_free(pool::read_cell(words, i, Pool::STATE)) {
         pool::read_cell(words, i, Pool::LEFT) <= n
     } else {
         false

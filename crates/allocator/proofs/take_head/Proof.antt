@@ -10,17 +10,8 @@ read-head-requires c κs = search needs
 read-cell-requires : tie.Need-read-cell-requires
 read-cell-requires c κs = search needs
 
-write-cell-requires : tie.Need-write-cell-requires
-write-cell-requires c κs = search needs
-
-write-cell-requires-2 : tie.Need-write-cell-requires-2
-write-cell-requires-2 c κs = search needs
-
-write-cell-requires-3 : tie.Need-write-cell-requires-3
-write-cell-requires-3 c κs = search needs
-
-write-cell-requires-4 : tie.Need-write-cell-requires-4
-write-cell-requires-4 c κs = search needs
+put-cell-requires : tie.Need-put-cell-requires
+put-cell-requires c κs = search needs
 
 write-head-requires : tie.Need-write-head-requires
 write-head-requires c κs = search needs
@@ -33,14 +24,12 @@ same-length c = search needs
 
 returns : tie.Need-returns
 returns c =
-    let read = c .before .before .before .before .before .before .before .before .before .before .before .before .before .before .before .before .before .before .before .before .before .before .before .before in
-    taken _ _ _ _ _ (read .before .before .read-head .ensures) (read .read-cell .ensures)
-    (c .before .before .before .before .before .before .before .before .before .before .before .before .before .before .before .before .before .before .before .before .before .before .write-cell .ensures)
-    (c .before .before .before .before .before .before .before .before .before .before .before .before .before .before .before .before .before .before .write-cell2 .ensures)
-    (c .before .before .before .before .before .before .before .before .before .before .before .before .before .before .write-cell3 .ensures)
-    (c .before .before .before .before .before .before .before .before .before .before .write-cell4 .ensures)
-    (c .before .before .before .before .before .before .write-head .ensures)
-    (c .before .before .write-register .ensures)
+    let at-write-register = c .before .before in
+    let at-write-head = at-write-register .before .before .before .before in
+    let at-put-cell = at-write-head .before .before .before .before in
+    let at-read-cell = at-put-cell .before .before in
+    let at-read-head = at-read-cell .before .before in
+    taken _ _ _ _ _ (at-read-head .read-head .ensures) (at-read-cell .read-cell .ensures) (at-put-cell .put-cell .ensures) (at-write-head .write-head .ensures) (at-write-register .write-register .ensures)
 
 pub take-head-spec : {M : Type 1} → statement M
 take-head-spec =
@@ -48,10 +37,7 @@ take-head-spec =
     (tie.spec
     read-head-requires
     read-cell-requires
-    write-cell-requires
-    write-cell-requires-2
-    write-cell-requires-3
-    write-cell-requires-4
+    put-cell-requires
     write-head-requires
     write-register-requires
     same-length
