@@ -19,7 +19,12 @@ same-length c = search needs
 
 returns : tie.Need-returns
 returns c =
-    collect-made _ _ _ _ _ _ (sym (c .before .before .before .before .before .before .before .before .before .well-formed .ensures) ∙ c .before .before .before .before .before .before .before .before .if1 .taken) (c .before .before .before .before .before .before .before .before .before .before .before .before .pre .0) (c .before .before .before .before .before .before .mark .ensures) (c .before .before .sweep .ensures)
+    let at-sweep = c .before .before in
+    let at-mark = at-sweep .before .before .before .before in
+    let at-if1 = at-mark .before .before in
+    let at-well-formed = at-if1 .before in
+    let at-start = at-well-formed .before .before .before in
+    collect-made _ _ _ _ _ _ (sym (at-well-formed .well-formed .ensures) ∙ at-if1 .if1 .taken) (at-start .pre .0) (at-mark .mark .ensures) (at-sweep .sweep .ensures)
 
 same-length-2 : tie.Need-same-length-2
 same-length-2 c = search needs

@@ -26,9 +26,14 @@ is-unmarked-requires c κs =
 
 mark-from-requires : tie.Need-mark-from-requires Inv-loop μ-loop
 mark-from-requires c κs =
-    let s = c .before .before .before .before .before .before .before .before .before in (
-      marking-ends registerCount _ _ (s .pre .0) (s .pre .1) _ _ _ _ (c .before .before .before .before .before .before .before .loop .inv) (c .before .before .before .before .before .before .loop-test .taken) (c .before .before .before .before .read-register .ensures) (s .pre .2) (sym (c .before .before .is-unmarked .ensures) ∙ c .before .if1 .taken),
-      (omega (arith, s .pre .1, c .before .before .before .before .before .before .before .loop .inv .len), s .pre .2),
+    let at-if1 = c .before in
+    let at-is-unmarked = at-if1 .before in
+    let at-read-register = at-is-unmarked .before .before in
+    let at-loop-test = at-read-register .before .before in
+    let at-loop = at-loop-test .before in
+    let at-start = at-loop .before .before in (
+      marking-ends registerCount _ _ (at-start .pre .0) (at-start .pre .1) _ _ _ _ (at-loop .loop .inv) (at-loop-test .loop-test .taken) (at-read-register .read-register .ensures) (at-start .pre .2) (sym (at-is-unmarked .is-unmarked .ensures) ∙ at-if1 .if1 .taken),
+      (omega (arith, at-start .pre .1, at-loop .loop .inv .len), at-start .pre .2),
     )
 
 add-k : tie.Need-add-k Inv-loop μ-loop
@@ -39,8 +44,14 @@ loop-less c = omega arith
 
 loop-again : tie.Need-loop-again Inv-loop μ-loop
 loop-again c =
-    let s = c .before .before .before .before .before .before .before .before .before .before .before .before in
-    marking-run registerCount _ _ (s .pre .0) (s .pre .1) _ _ _ _ (c .before .before .before .before .before .before .before .before .before .before .loop .inv) (c .before .before .before .before .before .before .before .before .before .loop-test .taken) (c .before .before .before .before .before .before .before .read-register .ensures) _ _ (sym (c .before .before .before .before .before .is-unmarked .ensures) ∙ c .before .before .before .before .if1 .taken) (c .before .before .mark-from .ensures)
+    let at-mark-from = c .before .before in
+    let at-if1 = at-mark-from .before .before in
+    let at-is-unmarked = at-if1 .before in
+    let at-read-register = at-is-unmarked .before .before in
+    let at-loop-test = at-read-register .before .before in
+    let at-loop = at-loop-test .before in
+    let at-start = at-loop .before .before in
+    marking-run registerCount _ _ (at-start .pre .0) (at-start .pre .1) _ _ _ _ (at-loop .loop .inv) (at-loop-test .loop-test .taken) (at-read-register .read-register .ensures) _ _ (sym (at-is-unmarked .is-unmarked .ensures) ∙ at-if1 .if1 .taken) (at-mark-from .mark-from .ensures)
 
 add-k-2 : tie.Need-add-k-2 Inv-loop μ-loop
 add-k-2 c = omega arith
@@ -50,8 +61,12 @@ loop-less-2 c = omega arith
 
 loop-again-2 : tie.Need-loop-again-2 Inv-loop μ-loop
 loop-again-2 c =
-    let s = c .before .before .before .before .before .before .before .before in
-    marking-skip registerCount _ _ (s .pre .0) (s .pre .1) _ _ _ _ (c .before .before .before .before .before .before .loop .inv) (c .before .before .before .before .before .loop-test .taken) (c .before .before .before .read-register .ensures) (sym (c .before .is-unmarked .ensures) ∙ c .if1 .left)
+    let at-is-unmarked = c .before in
+    let at-read-register = at-is-unmarked .before .before in
+    let at-loop-test = at-read-register .before .before in
+    let at-loop = at-loop-test .before in
+    let at-start = at-loop .before .before in
+    marking-skip registerCount _ _ (at-start .pre .0) (at-start .pre .1) _ _ _ _ (at-loop .loop .inv) (at-loop-test .loop-test .taken) (at-read-register .read-register .ensures) (sym (at-is-unmarked .is-unmarked .ensures) ∙ c .if1 .left)
 
 same-length : tie.Need-same-length Inv-loop μ-loop
 same-length c = c .before .loop .inv .len

@@ -26,7 +26,11 @@ visit-requires c κs =
 
 loop-less : tie.Need-loop-less Inv-loop μ-loop
 loop-less c =
-    going-less registerCount _ _ _ _ _ _ (c .before .before .before .before .before .before .loop .inv) _ _ (c .before .before .before .before .before .before .before .before .pre .0) (c .before .before .before .before .before .before .before .before .pre .1 .0) (c .before .before .before .before .if1 .taken) (c .before .before .visit .ensures)
+    let at-visit = c .before .before in
+    let at-if1 = at-visit .before .before in
+    let at-loop = at-if1 .before .before in
+    let at-start = at-loop .before .before in
+    going-less registerCount _ _ _ _ _ _ (at-loop .loop .inv) _ _ (at-start .pre .0) (at-start .pre .1 .0) (at-if1 .if1 .taken) (at-visit .visit .ensures)
 
 loop-again : tie.Need-loop-again Inv-loop μ-loop
 loop-again c = going-next registerCount _ _ _ _ _ _ (c .before .before .before .before .before .before .loop .inv) _ _ (c .before .before .before .before .if1 .taken) (c .before .before .visit .ensures)

@@ -23,11 +23,14 @@ mark-roots-requires : tie.Need-mark-roots-requires Inv-loop μ-loop
 mark-roots-requires c κs = search needs
 
 loop-holds : tie.Need-loop-holds Inv-loop μ-loop
-loop-holds c = (
-  omega arith,
-  c .before .before .mark-roots .ensures .0 (clear-sound _ (length (c .before .before .before .before .before .before .before .before .before .before .args .marks .now)) (c .before .before .before .before .before .before .clear .ensures)),
-  c .before .before .mark-roots .ensures .1,
-)
+loop-holds c =
+    let at-mark-roots = c .before .before in
+    let at-clear = at-mark-roots .before .before .before .before in
+    let at-start = at-clear .before .before .before .before in (
+      omega arith,
+      at-mark-roots .mark-roots .ensures .0 (clear-sound _ (length (at-start .args .marks .now)) (at-clear .clear .ensures)),
+      at-mark-roots .mark-roots .ensures .1,
+    )
 
 pass-requires : tie.Need-pass-requires Inv-loop μ-loop
 pass-requires c κs = search needs

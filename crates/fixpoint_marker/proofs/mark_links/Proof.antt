@@ -34,9 +34,14 @@ same-length c = search needs
 
 returns-2 : tie.Need-returns-2
 returns-2 c =
-    let a = c .before .before .before .before .before .before .before .before .before .before .before .before .before .before .args in
-    grown-links (a .n) (a .words .now) (a .i) (c .before .before .before .before .before .before .before .before .link-of .ensures) (c .before .before .before .link-of2 .ensures) (omega arith)
-    (c .before .before .before .before .before .before .before .mark-link .ensures) (c .before .before .mark-link2 .ensures)
+    let at-mark-link2 = c .before .before in
+    let at-link-of2 = at-mark-link2 .before in
+    let at-mark-link = at-link-of2 .before .before .before .before in
+    let at-link-of = at-mark-link .before in
+    let at-start = at-link-of .before .before .before .before .before .before in
+    let a = at-start .args in
+    grown-links (a .n) (a .words .now) (a .i) (at-link-of .link-of .ensures) (at-link-of2 .link-of2 .ensures) (omega arith)
+    (at-mark-link .mark-link .ensures) (at-mark-link2 .mark-link2 .ensures)
 
 pub mark-links-spec : {M : Type 1} → statement M
 mark-links-spec =

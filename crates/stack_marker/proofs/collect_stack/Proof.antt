@@ -31,10 +31,13 @@ same-length-2 c = search needs
 
 returns : tie.Need-returns
 returns c =
-    let at-n = c .before .before .before .before .before .before .before .before in
-    let w = now (at-n .before .before .before .before .before .before .args .words) in
-    let stack = now (at-n .before .before .before .before .before .before .args .stack) in
-    went-on (at-n .before .before .sized .ensures) (λ n. stackIn n w stack) (λ k. (refused k, w, stack)) (at-n .n .given .1) (c .before .before .before .before .collect-in .ensures)
+    let at-collect-in = c .before .before .before .before in
+    let at-n = at-collect-in .before .before .before .before in
+    let at-sized = at-n .before .before in
+    let at-start = at-sized .before .before .before .before in
+    let w = now (at-start .args .words) in
+    let stack = now (at-start .args .stack) in
+    went-on (at-sized .sized .ensures) (λ n. stackIn n w stack) (λ k. (refused k, w, stack)) (at-n .n .given .1) (at-collect-in .collect-in .ensures)
 
 same-length-3 : tie.Need-same-length-3
 same-length-3 c = search needs

@@ -68,15 +68,17 @@ mul-stack c = omega arith
 
 slice-write-stack : tie.Need-slice-write-stack Inv-loop μ-loop
 slice-write-stack c =
-    let at-if1 = c .before .before .before .before .before .before .before .before in
-    let at-turn = at-if1 .before .before .before .before .before .before in
-    omega (arith, at-turn .loop .inv .fits, at-turn .loop .inv .lent, at-if1 .if1 .left)
+    let at-mark-cell = c .before .before .before .before .before .before in
+    let at-if1 = at-mark-cell .before .before in
+    let at-loop = at-if1 .before .before .before .before .before .before in
+    omega (arith, at-loop .loop .inv .fits, at-loop .loop .inv .lent, at-if1 .if1 .left)
 
 add-top : tie.Need-add-top Inv-loop μ-loop
 add-top c =
-    let at-if1 = c .before .before .before .before .before .before .before .before in
-    let at-turn = at-if1 .before .before .before .before .before .before in
-    omega (arith, at-turn .loop .inv .fits, at-turn .loop .inv .lent, at-if1 .if1 .left)
+    let at-mark-cell = c .before .before .before .before .before .before in
+    let at-if1 = at-mark-cell .before .before in
+    let at-loop = at-if1 .before .before .before .before .before .before in
+    omega (arith, at-loop .loop .inv .fits, at-loop .loop .inv .lent, at-if1 .if1 .left)
 
 loop-less : tie.Need-loop-less Inv-loop μ-loop
 loop-less c =

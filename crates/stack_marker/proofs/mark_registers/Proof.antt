@@ -74,14 +74,16 @@ same-length : tie.Need-same-length Inv-loop μ-loop
 same-length c =
     let at-mark-from = c .before .before .before .before .before in
     let at-mark-cell = at-mark-from .before .before .before .before .before in
-    let at-turn = at-mark-cell .before .before .before .before .before .before .before .before in
-    at-mark-from .mark-from .kept .0 ∙ (at-mark-cell .mark-cell .kept .0 ∙ registers-length registerCount _ _ _ _ _ _ (at-turn .loop .inv))
+    let at-loop-test = at-mark-cell .before .before .before .before .before .before .before in
+    let at-loop = at-loop-test .before in
+    at-mark-from .mark-from .kept .0 ∙ (at-mark-cell .mark-cell .kept .0 ∙ registers-length registerCount _ _ _ _ _ _ (at-loop .loop .inv))
 
 same-length-2 : tie.Need-same-length-2 Inv-loop μ-loop
 same-length-2 c =
     let at-mark-from = c .before .before .before .before .before in
-    let at-turn = at-mark-from .before .before .before .before .before .before .before .before .before .before .before .before .before in
-    at-mark-from .mark-from .kept .1 .1 .0 ∙ at-turn .loop .inv .lent
+    let at-if1 = at-mark-from .before .before .before .before .before .before .before in
+    let at-loop = at-if1 .before .before .before .before .before .before in
+    at-mark-from .mark-from .kept .1 .1 .0 ∙ at-loop .loop .inv .lent
 
 returns : tie.Need-returns Inv-loop μ-loop
 returns c =

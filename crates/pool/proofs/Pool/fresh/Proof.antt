@@ -25,19 +25,28 @@ slice-write-words c =
 
 sweep-requires : tie.Need-sweep-requires
 sweep-requires c κs =
-    let w = now (c .before .before .before .before .before .before .before .before .args .words) in
-    let room = fresh-length w _ (c .before .before .before .before .before .before .cell-count-of-length .ensures) (c .before .before .before .before .before .if1 .left) in
-    simp length-set (omega (arith, room, c .before .before .before .clear .kept .0))
+    let at-clear = c .before .before .before in
+    let at-if1 = at-clear .before .before in
+    let at-cell-count-of-length = at-if1 .before in
+    let at-start = at-cell-count-of-length .before .before in
+    let w = now (at-start .args .words) in
+    let room = fresh-length w _ (at-cell-count-of-length .cell-count-of-length .ensures) (at-if1 .if1 .left) in
+    simp length-set (omega (arith, room, at-clear .clear .kept .0))
 
 same-length : tie.Need-same-length
 same-length c = c .before .before .sweep .kept .0 ∙ (simp length-set (c .before .before .before .before .before .before .clear .kept .0))
 
 returns-2 : tie.Need-returns-2
 returns-2 c =
-    let w = now (c .before .before .before .before .before .before .before .before .before .before .before .args .words) in
-    fresh-made w _ (c .before .before .before .before .before .before .before .before .before .cell-count-of-length .ensures)
-    (c .before .before .before .before .before .before .before .before .if1 .left) _ _ _
-    (c .before .before .before .before .before .before .clear .ensures) (c .before .before .sweep .ensures)
+    let at-sweep = c .before .before in
+    let at-clear = at-sweep .before .before .before .before in
+    let at-if1 = at-clear .before .before in
+    let at-cell-count-of-length = at-if1 .before in
+    let at-start = at-cell-count-of-length .before .before in
+    let w = now (at-start .args .words) in
+    fresh-made w _ (at-cell-count-of-length .cell-count-of-length .ensures)
+    (at-if1 .if1 .left) _ _ _
+    (at-clear .clear .ensures) (at-sweep .sweep .ensures)
 
 pub fresh-spec : {M : Type 1} → statement M
 fresh-spec =
