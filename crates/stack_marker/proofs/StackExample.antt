@@ -6,7 +6,8 @@ use Rattle.pool.specs.Layout.{cellCountOfLength, count, cellCount, head, regist
 use Rattle.pool.specs.Retain.{lowestFree, retain}
 use Rattle.stack_marker.specs.Stack.{run, runs}
 use Rattle.stack_marker.specs.StackExample.{LeafExample}
+use Rattle.collector.specs.Collect.{visitsOf}
 
 pub leaf-example : LeafExample
-unfolding elem visit visits preorder tabulate every cellCountOfLength count cellCount head register cell setCell lowestFree retain run runs
+unfolding elem visit visits preorder visitsOf tabulate every cellCountOfLength count cellCount head register cell setCell lowestFree retain run runs
 leaf-example = (refl, refl)

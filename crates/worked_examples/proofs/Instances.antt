@@ -35,6 +35,7 @@ use Rattle.replies.specs.Replies.{digits, decimal}
 use Rattle.script.specs.Scripts.{nextLine}
 use Rattle.worked_examples.specs.Instances.{three, threeCollected, two, graph, roots, Swapped}
 use Rattle.worked_examples.specs.Instances.{Pool-instance, Reversal-instance, Graph-instance, Number-instance, Image-instance, Batch-instance, Script-instance}
+use Rattle.collector.specs.Collect.{visitsOf}
 
 -- Every element of a list that is tested whole is below a bound.
 below : (b : ℕ) → 0 < b → (xs : List ℕ) → all (λ x. ltb x b) xs ≡ true → (i : ℕ) → getD xs i 0 < b
@@ -53,7 +54,7 @@ within-two = pool-within (well-formed-read registerCount 2 two refl)
 
 -- Only cells 1 and 2 are reached.
 only : (x : ℕ) → Reach (graph three) (roots three) x → List·Memᴰ x (1 ∷ 2 ∷ [])
-unfolding elem visit visits preorder tabulate register cell
+unfolding elem visit visits preorder visitsOf tabulate register cell
 only x = preorder-reached 3 (graph three) (roots three) within x .1
 
 apart : List·Memᴰ {A = ℕ} 3 (1 ∷ 2 ∷ []) → ⊥
@@ -61,7 +62,7 @@ apart (List·Memᴰ·head e) = omega arith
 apart (List·Memᴰ·tail (List·Memᴰ·head e)) = omega arith
 
 pub pool-instance : Pool-instance
-unfolding elem visit visits preorder tabulate every cellCountOfLength count setCount cellCount head register cell setCell lowestFree retain run runs
+unfolding elem visit visits preorder visitsOf tabulate every cellCountOfLength count setCount cellCount head register cell setCell lowestFree retain run runs
 pool-instance =
     record { some = omega arith; most = omega arith; room = omega arith; cells = refl; well-formed = refl; answer = refl; full = refl; stack = refl; no-stack = refl }
 
@@ -93,7 +94,7 @@ dfs =
     Dfs.step {t = 2 ∷ []} {u = []} refl second (Dfs.stop {m = mark m 2} {p = 2} (omega arith))
 
 pub reversal-instance : Reversal-instance
-unfolding elem visit visits preorder tabulate register cell outside markedCount
+unfolding elem visit visits preorder visitsOf tabulate register cell outside markedCount
 reversal-instance =
     record {
       agreement = agreement;
@@ -149,7 +150,7 @@ agree x (List·Memᴰ·head e) = rw e (record { left = refl; right = refl })
 agree x (List·Memᴰ·tail (List·Memᴰ·head e)) = rw e (record { left = refl; right = refl })
 
 pub graph-instance : Graph-instance
-unfolding elem visit visits preorder tabulate register cell run runs
+unfolding elem visit visits preorder visitsOf tabulate register cell run runs
 graph-instance =
     record {
       within = within;
@@ -179,7 +180,7 @@ number-instance =
     record { largest = omega arith; same = refl; bytes = below 256 (omega arith) (0x80 ∷ 0x00 ∷ []) refl; read = refl; fewer = omega arith }
 
 pub image-instance : Image-instance
-unfolding all elem visit visits preorder groups encode readGroups readAt tabulate every cellCountOfLength count setCount cellCount register cell lowestFree retain placeFrom encodeAll readFields readImage
+unfolding all elem visit visits preorder visitsOf groups encode readGroups readAt tabulate every cellCountOfLength count setCount cellCount register cell lowestFree retain placeFrom encodeAll readFields readImage
 image-instance =
     record {
       size = refl;
@@ -198,7 +199,7 @@ image-instance =
     }
 
 pub batch-instance : Batch-instance
-unfolding elem visit visits preorder tabulate every cellCountOfLength count setCount cellCount head setHead register setRegister cell setCell lowestFree retain programOf programOfCalls runFrom afterAll poolAnswers
+unfolding elem visit visits preorder visitsOf tabulate every cellCountOfLength count setCount cellCount head setHead register setRegister cell setCell lowestFree retain programOf programOfCalls runFrom afterAll poolAnswers
 batch-instance = record { exact = refl; program = refl; room = omega arith; run = refl; answer = List·Memᴰ·tail (List·Memᴰ·head refl) }
 
 pub script-instance : Script-instance

@@ -7,7 +7,8 @@ use Rattle.pool.specs.Layout.{cellCountOfLength, count, cellCount, register, ce
 use Rattle.stack_marker.specs.Stack.{run, runs}
 use Rattle.image.specs.Image.{readFields, readImage}
 use Rattle.worked_examples.specs.Table.{All, WorkedExamples}
+use Rattle.collector.specs.Collect.{visitsOf}
 
 pub worked-examples : WorkedExamples
-unfolding All groups encode readGroups readAt elem visit visits preorder tabulate every cellCountOfLength count cellCount register cell readFields readImage run runs
+unfolding All groups encode readGroups readAt elem visit visits preorder visitsOf tabulate every cellCountOfLength count cellCount register cell readFields readImage run runs
 worked-examples = (refl, (refl, (refl, (refl, (refl, (refl, (refl, (refl, (refl, (refl, tt))))))))))

@@ -24,10 +24,19 @@ same-length-2 : tie.Need-same-length-2
 same-length-2 c = search needs
 
 returns : tie.Need-returns
-returns c = advanced-line _ _ _ (c .before .before .before .before .before .before .before .before .before .before .before .before .before .before .before .args .p) _ _ _ _ _ (sym (c .before .before .before .before .before .before .before .before .before .before .next-line .ensures) ∙ c .before .before .before .before .before .before .before .before .line .given .1) (c .before .before .before .before .run-line .kept .0) (c .before .before .before .before .run-line .ensures)
+returns c =
+    let at-run-line = c .before .before .before .before in
+    let at-line = at-run-line .before .before .before .before in
+    let at-next-line = at-line .before .before in
+    let at-start = at-next-line .before .before .before .before .before in
+    advanced-line _ _ _ (at-start .args .p) _ _ _ _ _ (sym (at-next-line .next-line .ensures) ∙ at-line .line .given .1) (at-run-line .run-line .kept .0) (at-run-line .run-line .ensures)
 
 returns-2 : tie.Need-returns-2
-returns-2 c = advanced-more _ _ _ (c .before .before .before .before .before .before .before .before .args .p) _ (sym (c .before .before .before .next-line .ensures) ∙ c .before .begun .given .1) (c .before .before .before .before .before .before .before .before .pre)
+returns-2 c =
+    let at-begun = c .before in
+    let at-next-line = at-begun .before .before in
+    let at-start = at-next-line .before .before .before .before .before in
+    advanced-more _ _ _ (at-start .args .p) _ (sym (at-next-line .next-line .ensures) ∙ at-begun .begun .given .1) (at-start .pre)
 
 pub advance-spec : {M : Type 1} → statement M
 advance-spec =

@@ -32,13 +32,23 @@ same-length : tie.Need-same-length
 same-length c = search needs
 
 returns-2 : tie.Need-returns-2
-returns-2 c = rw (c .before .before .before .before .before .line .given .1) (c .before .before .make .ensures ∙ settled _ (c .before .before .before .before .before .before .before .before .before .args .used) _ (now (c .before .before .before .before .before .before .before .before .before .args .words)) (c .before .before .before .before .before .before .before .pool-words .ensures))
+returns-2 c =
+    let at-make = c .before .before in
+    let at-line = at-make .before .before .before in
+    let at-pool-words = at-line .before .before in
+    let at-start = at-pool-words .before .before in
+    rw (at-line .line .given .1) (at-make .make .ensures ∙ settled _ (at-start .args .used) _ (now (at-start .args .words)) (at-pool-words .pool-words .ensures))
 
 same-length-2 : tie.Need-same-length-2
 same-length-2 c = search needs
 
 returns-3 : tie.Need-returns-3
-returns-3 c = rw (c .before .before .before .before .before .line2 .given .1) (c .before .before .run .ensures ∙ settled _ (c .before .before .before .before .before .before .before .before .before .args .used) _ (now (c .before .before .before .before .before .before .before .before .before .args .words)) (c .before .before .before .before .before .before .before .pool-words .ensures))
+returns-3 c =
+    let at-run = c .before .before in
+    let at-line2 = at-run .before .before .before in
+    let at-pool-words = at-line2 .before .before in
+    let at-start = at-pool-words .before .before in
+    rw (at-line2 .line2 .given .1) (at-run .run .ensures ∙ settled _ (at-start .args .used) _ (now (at-start .args .words)) (at-pool-words .pool-words .ensures))
 
 pub execute-spec : {M : Type 1} → statement M
 execute-spec =

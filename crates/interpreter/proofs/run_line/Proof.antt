@@ -29,7 +29,12 @@ same-length-2 : tie.Need-same-length-2
 same-length-2 c = search needs
 
 returns : tie.Need-returns
-returns c = line-run _ _ _ _ (c .before .before .before .before .before .before .before .before .before .before .before .before .before .before .args .p) _ _ _ _ (c .before .before .before .before .before .before .before .before .before .before .before .before .before .before .pre) (c .before .before .before .before .before .before .before .before .before .before .execute .ensures) _ _ (c .new .ensures) (rw (c .before .before .put .given .1) at (c .before .before .before .before .before .before .write-reply .ensures)) (c .before .before .before .before .before .before .write-reply .kept .0)
+returns c =
+    let at-put = c .before .before in
+    let at-write-reply = at-put .before .before .before .before in
+    let at-execute = at-write-reply .before .before .before .before in
+    let at-start = at-execute .before .before .before .before in
+    line-run _ _ _ _ (at-start .args .p) _ _ _ _ (at-start .pre) (at-execute .execute .ensures) _ _ (c .new .ensures) (rw (at-put .put .given .1) at (at-write-reply .write-reply .ensures)) (at-write-reply .write-reply .kept .0)
 
 same-length-3 : tie.Need-same-length-3
 same-length-3 c = search needs
@@ -38,7 +43,12 @@ same-length-4 : tie.Need-same-length-4
 same-length-4 c = search needs
 
 returns-2 : tie.Need-returns-2
-returns-2 c = line-lost _ _ _ _ (c .before .before .before .before .before .before .before .before .before .before .before .before .before .args .p) _ _ _ _ (c .before .before .before .before .before .before .before .before .before .before .before .before .before .pre) (c .before .before .before .before .before .before .before .before .before .execute .ensures) _ (rw (c .before .enum-told .given .1) at (c .before .before .before .before .before .write-reply .ensures))
+returns-2 c =
+    let at-enum-told = c .before in
+    let at-write-reply = at-enum-told .before .before .before .before in
+    let at-execute = at-write-reply .before .before .before .before in
+    let at-start = at-execute .before .before .before .before in
+    line-lost _ _ _ _ (at-start .args .p) _ _ _ _ (at-start .pre) (at-execute .execute .ensures) _ (rw (at-enum-told .enum-told .given .1) at (at-write-reply .write-reply .ensures))
 
 pub run-line-spec : {M : Type 1} → statement M
 run-line-spec =

@@ -21,13 +21,30 @@ goes-on-requires : tie.Need-goes-on-requires Inv-loop μ-loop
 goes-on-requires c κs = tt
 
 advance-requires : tie.Need-advance-requires Inv-loop μ-loop
-advance-requires c κs = turning (now (c .before .before .before .before .before .before .before .before .args .bytes)) (c .before .before .before .before .loop .out) (c .before .before .before .before .loop .p) (c .before .before .before .goes-on .ensures) (c .before .before .if1 .taken) .free
+advance-requires c κs =
+    let at-if1 = c .before .before in
+    let at-goes-on = at-if1 .before in
+    let at-loop = at-goes-on .before in
+    let at-start = at-loop .before .before .before .before in
+    turning (now (at-start .args .bytes)) (at-loop .loop .out) (at-loop .loop .p) (at-goes-on .goes-on .ensures) (at-if1 .if1 .taken) .free
 
 loop-less : tie.Need-loop-less Inv-loop μ-loop
-loop-less c = omega (arith, c .before .before .before .before .advance .ensures .forward (turning (now (c .before .before .before .before .before .before .before .before .before .before .before .before .before .args .bytes)) (c .before .before .before .before .before .before .before .before .before .loop .out) (c .before .before .before .before .before .before .before .before .before .loop .p) (c .before .before .before .before .before .before .before .before .goes-on .ensures) (c .before .before .before .before .before .before .before .if1 .taken) .unread), turning (now (c .before .before .before .before .before .before .before .before .before .before .before .before .before .args .bytes)) (c .before .before .before .before .before .before .before .before .before .loop .out) (c .before .before .before .before .before .before .before .before .before .loop .p) (c .before .before .before .before .before .before .before .before .goes-on .ensures) (c .before .before .before .before .before .before .before .if1 .taken) .unread)
+loop-less c =
+    let at-advance = c .before .before .before .before in
+    let at-if1 = at-advance .before .before .before in
+    let at-goes-on = at-if1 .before in
+    let at-loop = at-goes-on .before in
+    let at-start = at-loop .before .before .before .before in
+    omega (arith, at-advance .advance .ensures .forward (turning (now (at-start .args .bytes)) (at-loop .loop .out) (at-loop .loop .p) (at-goes-on .goes-on .ensures) (at-if1 .if1 .taken) .unread), turning (now (at-start .args .bytes)) (at-loop .loop .out) (at-loop .loop .p) (at-goes-on .goes-on .ensures) (at-if1 .if1 .taken) .unread)
 
 loop-again : tie.Need-loop-again Inv-loop μ-loop
-loop-again c = going-on _ _ _ _ _ _ _ _ _ _ (c .before .before .before .before .before .before .before .before .before .loop .inv) (turning (now (c .before .before .before .before .before .before .before .before .before .before .before .before .before .args .bytes)) (c .before .before .before .before .before .before .before .before .before .loop .out) (c .before .before .before .before .before .before .before .before .before .loop .p) (c .before .before .before .before .before .before .before .before .goes-on .ensures) (c .before .before .before .before .before .before .before .if1 .taken)) (c .before .before .before .before .advance .ensures) (c .before .before .before .before .advance .kept .0) (c .before .before .before .before .advance .kept .1 .1 .0)
+loop-again c =
+    let at-advance = c .before .before .before .before in
+    let at-if1 = at-advance .before .before .before in
+    let at-goes-on = at-if1 .before in
+    let at-loop = at-goes-on .before in
+    let at-start = at-loop .before .before .before .before in
+    going-on _ _ _ _ _ _ _ _ _ _ (at-loop .loop .inv) (turning (now (at-start .args .bytes)) (at-loop .loop .out) (at-loop .loop .p) (at-goes-on .goes-on .ensures) (at-if1 .if1 .taken)) (at-advance .advance .ensures) (at-advance .advance .kept .0) (at-advance .advance .kept .1 .1 .0)
 
 same-length : tie.Need-same-length Inv-loop μ-loop
 same-length c = c .before .before .loop .inv .words

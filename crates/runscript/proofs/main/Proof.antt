@@ -53,11 +53,15 @@ loop-less : tie.Need-loop-less Inv-loop μ-loop
 loop-less c = omega arith
 
 loop-again : tie.Need-loop-again Inv-loop μ-loop
-loop-again c = (
-  c .before .before .before .before .before .before .read-part .kept .0 ∙ c .before .before .before .before .before .before .before .before .before .before .before .loop .inv .0,
-  c .before .before .before .before .before .before .read-part .kept .1 .0 ∙ c .before .before .before .before .before .before .before .before .before .before .before .loop .inv .1,
-  c .before .before .before .before .before .before .read-part .kept .1 .1 .0 ∙ c .before .before .before .before .before .before .before .before .before .before .before .loop .inv .2,
-  so-far-on _ _ _ _ _ (c .before .before .before .before .before .before .before .before .before .before .before .loop .inv .3) (c .before .before .before .before .before .before .read-part .ensures (not-false _ (c .before .if1 .left))),
+loop-again c =
+    let at-if1 = c .before in
+    let at-read-part = at-if1 .before .before .before .before .before in
+    let at-loop = at-read-part .before .before .before .before .before in
+    (
+  at-read-part .read-part .kept .0 ∙ at-loop .loop .inv .0,
+  at-read-part .read-part .kept .1 .0 ∙ at-loop .loop .inv .1,
+  at-read-part .read-part .kept .1 .1 .0 ∙ at-loop .loop .inv .2,
+  so-far-on _ _ _ _ _ (at-loop .loop .inv .3) (at-read-part .read-part .ensures (not-false _ (at-if1 .if1 .left))),
 )
 
 returns-2 : tie.Need-returns-2 Inv-loop μ-loop

@@ -42,7 +42,10 @@ same-length-4 : tie.Need-same-length-4
 same-length-4 c = search needs
 
 returns-2 : tie.Need-returns-2
-returns-2 c = continued _ _ _ _ _ _ _ _ (c .before .before .before .before .before .before .before .before .count .ensures .0 .0) (c .before .before .before .before .run-read .ensures)
+returns-2 c =
+    let at-run-read = c .before .before .before .before in
+    let at-count = at-run-read .before .before .before .before in
+    continued _ _ _ _ _ _ _ _ (at-count .count .ensures .0 .0) (at-run-read .run-read .ensures)
 
 pub read-part-spec : {M : Type 1} → statement M
 read-part-spec =

@@ -16,7 +16,10 @@ slice-aggregate-run-some : tie.Need-slice-aggregate-run-some
 slice-aggregate-run-some c = search needs
 
 run-some-requires : tie.Need-run-some-requires
-run-some-requires c κs = (ap (λ (p : Progress). p .put) (c .before .before .before .handed .ensures), c .before .before .before .before .before .before .before .before .before .pre)
+run-some-requires c κs =
+    let at-handed = c .before .before .before in
+    let at-start = at-handed .before .before .before .before .before .before in
+    (ap (λ (p : Progress). p .put) (at-handed .handed .ensures), at-start .pre)
 
 same-length : tie.Need-same-length
 same-length c = search needs
@@ -25,7 +28,13 @@ same-length-2 : tie.Need-same-length-2
 same-length-2 c = search needs
 
 returns : tie.Need-returns
-returns c = last-line _ (c .before .before .before .before .before .before .before .before .before .before .before .before .before .before .args .progress) _ _ _ (rw (c .before .before .before .before .before .before .before .before .handed .ensures) at (c .before .before .before .before .run-some .ensures)) (sym (c .before .before .before .before .before .before .before .before .before .before .begun .ensures) ∙ c .before .before .before .before .before .before .before .before .before .if1 .taken)
+returns c =
+    let at-run-some = c .before .before .before .before in
+    let at-handed = at-run-some .before .before .before .before in
+    let at-if1 = at-handed .before in
+    let at-begun = at-if1 .before in
+    let at-start = at-begun .before .before .before .before in
+    last-line _ (at-start .args .progress) _ _ _ (rw (at-handed .handed .ensures) at (at-run-some .run-some .ensures)) (sym (at-begun .begun .ensures) ∙ at-if1 .if1 .taken)
 
 returns-2 : tie.Need-returns-2
 returns-2 c = no-line _ (c .before .before .before .before .before .args .progress) _ (sym (c .before .begun .ensures) ∙ c .if1 .left)

@@ -26,19 +26,35 @@ run-some-requires : tie.Need-run-some-requires Inv-loop μ-loop
 run-some-requires c κs = (c .before .before .before .before .loop .inv .none-waits, omega (arith, c .before .before .before .before .loop .inv .room))
 
 same-length : tie.Need-same-length Inv-loop μ-loop
-same-length c = omega (arith, c .before .before .before .before .before .before .before .run-some .kept .0, c .before .before .before .before .before .before .before .before .before .before .before .before .loop .inv .words)
+same-length c =
+    let at-run-some = c .before .before .before .before .before .before .before in
+    let at-loop = at-run-some .before .before .before .before .before in
+    omega (arith, at-run-some .run-some .kept .0, at-loop .loop .inv .words)
 
 same-length-2 : tie.Need-same-length-2 Inv-loop μ-loop
-same-length-2 c = omega (arith, c .before .before .before .before .before .before .before .run-some .kept .1 .1 .0, c .before .before .before .before .before .before .before .before .before .before .before .before .loop .inv .room)
+same-length-2 c =
+    let at-run-some = c .before .before .before .before .before .before .before in
+    let at-loop = at-run-some .before .before .before .before .before in
+    omega (arith, at-run-some .run-some .kept .1 .1 .0, at-loop .loop .inv .room)
 
 returns : tie.Need-returns Inv-loop μ-loop
-returns c = part-run _ _ _ _ _ _ _ _ _ (running-on _ _ _ _ _ _ _ _ _ _ (c .before .before .before .before .before .before .before .before .before .before .before .before .loop .inv) (c .before .before .before .before .before .before .before .run-some .ensures) (c .before .before .before .before .before .before .before .run-some .kept .0) (c .before .before .before .before .before .before .before .run-some .kept .1 .1 .0)) (c .before .before .before .before .before .before .before .before .before .before .before .before .before .handed .ensures) (λ written. absurd (false≢true written))
+returns c =
+    let at-run-some = c .before .before .before .before .before .before .before in
+    let at-loop = at-run-some .before .before .before .before .before in
+    let at-handed = at-loop .before in
+    part-run _ _ _ _ _ _ _ _ _ (running-on _ _ _ _ _ _ _ _ _ _ (at-loop .loop .inv) (at-run-some .run-some .ensures) (at-run-some .run-some .kept .0) (at-run-some .run-some .kept .1 .1 .0)) (at-handed .handed .ensures) (λ written. absurd (false≢true written))
 
 loop-less : tie.Need-loop-less Inv-loop μ-loop
-loop-less c = omega (arith, c .before .before .before .before .before .before .before .run-some .ensures .forward (c .before .before .before .before .before .before .before .before .before .before .if1 .taken))
+loop-less c =
+    let at-run-some = c .before .before .before .before .before .before .before in
+    let at-if1 = at-run-some .before .before .before in
+    omega (arith, at-run-some .run-some .ensures .forward (at-if1 .if1 .taken))
 
 loop-again : tie.Need-loop-again Inv-loop μ-loop
-loop-again c = running-on _ _ _ _ _ _ _ _ _ _ (c .before .before .before .before .before .before .before .before .before .before .before .before .loop .inv) (c .before .before .before .before .before .before .before .run-some .ensures) (c .before .before .before .before .before .before .before .run-some .kept .0) (c .before .before .before .before .before .before .before .run-some .kept .1 .1 .0)
+loop-again c =
+    let at-run-some = c .before .before .before .before .before .before .before in
+    let at-loop = at-run-some .before .before .before .before .before in
+    running-on _ _ _ _ _ _ _ _ _ _ (at-loop .loop .inv) (at-run-some .run-some .ensures) (at-run-some .run-some .kept .0) (at-run-some .run-some .kept .1 .1 .0)
 
 same-length-3 : tie.Need-same-length-3 Inv-loop μ-loop
 same-length-3 c = c .before .before .loop .inv .words

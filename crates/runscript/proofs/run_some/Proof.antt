@@ -9,7 +9,10 @@ work-requires : tie.Need-work-requires
 work-requires c κs = search needs
 
 flush-requires : tie.Need-flush-requires
-flush-requires c κs = omega (arith, c .before .before .before .before .before .before .work .ensures .inside (omega (arith, c .before .before .before .before .before .before .before .before .before .before .before .before .pre .0)), c .before .before .before .before .before .before .work .kept .1 .1 .0)
+flush-requires c κs =
+    let at-work = c .before .before .before .before .before .before in
+    let at-start = at-work .before .before .before .before .before .before in
+    omega (arith, at-work .work .ensures .inside (omega (arith, at-start .pre .0)), at-work .work .kept .1 .1 .0)
 
 same-length : tie.Need-same-length
 same-length c = search needs
@@ -18,7 +21,10 @@ same-length-2 : tie.Need-same-length-2
 same-length-2 c = search needs
 
 returns : tie.Need-returns
-returns c = lines-run _ _ _ _ _ _ _ (c .before .before .before .before .before .before .before .work .ensures) (c .before .before .before .before .before .before .before .before .before .before .before .before .before .pre .0) (c .before .before .before .before .before .before .before .before .before .before .before .before .before .pre .1) (c .before .before .before .before .before .before .before .work .kept .1 .1 .0)
+returns c =
+    let at-work = c .before .before .before .before .before .before .before in
+    let at-start = at-work .before .before .before .before .before .before in
+    lines-run _ _ _ _ _ _ _ (at-work .work .ensures) (at-start .pre .0) (at-start .pre .1) (at-work .work .kept .1 .1 .0)
 
 pub run-some-spec : {M : Type 1} → statement M
 run-some-spec = tie.close (tie.spec work-requires flush-requires same-length same-length-2 returns)

@@ -39,7 +39,9 @@ slice-aggregate-run-3 c = sym (length-take-le _ _ (omega arith))
 
 run-requires : tie.Need-run-requires
 run-requires c κs =
-    let a = c .before .before .before .before .before .before .before .before .args in
+    let at-struct-known = c .before .before .before .before in
+    let at-start = at-struct-known .before .before .before .before in
+    let a = at-start .args in
     (omega arith, omega (arith, length-take-le (18 + 4 * a .trial .n) (a .after .now) (omega arith)))
 
 same-length : tie.Need-same-length

@@ -44,15 +44,27 @@ add-i c = omega arith
 
 returns-4 : tie.Need-returns-4 Inv-loop μ-loop
 returns-4 c =
-    let l = c .before .before .before .before .before .before .loop in
-    (omega (arith, l .inv .behind), reads-digit _ _ _ _ _ (l .inv) (c .before .before .before .before .before .loop-test .taken) (a-digit (getD (now (c .before .before .before .before .before .before .before .before .before .before .before .args .bytes)) (c .before .before .before .before .before .before .loop .i) 0) _ (c .before .before .before .is-digit .ensures) (c .before .before .if3 .left)) (c .before .digit .ensures))
+    let at-digit = c .before in
+    let at-if3 = at-digit .before in
+    let at-is-digit = at-if3 .before in
+    let at-loop-test = at-is-digit .before .before in
+    let at-loop = at-loop-test .before in
+    let at-start = at-loop .before .before .before .before .before in
+    let l = at-loop .loop in
+    (omega (arith, l .inv .behind), reads-digit _ _ _ _ _ (l .inv) (at-loop-test .loop-test .taken) (a-digit (getD (now (at-start .args .bytes)) (at-loop .loop .i) 0) _ (at-is-digit .is-digit .ensures) (at-if3 .if3 .left)) (at-digit .digit .ensures))
 
 loop-less : tie.Need-loop-less Inv-loop μ-loop
 loop-less c = omega arith
 
 loop-again : tie.Need-loop-again Inv-loop μ-loop
 loop-again c =
-    reading-more _ _ _ _ _ (c .before .before .before .before .before .before .loop .inv) (c .before .before .before .before .before .loop-test .taken) (a-digit (getD (now (c .before .before .before .before .before .before .before .before .before .before .before .args .bytes)) (c .before .before .before .before .before .before .loop .i) 0) _ (c .before .before .before .is-digit .ensures) (c .before .before .if3 .left)) (c .before .digit .ensures) (c .if4 .left)
+    let at-digit = c .before in
+    let at-if3 = at-digit .before in
+    let at-is-digit = at-if3 .before in
+    let at-loop-test = at-is-digit .before .before in
+    let at-loop = at-loop-test .before in
+    let at-start = at-loop .before .before .before .before .before in
+    reading-more _ _ _ _ _ (at-loop .loop .inv) (at-loop-test .loop-test .taken) (a-digit (getD (now (at-start .args .bytes)) (at-loop .loop .i) 0) _ (at-is-digit .is-digit .ensures) (at-if3 .if3 .left)) (at-digit .digit .ensures) (c .if4 .left)
 
 returns-5 : tie.Need-returns-5 Inv-loop μ-loop
 returns-5 c =
