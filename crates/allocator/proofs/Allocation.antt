@@ -8,18 +8,18 @@ use lib.ListN.{length}
 use lib.Dec.{leb}
 use borrow.Author.Tests.{eq-eqb, ne-eqb, leb-true}
 use Rattle.pool.specs.Layout.{registerCount, poolLength, head, setHead, setRegister, putCell, state, left}
-use Rattle.pool.specs.Validity.{wellFormed}
+use Rattle.questions.specs.Validity.{wellFormed}
 use Rattle.pool.specs.States.{usedState, isFree}
 use Rattle.pool.specs.Retain.{lowestFree}
-use Rattle.pool.specs.Calls.{holdsLink}
+use Rattle.questions.specs.Questions.{holdsLink}
 use Rattle.answers.specs.Outcome.{Outcome, answered, allocated, refused, status, given}
-use Rattle.pool.proofs.Questions.{both}
-use Rattle.pool.proofs.WellFormed.{well-formed-read}
+use Rattle.pool.proofs.Sizes.{both}
+use Rattle.questions.proofs.WellFormed.{well-formed-read}
 use Rattle.pool.proofs.Retained.{retain-head}
 use Rattle.collector.specs.Collect.{isReached, reachedCount, collected, collectIn, reachedVisits}
 use Rattle.collector.proofs.Collected.{collected-full, head-nil-full}
 use Rattle.allocator.specs.Allocation.{take, takeCollected, goodHead, newIn}
-use Rattle.pool.proofs.RegisterLinks.{Holds}
+use Rattle.questions.proofs.RegisterLinks.{Holds}
 
 -- the head cell is taken by one write after the other
 pub taken : (w : List ℕ) (r x y v : ℕ) {i next : ℕ} {w₁ w₂ w₃ : List ℕ} → i ≡ head w → next ≡ left registerCount w i

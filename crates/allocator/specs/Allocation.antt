@@ -5,9 +5,9 @@ use mathlib.Core.List.{List}
 use mathlib.Core.Bool.{Bool, cond, _&&_}
 use lib.Dec.{eqb, leb}
 use Rattle.pool.specs.Layout.{registerCount, head, setHead, register, setRegister, putCell, state, left}
-use Rattle.pool.specs.Validity.{wellFormed}
+use Rattle.questions.specs.Validity.{wellFormed}
 use Rattle.pool.specs.States.{usedState, isFree}
-use Rattle.pool.specs.Calls.{holdsLink}
+use Rattle.questions.specs.Questions.{holdsLink}
 use Rattle.answers.specs.Outcome.{Outcome, allocated, refused}
 use Rattle.collector.specs.Collect.{reachedCount, collected, reachedVisits}
 

@@ -1,7 +1,7 @@
 // The allocation of a cell: "new" behind its first two questions. A function takes the number of cells, n, of words that hold them, and registers that there are.
 use answers::Answer;
 use answers::Refusal;
-use pool::Held;
+use questions::Held;
 use pool::Pool;
 ghost use mathlib.Core.Path.{_≡_};
 ghost use Prim.Native.Nat.{_<_, _≤_};
@@ -61,10 +61,10 @@ pub fn new_in(words: &mut [u32], n: u32, r: u32, a: u32, b: u32, v: u32) -> Answ
     requires { ⌜ (poolLength registerCount n ≤ length (now words)) × (0 < n) × (n ≤ cellLimit) × (r < registerCount) × (a < registerCount) × (b < registerCount) ⌝ }
     ensures { λ q. ⌜ (answerOutcome q, now (words .exit)) ≡ newIn n (now (words .entry)) r a b v ⌝ }
 {
-    let Held::Link(x) = pool::read_link(words, n, a) else {
+    let Held::Link(x) = questions::read_link(words, n, a) else {
         return Answer::Refused(Refusal::Malformed);
     };
-    let Held::Link(y) = pool::read_link(words, n, b) else {
+    let Held::Link(y) = questions::read_link(words, n, b) else {
         return Answer::Refused(Refusal::Malformed);
     };
     if pool::read_head(words) == 0 {

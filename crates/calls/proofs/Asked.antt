@@ -7,11 +7,11 @@ use lib.ListN.{length}
 use Rattle.answers.specs.Outcome.{Outcome, refused, refusalNumber}
 use Rattle.answers.specs.declared.Refusal.{Refusal}
 use Rattle.pool.specs.Layout.{registerCount, cellLimit, poolLength}
-use Rattle.pool.specs.declared.Named.{Named}
-use Rattle.pool.specs.declared.Admitted.{Admitted}
-use Rattle.pool.specs.declared.Admitted.the-variants as admitted
-use Rattle.pool.specs.Calls.{admitOf, admittedTo}
-use Rattle.pool.proofs.Admission.{sized-cells, registers-there, admit-cells, went-on, stopped}
+use Rattle.questions.specs.declared.Named.{Named}
+use Rattle.questions.specs.declared.Admitted.{Admitted}
+use Rattle.questions.specs.declared.Admitted.the-variants as admitted
+use Rattle.questions.specs.Questions.{admitOf, admittedTo}
+use Rattle.questions.proofs.Admission.{sized-cells, registers-there, admit-cells, went-on, stopped}
 use Rattle.calls.specs.declared.Call.{Call}
 use Rattle.calls.specs.Calls.{registersOf, bodyOf, callOf}
 

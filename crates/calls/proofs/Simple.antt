@@ -5,11 +5,11 @@ use mathlib.Core.List.{List, [], _∷_}
 use mathlib.Core.Bool.{true, false}
 use borrow.Author.Tests.{eq-eqb, ne-eqb}
 use Rattle.pool.specs.Layout.{registerCount, setRegister, cell, setCell}
-use Rattle.pool.specs.Validity.{validLink}
-use Rattle.pool.specs.Calls.{holdsLink}
+use Rattle.questions.specs.Validity.{validLink}
+use Rattle.questions.specs.Questions.{holdsLink}
 use Rattle.answers.specs.Outcome.{answered, refused}
 use Rattle.calls.specs.Calls.{copyIn, followIn, linkIn, setValueIn, valueIn, sameIn}
-use Rattle.pool.proofs.RegisterLinks.{Holds}
+use Rattle.questions.proofs.RegisterLinks.{Holds}
 
 module _ (n : ℕ) (w : List ℕ) {a x : ℕ} (h : Holds n w a x) where
   pub copied : (r : ℕ) {w' : List ℕ} → w' ≡ setRegister w r x → (answered [], w') ≡ copyIn n w r a

@@ -4,10 +4,10 @@ use mathlib.Core.List.{List, [], _∷_}
 use mathlib.Core.Bool.{Bool, true, false, cond, _&&_}
 use lib.Dec.{eqb}
 use Rattle.pool.specs.Layout.{registerCount, register, setRegister, cell, setCell, value}
-use Rattle.pool.specs.Validity.{validLink}
-use Rattle.pool.specs.Calls.{admitOf, admittedTo, holdsLink}
+use Rattle.questions.specs.Validity.{validLink}
+use Rattle.questions.specs.Questions.{admitOf, admittedTo, holdsLink}
 use Rattle.answers.specs.Outcome.{Outcome, answered, refused}
-use Rattle.pool.specs.declared.Named.{Named}
+use Rattle.questions.specs.declared.Named.{Named}
 use Rattle.collector.specs.Collect.{collectIn}
 use Rattle.allocator.specs.Allocation.{newIn}
 use Rattle.calls.specs.declared.Call.{Call}

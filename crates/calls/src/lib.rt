@@ -2,9 +2,9 @@
 // that hold them, and registers that there are. The others ask these questions first, and run on any words and any numbers.
 use answers::Answer;
 use answers::Refusal;
-use pool::Admitted;
-use pool::Held;
-use pool::Named;
+use questions::Admitted;
+use questions::Held;
+use questions::Named;
 use pool::Pool;
 ghost use mathlib.Core.Path.{_≡_};
 ghost use Prim.Native.Nat.{_<_, _≤_};
@@ -39,7 +39,7 @@ fn copy_in(words: &mut [u32], n: u32, r: u32, a: u32) -> Answer
     requires { ⌜ (poolLength registerCount n ≤ length (now words)) × (r < registerCount) × (a < registerCount) ⌝ }
     ensures { λ q. ⌜ (answerOutcome q, now (words .exit)) ≡ copyIn n (now (words .entry)) r a ⌝ }
 {
-    let Held::Link(x) = pool::read_link(words, n, a) else {
+    let Held::Link(x) = questions::read_link(words, n, a) else {
         return Answer::Refused(Refusal::Malformed);
     };
     pool::write_register(words, r, x);
@@ -60,14 +60,14 @@ fn follow_in(words: &mut [u32], n: u32, field: usize, r: u32, a: u32) -> Answer
     requires { ⌜ (poolLength registerCount n ≤ length (now words)) × (field < 4) × (r < registerCount) × (a < registerCount) ⌝ }
     ensures { λ q. ⌜ (answerOutcome q, now (words .exit)) ≡ followIn n (now (words .entry)) field r a ⌝ }
 {
-    let Held::Link(x) = pool::read_link(words, n, a) else {
+    let Held::Link(x) = questions::read_link(words, n, a) else {
         return Answer::Refused(Refusal::Malformed);
     };
     if x == 0 {
         return Answer::Refused(Refusal::Nil);
     }
     let link = pool::read_cell(words, x, field);
-    if pool::valid_link(words, n, link) {
+    if questions::valid_link(words, n, link) {
         pool::write_register(words, r, link);
         Answer::Done
     } else {
@@ -80,10 +80,10 @@ fn link_in(words: &mut [u32], n: u32, field: usize, a: u32, b: u32) -> Answer
     requires { ⌜ (poolLength registerCount n ≤ length (now words)) × (field < 4) × (a < registerCount) × (b < registerCount) ⌝ }
     ensures { λ q. ⌜ (answerOutcome q, now (words .exit)) ≡ linkIn n (now (words .entry)) field a b ⌝ }
 {
-    let Held::Link(y) = pool::read_link(words, n, b) else {
+    let Held::Link(y) = questions::read_link(words, n, b) else {
         return Answer::Refused(Refusal::Malformed);
     };
-    let Held::Link(x) = pool::read_link(words, n, a) else {
+    let Held::Link(x) = questions::read_link(words, n, a) else {
         return Answer::Refused(Refusal::Malformed);
     };
     if x == 0 {
@@ -98,7 +98,7 @@ fn set_value_in(words: &mut [u32], n: u32, a: u32, v: u32) -> Answer
     requires { ⌜ (poolLength registerCount n ≤ length (now words)) × (a < registerCount) ⌝ }
     ensures { λ q. ⌜ (answerOutcome q, now (words .exit)) ≡ setValueIn n (now (words .entry)) a v ⌝ }
 {
-    let Held::Link(x) = pool::read_link(words, n, a) else {
+    let Held::Link(x) = questions::read_link(words, n, a) else {
         return Answer::Refused(Refusal::Malformed);
     };
     if x == 0 {
@@ -113,7 +113,7 @@ fn value_in(words: &[u32], n: u32, a: u32) -> Answer
     requires { ⌜ (poolLength registerCount n ≤ length (now words)) × (a < registerCount) ⌝ }
     ensures { λ q. ⌜ (answerOutcome q, now (words .entry)) ≡ valueIn n (now (words .entry)) a ⌝ }
 {
-    let Held::Link(x) = pool::read_link(words, n, a) else {
+    let Held::Link(x) = questions::read_link(words, n, a) else {
         return Answer::Refused(Refusal::Malformed);
     };
     if x == 0 {
@@ -127,10 +127,10 @@ fn same_in(words: &[u32], n: u32, a: u32, b: u32) -> Answer
     requires { ⌜ (poolLength registerCount n ≤ length (now words)) × (a < registerCount) × (b < registerCount) ⌝ }
     ensures { λ q. ⌜ (answerOutcome q, now (words .entry)) ≡ sameIn n (now (words .entry)) a b ⌝ }
 {
-    let Held::Link(x) = pool::read_link(words, n, a) else {
+    let Held::Link(x) = questions::read_link(words, n, a) else {
         return Answer::Refused(Refusal::Malformed);
     };
-    let Held::Link(y) = pool::read_link(words, n, b) else {
+    let Held::Link(y) = questions::read_link(words, n, b) else {
         return Answer::Refused(Refusal::Malformed);
     };
     if x == y {
@@ -155,7 +155,7 @@ fn names(r: u32, a: u32, b: u32) -> Named
 pub fn copy(words: &mut [u32], r: u32, a: u32) -> Answer
     ensures { λ q. ⌜ (answerOutcome q, now (words .exit)) ≡ callOf (Call.Copy r a) (now (words .entry)) ⌝ }
 {
-    match pool::admit(words, names(r, a, a)) {
+    match questions::admit(words, names(r, a, a)) {
         Admitted::Cells(n) => copy_in(words, n, r, a),
         Admitted::Refused(k) => Answer::Refused(k),
     }
@@ -165,7 +165,7 @@ pub fn copy(words: &mut [u32], r: u32, a: u32) -> Answer
 pub fn clear(words: &mut [u32], r: u32) -> Answer
     ensures { λ q. ⌜ (answerOutcome q, now (words .exit)) ≡ callOf (Call.Clear r) (now (words .entry)) ⌝ }
 {
-    match pool::admit(words, names(r, r, r)) {
+    match questions::admit(words, names(r, r, r)) {
         Admitted::Cells(_) => clear_in(words, r),
         Admitted::Refused(k) => Answer::Refused(k),
     }
@@ -175,7 +175,7 @@ pub fn clear(words: &mut [u32], r: u32) -> Answer
 pub fn new(words: &mut [u32], r: u32, a: u32, b: u32, v: u32) -> Answer
     ensures { λ q. ⌜ (answerOutcome q, now (words .exit)) ≡ callOf (Call.New r a b v) (now (words .entry)) ⌝ }
 {
-    match pool::admit(words, names(r, a, b)) {
+    match questions::admit(words, names(r, a, b)) {
         Admitted::Cells(n) => allocator::new_in(words, n, r, a, b, v),
         Admitted::Refused(k) => Answer::Refused(k),
     }
@@ -185,7 +185,7 @@ pub fn new(words: &mut [u32], r: u32, a: u32, b: u32, v: u32) -> Answer
 pub fn left(words: &mut [u32], r: u32, a: u32) -> Answer
     ensures { λ q. ⌜ (answerOutcome q, now (words .exit)) ≡ callOf (Call.Left r a) (now (words .entry)) ⌝ }
 {
-    match pool::admit(words, names(r, a, a)) {
+    match questions::admit(words, names(r, a, a)) {
         Admitted::Cells(n) => follow_in(words, n, Pool::LEFT, r, a),
         Admitted::Refused(k) => Answer::Refused(k),
     }
@@ -195,7 +195,7 @@ pub fn left(words: &mut [u32], r: u32, a: u32) -> Answer
 pub fn right(words: &mut [u32], r: u32, a: u32) -> Answer
     ensures { λ q. ⌜ (answerOutcome q, now (words .exit)) ≡ callOf (Call.Right r a) (now (words .entry)) ⌝ }
 {
-    match pool::admit(words, names(r, a, a)) {
+    match questions::admit(words, names(r, a, a)) {
         Admitted::Cells(n) => follow_in(words, n, Pool::RIGHT, r, a),
         Admitted::Refused(k) => Answer::Refused(k),
     }
@@ -205,7 +205,7 @@ pub fn right(words: &mut [u32], r: u32, a: u32) -> Answer
 pub fn set_left(words: &mut [u32], a: u32, b: u32) -> Answer
     ensures { λ q. ⌜ (answerOutcome q, now (words .exit)) ≡ callOf (Call.SetLeft a b) (now (words .entry)) ⌝ }
 {
-    match pool::admit(words, names(a, b, b)) {
+    match questions::admit(words, names(a, b, b)) {
         Admitted::Cells(n) => link_in(words, n, Pool::LEFT, a, b),
         Admitted::Refused(k) => Answer::Refused(k),
     }
@@ -215,7 +215,7 @@ pub fn set_left(words: &mut [u32], a: u32, b: u32) -> Answer
 pub fn set_right(words: &mut [u32], a: u32, b: u32) -> Answer
     ensures { λ q. ⌜ (answerOutcome q, now (words .exit)) ≡ callOf (Call.SetRight a b) (now (words .entry)) ⌝ }
 {
-    match pool::admit(words, names(a, b, b)) {
+    match questions::admit(words, names(a, b, b)) {
         Admitted::Cells(n) => link_in(words, n, Pool::RIGHT, a, b),
         Admitted::Refused(k) => Answer::Refused(k),
     }
@@ -225,7 +225,7 @@ pub fn set_right(words: &mut [u32], a: u32, b: u32) -> Answer
 pub fn set_value(words: &mut [u32], a: u32, v: u32) -> Answer
     ensures { λ q. ⌜ (answerOutcome q, now (words .exit)) ≡ callOf (Call.SetValue a v) (now (words .entry)) ⌝ }
 {
-    match pool::admit(words, names(a, a, a)) {
+    match questions::admit(words, names(a, a, a)) {
         Admitted::Cells(n) => set_value_in(words, n, a, v),
         Admitted::Refused(k) => Answer::Refused(k),
     }
@@ -235,7 +235,7 @@ pub fn set_value(words: &mut [u32], a: u32, v: u32) -> Answer
 pub fn value(words: &[u32], a: u32) -> Answer
     ensures { λ q. ⌜ (answerOutcome q, now (words .entry)) ≡ callOf (Call.Value a) (now (words .entry)) ⌝ }
 {
-    match pool::admit(words, names(a, a, a)) {
+    match questions::admit(words, names(a, a, a)) {
         Admitted::Cells(n) => value_in(words, n, a),
         Admitted::Refused(k) => Answer::Refused(k),
     }
@@ -245,7 +245,7 @@ pub fn value(words: &[u32], a: u32) -> Answer
 pub fn same(words: &[u32], a: u32, b: u32) -> Answer
     ensures { λ q. ⌜ (answerOutcome q, now (words .entry)) ≡ callOf (Call.Same a b) (now (words .entry)) ⌝ }
 {
-    match pool::admit(words, names(a, b, b)) {
+    match questions::admit(words, names(a, b, b)) {
         Admitted::Cells(n) => same_in(words, n, a, b),
         Admitted::Refused(k) => Answer::Refused(k),
     }
@@ -255,7 +255,7 @@ pub fn same(words: &[u32], a: u32, b: u32) -> Answer
 pub fn collect(words: &mut [u32]) -> Answer
     ensures { λ q. ⌜ (answerOutcome q, now (words .exit)) ≡ callOf Call.Collect (now (words .entry)) ⌝ }
 {
-    match pool::admit(words, names(0, 0, 0)) {
+    match questions::admit(words, names(0, 0, 0)) {
         Admitted::Cells(n) => collector::collect_in(words, n),
         Admitted::Refused(k) => Answer::Refused(k),
     }

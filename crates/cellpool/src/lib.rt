@@ -6,7 +6,8 @@ use save::Saved;
 use tally::Tally;
 ghost use mathlib.Core.Path.{_≡_};
 ghost use Rattle.answers.specs.Outcome.{answerOutcome};
-ghost use Rattle.pool.specs.Calls.{freshOf, occupancyOf};
+ghost use Rattle.pool.specs.Fresh.{freshOf};
+ghost use Rattle.occupancy.specs.Occupancy.{occupancyOf};
 ghost use Rattle.calls.specs.declared.Call.{Call};
 ghost use Rattle.calls.specs.Calls.{callOf};
 ghost use Rattle.recursive_marker.specs.Recursive.{recursiveOf};
@@ -241,5 +242,5 @@ pub extern "C" fn cellpool_check_image(bytes: &[u8], n: u32) -> u32
 pub extern "C" fn cellpool_occupancy(kept: u32, n: u32, percent: &mut u32) -> u32
     ensures { λ q. ⌜ (q, now (percent .exit)) ≡ number (occupancyOf kept n) (now (percent .entry)) ⌝ }
 {
-    store(pool::occupancy(kept, n), percent)
+    store(occupancy::occupancy(kept, n), percent)
 }

@@ -10,8 +10,8 @@ use Rattle.graph.specs.Graph.{Graph}
 use Rattle.graph.specs.Dfs.{mark, marks, Dfs}
 use Rattle.pool.specs.Layout.{cell, state, left, right, setNode}
 use Rattle.pool.specs.States.{isUsed, asMarked}
-use Rattle.collector.specs.Reversal.{unmarked, markAll}
-use Rattle.collector.specs.ReversalTheorem.{Agreement, Untouched}
+use Rattle.collector.specs.Reversal.{unmarked}
+use Rattle.collector.specs.ReversalTheorem.{markAll, Agreement, Untouched}
 use Rattle.pool.proofs.Node.{length-setNode, cell-setNode, state-setNode, setNode-links}
 use Rattle.graph.proofs.Marks.{above-nil, mark-self, mark-other}
 use Rattle.graph.proofs.Visits.{fresh}

@@ -9,13 +9,13 @@ use borrow.Author.Tests.{lt-ltb}
 use Rattle.graph.proofs.Theorems.{preorder-reached, preorder-distinct}
 use Rattle.graph.proofs.Reached.{reach-above, reach-within}
 use Rattle.pool.specs.Layout.{registerCount, poolLength, cellCount, count, graphOf, rootsOf}
-use Rattle.pool.specs.Validity.{wellFormed}
+use Rattle.questions.specs.Validity.{wellFormed}
 use Rattle.pool.specs.States.{isFree}
 use Rattle.pool.specs.Retain.{sweepOf}
 use Rattle.answers.specs.Outcome.{Outcome, answered}
-use Rattle.pool.proofs.Questions.{cells-sized, cells-same}
-use Rattle.pool.proofs.WellFormed.{WellFormed, well-formed-read, well-formed-made}
-use Rattle.pool.proofs.PoolGraph.{pool-within}
+use Rattle.pool.proofs.Sizes.{cells-sized, cells-same}
+use Rattle.questions.proofs.WellFormed.{WellFormed, well-formed-read, well-formed-made}
+use Rattle.questions.proofs.PoolGraph.{pool-within}
 use Rattle.pool.proofs.Retained.{length-retain, retain-register, retain-count}
 use Rattle.pool.proofs.RetainedPool.{retained-used, retained-free, retained-free-list}
 use Rattle.collector.specs.Collect.{reachedCells, isReached, reachedCount, collected, collectIn, collectOf, visitsOf, reachedVisits}

@@ -20,10 +20,11 @@ use Rattle.graph.proofs.Reached.{reach-above, reach-within}
 use Rattle.pool.specs.Layout.{poolLength, head, register, cell, state, left, right, graphOf, rootsOf}
 use Rattle.pool.specs.Retain.{retain, keptCount}
 use Rattle.pool.proofs.Every.{tabulate-cong, member-tabulate}
-use Rattle.pool.proofs.WellFormed.{WellFormed}
-use Rattle.pool.proofs.PoolGraph.{reached-used, pool-within}
+use Rattle.questions.proofs.WellFormed.{WellFormed}
+use Rattle.questions.proofs.PoolGraph.{reached-used, pool-within}
 use Rattle.pool.proofs.Retained.{retain-register, retain-head}
-use Rattle.pool.proofs.RetainedPool.{Kept, retained-same, retained-well-formed}
+use Rattle.questions.proofs.RetainedPool.{Kept, retained-well-formed}
+use Rattle.pool.proofs.RetainedPool.{retained-same}
 use Rattle.pool.proofs.AllKept.{counted-all, all-counted, none-free-all, retain-all, retain-again}
 use Rattle.collector.specs.Collect.{reachedCells, isReached, reachedCount, collected}
 

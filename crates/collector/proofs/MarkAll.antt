@@ -11,7 +11,7 @@ use Rattle.pool.specs.Layout.{poolLength, cell, setCell, state, register, setNo
 use Rattle.pool.specs.States.{isMarked, asMarked, markCell}
 use Rattle.pool.proofs.States.{marked-marked, marked-again}
 use Rattle.pool.proofs.Laws.{length-setCell, register-setCell, cell-same, cell-other, setCell-comm}
-use Rattle.collector.specs.Reversal.{markAll}
+use Rattle.collector.specs.ReversalTheorem.{markAll}
 
 module _ (R : ℕ) where
   -- every part of the words that a write of a state leaves as it is

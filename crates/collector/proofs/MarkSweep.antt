@@ -10,10 +10,10 @@ use Rattle.graph.proofs.Reached.{reach-above, reach-within}
 use Rattle.pool.specs.Layout.{poolLength, setCell, state}
 use Rattle.pool.specs.Retain.{markedCell, sweepOf}
 use Rattle.pool.specs.States.{isMarked, asMarked, markCell}
-use Rattle.pool.proofs.WellFormed.{Cell, WellFormed, cell-unmarked}
-use Rattle.pool.proofs.PoolGraph.{pool-within}
+use Rattle.questions.proofs.WellFormed.{Cell, WellFormed, cell-unmarked}
+use Rattle.questions.proofs.PoolGraph.{pool-within}
 use Rattle.pool.proofs.Retained.{Elsewhere, setCell-elsewhere, kept-cong, retain-cong}
-use Rattle.collector.specs.Reversal.{markAll}
+use Rattle.collector.specs.ReversalTheorem.{markAll}
 use Rattle.collector.specs.Collect.{reachedCells, isReached, reachedCount, collected}
 use Rattle.collector.proofs.MarkAll.{length-markAll, field-markAll, state-markAll-same, state-markAll-other}
 use Rattle.collector.proofs.Collected.{kept-reached, kept-count}

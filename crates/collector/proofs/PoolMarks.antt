@@ -13,10 +13,10 @@ use Rattle.graph.proofs.Marks.{outside-nil, outside-cell, zero-or-above}
 use Rattle.graph.proofs.Congruence.{Alike}
 use Rattle.pool.specs.Layout.{poolLength, state, graphOf, rootsOf}
 use Rattle.pool.specs.States.{isUsed}
-use Rattle.pool.proofs.Questions.{both}
+use Rattle.pool.proofs.Sizes.{both}
 use Rattle.pool.proofs.States.{used-is}
-use Rattle.pool.proofs.WellFormed.{WellFormed}
-use Rattle.pool.proofs.PoolGraph.{Used, link-bound, used-links, reached-used}
+use Rattle.questions.proofs.WellFormed.{WellFormed}
+use Rattle.questions.proofs.PoolGraph.{Used, link-bound, used-links, reached-used}
 use Rattle.collector.specs.ReversalTheorem.{Agreement}
 
 -- The states of the n cells as marks: a cell that is not used is marked, and so is everything that is no cell.

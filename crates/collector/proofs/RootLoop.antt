@@ -9,14 +9,15 @@ use lib.ListN.{length, drop}
 use lib.Seq.{drop-cons, drop-length}
 use Rattle.graph.proofs.Theorems.{preorder-length}
 use Rattle.pool.specs.Layout.{cellLimit, poolLength, register, setCell, rootsOf, graphOf}
-use Rattle.pool.specs.Validity.{wellFormed}
+use Rattle.questions.specs.Validity.{wellFormed}
 use Rattle.pool.proofs.Every.{length-tabulate, getD-tabulate, member-tabulate}
 use Rattle.pool.proofs.Laws.{register-setCell, length-setCell}
-use Rattle.pool.proofs.WellFormed.{well-formed-read}
-use Rattle.pool.proofs.PoolGraph.{pool-within}
+use Rattle.questions.proofs.WellFormed.{well-formed-read}
+use Rattle.questions.proofs.PoolGraph.{pool-within}
 use Rattle.collector.specs.declared.Marker.{Marker}
-use Rattle.collector.specs.Reversal.{unmarked, visitOf, Visits, Run, EndingRun}
-use Rattle.collector.specs.ReversalTheorem.{MarkRoots, markedOf}
+use Rattle.collector.specs.Reversal.{unmarked, visitOf, Visits, Run, MarkRoots}
+use Rattle.collector.specs.Steps.{EndingRun}
+use Rattle.collector.specs.ReversalTheorem.{markedOf}
 use Rattle.collector.proofs.RunLoop.{counted}
 use Rattle.collector.specs.Collect.{reachedCells}
 use Rattle.collector.proofs.VisitCount.{visits-three}

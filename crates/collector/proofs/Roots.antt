@@ -8,15 +8,15 @@ use lib.ListN.{length, length-append}
 use Rattle.graph.specs.Graph.{Graph}
 use Rattle.graph.specs.Dfs.{marks, Dfs, DfsAll}
 use Rattle.pool.specs.Layout.{graphOf, rootsOf}
-use Rattle.collector.specs.Reversal.{markAll}
+use Rattle.collector.specs.ReversalTheorem.{markAll, Agreement, RunFromRoots, RunOverPool}
 use Rattle.collector.specs.Collect.{reachedCells, visitsOf}
-use Rattle.collector.specs.ReversalTheorem.{Agreement, MarkRoots, RunFromRoots, RunOverPool}
+use Rattle.collector.specs.Reversal.{MarkRoots}
 use Rattle.collector.proofs.MarkAll.{markAll-append}
 use Rattle.collector.proofs.Agreement.{unmarked-true, unmarked-false, agreement-dfs}
 use Rattle.graph.proofs.Congruence.{dfs-all-alike}
 use Rattle.graph.proofs.Depth.{order-dfs}
-use Rattle.pool.proofs.WellFormed.{well-formed-read}
-use Rattle.pool.proofs.PoolGraph.{pool-within}
+use Rattle.questions.proofs.WellFormed.{well-formed-read}
+use Rattle.questions.proofs.PoolGraph.{pool-within}
 use Rattle.collector.proofs.VisitCount.{visits-of-append}
 use Rattle.collector.proofs.PoolMarks.{stateMarks, agreement, alike}
 use Rattle.collector.proofs.Run.{run-from-link}

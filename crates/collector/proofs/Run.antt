@@ -13,8 +13,8 @@ use Rattle.pool.specs.Layout.{poolLength, setCell, state, left, right, setNode}
 use Rattle.pool.specs.States.{isMarked, markCell}
 use Rattle.pool.proofs.Laws.{cell-same, cell-other}
 use Rattle.collector.specs.declared.Marker.{Marker}
-use Rattle.collector.specs.Reversal.{unmarked, visitOf, Visitable, Visits, marker, markAll}
-use Rattle.collector.specs.ReversalTheorem.{Agreement, Untouched, RunFromLink}
+use Rattle.collector.specs.Reversal.{unmarked, visitOf, Visitable, Visits, marker}
+use Rattle.collector.specs.ReversalTheorem.{markAll, Agreement, Untouched, RunFromLink}
 use Rattle.pool.proofs.Node.{state-setLinks, setNode-again, setNode-links, setNode-same, Node, node-set}
 use Rattle.collector.proofs.MarkAll.{markAll-append, length-markAll, markAll-setNode}
 use Rattle.collector.proofs.VisitCount.{visits-cons, visits-of-append}

@@ -9,7 +9,8 @@ use Rattle.pool.specs.Layout.{poolLength, setCell, state, left}
 use Rattle.pool.specs.States.{isMarked}
 use Rattle.pool.proofs.Laws.{length-setCell}
 use Rattle.collector.specs.declared.Marker.{Marker}
-use Rattle.collector.specs.Reversal.{unmarked, visitOf, Visitable, Visits, marker, Run, EndingRun}
+use Rattle.collector.specs.Reversal.{unmarked, visitOf, Visitable, Visits, marker, Run}
+use Rattle.collector.specs.Steps.{EndingRun}
 use Rattle.collector.proofs.Measure.{remaining, remaining-visit}
 
 length-visit : (R : ℕ) (s : Marker × List ℕ) → length (visitOf R s .1) ≡ length (s .1)

@@ -5,8 +5,8 @@ use mathlib.Core.Bool.{Bool, cond}
 use lib.ListN.{length}
 use Rattle.graph.specs.Preorder.{elem, preorder}
 use Rattle.pool.specs.Layout.{registerCount, graphOf, rootsOf}
-use Rattle.pool.specs.Validity.{wellFormed}
-use Rattle.pool.specs.Calls.{sizedOf, admittedTo}
+use Rattle.questions.specs.Validity.{wellFormed}
+use Rattle.questions.specs.Questions.{sizedOf, admittedTo}
 use Rattle.pool.specs.Retain.{retain}
 use Rattle.answers.specs.Outcome.{Outcome, answered, refused}
 

@@ -9,11 +9,11 @@ use Rattle.graph.specs.Graph.{Reach}
 use Rattle.graph.specs.Theorems.{Distinct}
 use Rattle.pool.specs.Layout.{registerCount, cellCount, count, head, register, state, left, right, value, graphOf, rootsOf}
 use Rattle.pool.specs.States.{isUsed, isFree}
-use Rattle.pool.specs.Validity.{wellFormed}
+use Rattle.questions.specs.Validity.{wellFormed}
 use Rattle.pool.specs.Retain.{freeList, freeCells, sweepOf}
 use Rattle.answers.specs.Outcome.{answered}
 use Rattle.collector.specs.Collect.{isReached, collectOf}
-use Rattle.collector.specs.ReversalTheorem.{MarkRoots}
+use Rattle.collector.specs.Reversal.{MarkRoots}
 
 -- Cell x can be reached from the registers over left and right.
 abbrev pub Reached : List ℕ → ℕ → Type 0

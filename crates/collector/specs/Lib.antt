@@ -1,4 +1,5 @@
 pub mod Reversal
 pub mod Collect
 pub mod ReversalTheorem
+pub mod Steps
 pub mod CollectTheorem

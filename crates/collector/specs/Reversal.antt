@@ -1,10 +1,11 @@
 -- Marking by link reversal (01, "Marking by reversal", after source document 000).
-use Prim.Native.Nat.{ℕ, suc, _^_, _<_, _≤_}
+use Prim.Native.Nat.{ℕ, suc, _<_, _≤_}
+use mathlib.Core.Path.{_≡_}
 use mathlib.Core.List.{List, [], _∷_}
-use mathlib.Core.Bool.{Bool, cond, _||_, _&&_, not}
+use mathlib.Core.Bool.{Bool, true, false, cond, _||_, _&&_, not}
 use lib.Dec.{eqb}
 use Rattle.pool.specs.Layout.{state, left, right, setCell}
-use Rattle.pool.specs.States.{isUsed, isMarked, markCell}
+use Rattle.pool.specs.States.{isUsed, isMarked}
 use Rattle.collector.specs.declared.Marker.{Marker}
 
 -- "nil counts as marked and is never visited": a link is unmarked if it is a cell's number and that cell's state is that of a used one.
@@ -46,13 +47,10 @@ marker p q c = record { cell = p; previous = q; visits = c }
 abbrev pub Run : ℕ → ℕ → ℕ → ℕ × List ℕ → ℕ × List ℕ → Type 0
 Run R n p s t = (k q : ℕ) × Visits R n k (marker p (suc n) (s .0), s .1) (marker (suc n) q (t .0), t .1)
 
--- A run from the link p that comes to its end, within 2^32 visits.
-pub record EndingRun (R n p : ℕ) (s : ℕ × List ℕ) : Type 0 where
-  pub last : ℕ × List ℕ
-  pub run : Run R n p s last
-  pub fits : last .0 < 2 ^ 32
-
--- The words with every cell of a list marked.
-unfoldable pub markAll : ℕ → List ℕ → List ℕ → List ℕ
-markAll R w [] = w
-markAll R w (x ∷ xs) = markAll R (markCell R w x) xs
+-- "It runs from each register in order .. whose cell has state 0": the links of the registers are given; a pair is the number of visits and the
+-- words, before and after.
+pub data MarkRoots (R n : ℕ) : List ℕ → ℕ × List ℕ → ℕ × List ℕ → Type 0 where
+  none : {s : ℕ × List ℕ} → MarkRoots R n [] s s
+  skip : {p : ℕ} {ps : List ℕ} {s t : ℕ × List ℕ} → unmarked R (s .1) p ≡ false → MarkRoots R n ps s t → MarkRoots R n (p ∷ ps) s t
+  run : {p : ℕ} {ps : List ℕ} {s u t : ℕ × List ℕ} → unmarked R (s .1) p ≡ true → Run R n p s u → MarkRoots R n ps u t
+      → MarkRoots R n (p ∷ ps) s t

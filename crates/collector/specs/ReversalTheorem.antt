@@ -7,10 +7,15 @@ use lib.ListN.{length}
 use Rattle.graph.specs.Graph.{Graph}
 use Rattle.graph.specs.Dfs.{Dfs, DfsAll}
 use Rattle.pool.specs.Layout.{poolLength, state, left, right, rootsOf}
-use Rattle.pool.specs.States.{usedState, isUsed}
-use Rattle.pool.specs.Validity.{wellFormed}
-use Rattle.collector.specs.Reversal.{unmarked, Visits, marker, Run, markAll}
+use Rattle.pool.specs.States.{usedState, isUsed, markCell}
+use Rattle.questions.specs.Validity.{wellFormed}
+use Rattle.collector.specs.Reversal.{Visits, marker, MarkRoots}
 use Rattle.collector.specs.Collect.{reachedCells, reachedCount, visitsOf, reachedVisits}
+
+-- The words with every cell of a list marked.
+unfoldable pub markAll : ℕ → List ℕ → List ℕ → List ℕ
+markAll R w [] = w
+markAll R w (x ∷ xs) = markAll R (markCell R w x) xs
 
 -- What the words have to say of an unmarked cell x of the graph g of n cells: it is used, and has the links of the graph, which are nil or cells.
 pub record Untouched (R n : ℕ) (g : Graph) (w : List ℕ) (x : ℕ) : Type 0 where
@@ -37,14 +42,6 @@ abbrev pub RunFromLink : Type 0
 RunFromLink =
     (R n : ℕ) (g : Graph) (m : ℕ → ℕ) (p : ℕ) (t w : List ℕ) → Agreement R n g m w → Dfs g m p t → m p ≡ 0 → (q c : ℕ)
     → Visits R n (visitsOf t) (marker p q c, w) (marker q p (c + visitsOf t), markAll R w t)
-
--- "It runs from each register in order .. whose cell has state 0": the links of the registers are given; a pair is the number of visits and the
--- words, before and after.
-pub data MarkRoots (R n : ℕ) : List ℕ → ℕ × List ℕ → ℕ × List ℕ → Type 0 where
-  none : {s : ℕ × List ℕ} → MarkRoots R n [] s s
-  skip : {p : ℕ} {ps : List ℕ} {s t : ℕ × List ℕ} → unmarked R (s .1) p ≡ false → MarkRoots R n ps s t → MarkRoots R n (p ∷ ps) s t
-  run : {p : ℕ} {ps : List ℕ} {s u t : ℕ × List ℕ} → unmarked R (s .1) p ≡ true → Run R n p s u → MarkRoots R n ps u t
-      → MarkRoots R n (p ∷ ps) s t
 
 -- Where the depth-first visits of the roots' links newly mark the cells t, the runs over the roots make three visits for each cell of t, leave
 -- state 3 in exactly these cells, and change no other word: all links are restored.

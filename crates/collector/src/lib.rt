@@ -1,7 +1,7 @@
 // Marking by link reversal, and the collection that marks and sweeps.
 use answers::Answer;
 use answers::Refusal;
-use pool::Admitted;
+use questions::Admitted;
 use pool::Pool;
 ghost use mathlib.Core.Path.{_≡_};
 ghost use Prim.Native.Nat.{ℕ, _+_, _^_, _<_, _≤_};
@@ -10,8 +10,9 @@ ghost use mathlib.Core.Bool.{true, false, cond, _||_};
 ghost use lib.ListN.{length};
 ghost use Rattle.pool.specs.Layout.{registerCount, cellLimit, poolLength};
 ghost use Rattle.pool.specs.States.{isMarked};
-ghost use Rattle.pool.specs.Validity.{wellFormed};
-ghost use Rattle.collector.specs.Reversal.{unmarked, visitOf, Visitable, marker, Run, EndingRun};
+ghost use Rattle.questions.specs.Validity.{wellFormed};
+ghost use Rattle.collector.specs.Reversal.{unmarked, visitOf, Visitable, marker, Run};
+ghost use Rattle.collector.specs.Steps.{EndingRun};
 ghost use Rattle.collector.specs.ReversalTheorem.{markedOf};
 ghost use Rattle.answers.specs.Outcome.{answerOutcome};
 ghost use Rattle.collector.specs.Collect.{collectIn, collectOf};
@@ -121,7 +122,7 @@ pub fn collect_in(words: &mut [u32], n: u32) -> Answer
     requires { ⌜ (poolLength registerCount n ≤ length (now words)) × (n ≤ cellLimit) ⌝ }
     ensures { λ r. ⌜ (answerOutcome r, now (words .exit)) ≡ collectIn n (now (words .entry)) ⌝ }
 {
-    if pool::well_formed(words, n) {
+    if questions::well_formed(words, n) {
         let visits = mark(words, n);
         let kept = pool::sweep(words, n);
         Answer::Pair(kept, visits)
@@ -134,7 +135,7 @@ pub fn collect_in(words: &mut [u32], n: u32) -> Answer
 pub fn collect(words: &mut [u32]) -> Answer
     ensures { λ r. ⌜ (answerOutcome r, now (words .exit)) ≡ collectOf (now (words .entry)) ⌝ }
 {
-    match pool::sized(words) {
+    match questions::sized(words) {
         Admitted::Cells(n) => collect_in(words, n),
         Admitted::Refused(k) => Answer::Refused(k),
     }

@@ -15,10 +15,10 @@ use Rattle.graph.proofs.Marks.{mark-self, mark-keeps, mark-cases}
 use Rattle.graph.proofs.Count.{marked-same, marked-mark, marked-le}
 use Rattle.graph.proofs.Reached.{reach-least, reach-above, reach-within}
 use Rattle.pool.specs.Layout.{registerCount, register, left, right, graphOf, rootsOf}
-use Rattle.pool.specs.Validity.{wellFormed}
+use Rattle.questions.specs.Validity.{wellFormed}
 use Rattle.pool.proofs.Every.{tabulate-member, member-tabulate}
-use Rattle.pool.proofs.WellFormed.{well-formed-read}
-use Rattle.pool.proofs.PoolGraph.{pool-within}
+use Rattle.questions.proofs.WellFormed.{well-formed-read}
+use Rattle.questions.proofs.PoolGraph.{pool-within}
 use Rattle.collector.specs.CollectTheorem.{Reached}
 use Rattle.fixpoint_marker.specs.Marks.{Exact, Marked, OnlyReached, Rooted, Closed, LinkMarked, Grown}
 

@@ -6,7 +6,7 @@ use mathlib.Core.Logic.{_⊎_, _↔_}
 use mathlib.Core.List.{List}
 use lib.ListN.{getD}
 use Rattle.graph.specs.Marking.{markedCount}
-use Rattle.pool.specs.Layout.{registerCount, register, left, right}
+use Rattle.pool.specs.Layout.{registerCount, register, linkOf}
 use Rattle.collector.specs.CollectTheorem.{Reached}
 
 -- The marks are exact: a cell is marked exactly where it is reached.
@@ -27,7 +27,7 @@ Rooted n w m = (k : ℕ) → k < registerCount → Marked n m (register w k)
 
 -- So do both links of a cell, if it is marked.
 abbrev pub Closed : ℕ → List ℕ → List ℕ → ℕ → Type 0
-Closed n w m i = 0 < getD m i 0 → Marked n m (left registerCount w i) × Marked n m (right registerCount w i)
+Closed n w m i = 0 < getD m i 0 → Marked n m (linkOf registerCount w i 1) × Marked n m (linkOf registerCount w i 2)
 
 -- The link x is marked in m, which gives m′; k cells are newly marked, one at most.
 pub record LinkMarked (n x : ℕ) (m m′ : List ℕ) (k : ℕ) : Type 0 where

@@ -6,7 +6,7 @@ ghost use Prim.Native.Nat.{ℕ, _<_, _≤_};
 ghost use mathlib.Core.Bool.{true};
 ghost use lib.ListN.{length};
 ghost use Rattle.pool.specs.Layout.{registerCount, poolLength};
-ghost use Rattle.pool.specs.Validity.{wellFormed};
+ghost use Rattle.questions.specs.Validity.{wellFormed};
 ghost use Rattle.fixpoint_marker.specs.Marks.{Exact, OnlyReached, Rooted, Closed, LinkMarked, Grown};
 
 // Marks the cell that a link leads to. Gives how many cells that newly marks: 1 or 0.

@@ -8,12 +8,12 @@ use lib.ListN.{length, getD}
 use lib.Dec.{ltb}
 use borrow.Author.Tests.{ltb-true}
 use Rattle.pool.specs.Layout.{registerCount, cellCountOfLength, cellCount}
-use Rattle.pool.specs.Validity.{wellFormed}
+use Rattle.questions.specs.Validity.{wellFormed}
 use Rattle.answers.specs.Outcome.{refusalNumber}
 use Rattle.answers.specs.declared.Refusal.{Refusal}
 use Rattle.answers.specs.declared.Refusal.the-variants as refusal
-use Rattle.pool.proofs.Questions.{length-sized}
-use Rattle.pool.proofs.WellFormed.{well-formed-made}
+use Rattle.pool.proofs.Sizes.{length-sized}
+use Rattle.questions.proofs.WellFormed.{well-formed-made}
 use Rattle.image.specs.Image.{fieldCount, Image, readImage}
 use Rattle.image.specs.Load.{scanOf, loadImage, LoadIsWellFormed}
 use Rattle.image.proofs.Scanning.{Whole, image-whole}

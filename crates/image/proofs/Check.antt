@@ -7,7 +7,7 @@ use mathlib.Core.List.{List}
 use lib.ListN.{length}
 use borrow.Author.Tests.{le-leb, lt-leb}
 use Rattle.pool.specs.Layout.{registerCount, cellLimit, poolLength, cellCountOfLength}
-use Rattle.pool.proofs.Questions.{length-sized, sized-length}
+use Rattle.pool.proofs.Sizes.{length-sized, sized-length}
 use Rattle.image.specs.Image.{Image, readImage}
 use Rattle.image.specs.Load.{imageVerdict, loadImage, checkOf, loadOf, CheckIsLoad}
 

@@ -10,10 +10,11 @@ use borrow.Author.Tests.{le-leb, lt-leb, leb-true, ne-eqb}
 use Rattle.pool.specs.Words.{tabulate}
 use Rattle.pool.specs.Layout.{poolLength, cellCountOfLength, cellCount, cellLimit, count, register, cell}
 use Rattle.pool.specs.Retain.{freeList, freeCells}
-use Rattle.pool.proofs.Questions.{sized-length, same-count}
+use Rattle.pool.proofs.Sizes.{sized-length, same-count}
 use Rattle.pool.proofs.Retained.{length-retain, retain-count, retain-register}
-use Rattle.pool.proofs.RetainedPool.{Kept, retained-same, retained-well-formed, retained-free-list}
-use Rattle.pool.proofs.WellFormed.{WellFormed}
+use Rattle.questions.proofs.RetainedPool.{Kept, retained-well-formed}
+use Rattle.pool.proofs.RetainedPool.{retained-same, retained-free-list}
+use Rattle.questions.proofs.WellFormed.{WellFormed}
 use Rattle.image.specs.Image.{isValue, fieldCount}
 use Rattle.image.specs.Load.{imageWord, loadedWords}
 use Rattle.image.proofs.Loading.{Holds, image-holds}

@@ -16,7 +16,7 @@ use Rattle.pool.specs.Retain.{lowestFree, freeAbove, keptField, freeField, reta
 use Rattle.answers.specs.Outcome.{refusalNumber}
 use Rattle.answers.specs.declared.Refusal.{Refusal}
 use Rattle.pool.proofs.Every.{length-tabulate, getD-tabulate}
-use Rattle.pool.proofs.Questions.{Sized, length-sized}
+use Rattle.pool.proofs.Sizes.{Sized, length-sized}
 use Rattle.pool.proofs.Retained.{length-retain, retain-count, retain-head, retain-register, retain-cell}
 use Rattle.image.specs.declared.Scan.{Scan}
 use Rattle.image.specs.declared.Scan.the-variants as scan

@@ -7,7 +7,7 @@ use lib.ListN.{length, getD, drop}
 use lib.Dec.{eqb, leb, ltb}
 use Rattle.pool.specs.Words.{tabulate}
 use Rattle.pool.specs.Layout.{registerCount, cellLimit, poolLength, cellCountOfLength, cellCount, cellAt, setCell}
-use Rattle.pool.specs.Validity.{wellFormed}
+use Rattle.questions.specs.Validity.{wellFormed}
 use Rattle.pool.specs.Retain.{retain}
 use Rattle.answers.specs.Outcome.{refusalNumber}
 use Rattle.image.specs.declared.Scan.{Scan}

@@ -10,9 +10,9 @@ use lib.Dec.{leb, ltb}
 use borrow.Author.Tests.{lt-ltb, le-leb, ltb-true, leb-true}
 use Rattle.pool.specs.Layout.{cellLimit, registerCount, poolLength, cellCountOfLength}
 use Rattle.answers.specs.Outcome.{Outcome, answered, refused}
-use Rattle.pool.specs.Calls.{freshOf}
+use Rattle.pool.specs.Fresh.{freshOf}
 use Rattle.pool.specs.Retain.{freshWords}
-use Rattle.pool.proofs.Questions.{both, sized-length}
+use Rattle.pool.proofs.Sizes.{both, sized-length}
 use Rattle.pool.proofs.FreshPool.{fresh-exact}
 use Rattle.calls.specs.declared.Call.{Call}
 use Rattle.calls.specs.Calls.{callOf}

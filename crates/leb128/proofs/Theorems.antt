@@ -8,8 +8,7 @@ use native.Mathlib.Omega.{arith}
 use lib.ListN.{length, drop, length-append, length-drop, drop-of-length-le}
 use lib.Seq.{drop-append-seam, getD-drop}
 use Rattle.leb128.specs.declared.Number.the-variants.{Value}
-use Rattle.leb128.specs.Leb128.{mapValue, readGroups, readAt, groups, encode, Bytes}
-use Rattle.leb128.specs.Leb128.{RoundTrip, FewestGroups, PrefixFree, EncodeInjective, OneToFiveBytes, ReadsWithin}
+use Rattle.leb128.specs.Leb128.{mapValue, readGroups, readAt, groups, encode, Bytes, RoundTrip, FewestGroups, PrefixFree, EncodeInjective, OneToFiveBytes, ReadsWithin}
 use Rattle.leb128.proofs.Encoding.{groups-last, groups-more, one-left, one-group, at-most-more, encode-size}
 use Rattle.leb128.proofs.Decoding.{read-fifth, read-last, read-more, Reads, fifth, last, above, number-reads}
 

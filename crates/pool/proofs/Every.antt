@@ -9,7 +9,7 @@ use native.Mathlib.Decide.{decLt}
 use lib.ListN.{length, getD, length-append, List·getD-append}
 use lib.Seq.{getD-at, ext-getD}
 use Rattle.pool.specs.Words.{tabulate, every}
-use Rattle.pool.proofs.Questions.{both}
+use Rattle.pool.proofs.Sizes.{both}
 
 -- nothing to test; the highest number tested passes, or fails
 module _ (p : ℕ → Bool) where

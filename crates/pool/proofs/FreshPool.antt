@@ -1,9 +1,9 @@
--- Fresh words: what `Pool::fresh` leaves, and that they are well-formed with every cell on the free list.
+-- Fresh words: what `Pool::fresh` leaves, and that every cell is on the free list.
 use Prim.Native.Nat.{ℕ, zero, suc, _+_, _*_, _<_, _≤_}
 use native.Mathlib.Omega.{arith}
 use mathlib.Core.Path.{_≡_, refl, sym, ap, _∙_}
 use mathlib.Core.List.{List, [], _∷_, _++_, append-nil}
-use mathlib.Core.Bool.{false, false≢true}
+use mathlib.Core.Bool.{false}
 use lib.ListN.{length, getD, set, drop, replicate, length-replicate, length-append, length-drop, length-set, drop-of-length-le, List·getD-append}
 use lib.Seq.{getD-set-other}
 use borrow.Author.Tests.{lt-ltb}
@@ -11,13 +11,11 @@ use Rattle.pool.specs.Words.{tabulate}
 use Rattle.pool.specs.Layout.{registerCount, firstRegister, poolLength, cellCountOfLength, cellAt, cell, register, count, setCount}
 use Rattle.pool.specs.Retain.{freeCells, markedCell, sweepOf, blankWords, freshWords}
 use Rattle.answers.specs.Outcome.{Outcome, answered}
-use Rattle.pool.specs.Calls.{freshOf}
-use Rattle.pool.specs.FreshPool.{FreshIsWellFormed, FreshIsFree}
-use Rattle.pool.proofs.Questions.{length-sized, sized-length, same-count}
+use Rattle.pool.specs.Fresh.{freshOf, FreshIsFree}
+use Rattle.pool.proofs.Sizes.{length-sized, sized-length, same-count}
 use Rattle.pool.proofs.Every.{tabulate-list, tabulate-cong}
 use Rattle.pool.proofs.Retained.{length-retain, retain-count, retain-cong}
-use Rattle.pool.proofs.WellFormed.{well-formed-made}
-use Rattle.pool.proofs.RetainedPool.{Kept, retained-free-list, retained-well-formed}
+use Rattle.pool.proofs.RetainedPool.{retained-free-list}
 
 zeros : (m k : ℕ) → getD {A = ℕ} (replicate m 0) k 0 ≡ 0
 zeros zero k = refl
@@ -32,7 +30,7 @@ module _ (R n : ℕ) (w : List ℕ) (room : poolLength R n ≤ length w) where
       length-set (replicate (poolLength R n) 0 ++ drop (poolLength R n) w) 0 n
       ∙ simp (length-append, length-replicate, length-drop (poolLength R n) w) (omega arith)
 
-  blank-count : count (blankWords R n w) ≡ n
+  pub blank-count : count (blankWords R n w) ≡ n
   unfolding count setCount
   blank-count = let place : poolLength R n ≡ suc (1 + R + 4 * n) = omega arith in rw place refl
 
@@ -43,7 +41,7 @@ module _ (R n : ℕ) (w : List ℕ) (room : poolLength R n ≤ length w) where
       ∙ (List·getD-append (replicate (poolLength R n) 0) (drop (poolLength R n) w) 0 k (simp length-replicate (omega arith))
       ∙ zeros (poolLength R n) k)
 
-  blank-register : (k : ℕ) → k < R → register (blankWords R n w) k ≡ 0
+  pub blank-register : (k : ℕ) → k < R → register (blankWords R n w) k ≡ 0
   unfolding register
   blank-register k low = blank-zero (firstRegister + k) (omega arith) (omega arith)
 
@@ -99,19 +97,3 @@ pub fresh-is-free : FreshIsFree
 fresh-is-free n w some room =
     retained-free-list registerCount n (λ i. false) (blankWords registerCount n w) some (omega (arith, blank-length registerCount n w room))
     ∙ (all-free n 1 ∙ tabulate-cong n (λ j. 1 + j) suc (λ k below. omega arith))
-
-pub fresh-is-well-formed : FreshIsWellFormed
-fresh-is-well-formed n w some most exact =
-    let room : poolLength registerCount n ≤ length w = omega arith in
-    let long = blank-length registerCount n w room in
-    let same : length (freshWords registerCount n w) ≡ poolLength registerCount n =
-    length-retain registerCount n (λ i. false) (blankWords registerCount n w) ∙ (long ∙ exact) in
-    let cells : cellCountOfLength registerCount (length (freshWords registerCount n w)) ≡ n = rw same (sized-length registerCount n some most) in
-    let first : count (freshWords registerCount n w) ≡ n =
-    retain-count registerCount n (λ i. false) (blankWords registerCount n w) (omega (arith, long)) ∙ blank-count registerCount n w room in (
-      same-count registerCount (freshWords registerCount n w) (first ∙ sym cells) ∙ cells,
-      well-formed-made registerCount n (freshWords registerCount n w)
-          (retained-well-formed registerCount n (λ i. false) (blankWords registerCount n w) (omega (arith, long))
-          (λ k low. Kept.nil (blank-register registerCount n w room k low))
-          λ i low high e. absurd (false≢true e)),
-    )

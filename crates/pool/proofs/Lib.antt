@@ -1,13 +1,9 @@
 pub mod Laws
 pub mod States
 pub mod Node
-pub mod Questions
+pub mod Sizes
 pub mod Every
-pub mod WellFormed
-pub mod PoolGraph
 pub mod Retained
 pub mod RetainedPool
 pub mod AllKept
 pub mod FreshPool
-pub mod RegisterLinks
-pub mod Admission

@@ -1,7 +1,7 @@
-// The words of a pool of cells: where everything stands, reads and writes of cells and registers, fresh words, valid links, the test of a
-// well-formed pool, the sweep that rebuilds the free list, and the occupancy.
+// The words of a pool of cells: where everything stands, reads and writes of cells and registers, the sweep that rebuilds the free list, and fresh
+// words.
 //
-// Functions that take the number of cells, n, ask that the words hold at least n cells; the exported calls find n by themselves.
+// Functions that take a cell's number, or the number of cells, ask that the words hold so many.
 use answers::Answer;
 use answers::Refusal;
 ghost use mathlib.Core.Path.{_≡_};
@@ -9,32 +9,12 @@ ghost use Prim.Native.Nat.{_+_, _<_, _≤_};
 ghost use lib.ListN.{length, replicate};
 ghost use Rattle.pool.specs.Layout.{registerCount, poolLength, cellCountOfLength, cell, setCell, putCell, linkOf, register, setRegister, head, setHead};
 ghost use Rattle.pool.specs.States.{isUsed, isMarked, isFree, markCell, unmarkCell};
-ghost use Rattle.pool.specs.Validity.{validLink, validCell, registersValid, cellsValid, wellFormed};
 ghost use Rattle.pool.specs.Retain.{sweepOf};
 ghost use Rattle.answers.specs.Outcome.{answerOutcome};
-ghost use Rattle.pool.specs.Calls.{freshOf, occupancyOf, sizedOf, areRegisters, admitOf, heldOf};
+ghost use Rattle.pool.specs.Fresh.{freshOf};
 
 // The pool: its limits, and where everything stands in its words.
 pub struct Pool {}
-
-// The registers that a call names. A call that names fewer than three repeats one.
-pub struct Named {
-    pub first: u32,
-    pub second: u32,
-    pub third: u32,
-}
-
-// What the first questions of an operation come to: the number of cells, or the refusal.
-pub enum Admitted {
-    Cells(u32),
-    Refused(Refusal),
-}
-
-// What a register holds: a valid link, or something else.
-pub enum Held {
-    Link(u32),
-    Malformed,
-}
 
 impl Pool {
     // The most cells of a pool.
@@ -98,66 +78,6 @@ pub fn cell_count_of_length(len: usize) -> u32
         return 0;
     }
     ((len - Pool::FIRST_CELL) / Pool::CELL_WORDS) as u32
-}
-
-// The first question: are the words a pool? It hands on the number of cells.
-pub fn sized(words: &[u32]) -> Admitted
-    ensures { λ q. ⌜ q ≡ sizedOf (now (words .entry)) ⌝ }
-{
-    let n = cell_count_of_length(words.len());
-    if n == 0 {
-        return Admitted::Refused(Refusal::Size);
-    }
-    if words[Pool::COUNT] == n {
-        Admitted::Cells(n)
-    } else {
-        Admitted::Refused(Refusal::Size)
-    }
-}
-
-// The second question: are these registers?
-fn are_registers(named: Named) -> bool
-    ensures { λ q. ⌜ q ≡ areRegisters named ⌝ }
-{
-    if Pool::REGISTERS <= named.first {
-        return false;
-    }
-    if Pool::REGISTERS <= named.second {
-        return false;
-    }
-    named.third < Pool::REGISTERS
-}
-
-// The first two questions.
-pub fn admit(words: &[u32], named: Named) -> Admitted
-    ensures { λ q. ⌜ q ≡ admitOf (now (words .entry)) named ⌝ }
-{
-    match sized(words) {
-        Admitted::Cells(n) => {
-            if are_registers(named) {
-                Admitted::Cells(n)
-            } else {
-                Admitted::Refused(Refusal::Register)
-            }
-        }
-        Admitted::Refused(k) => Admitted::Refused(k),
-    }
-}
-
-// The percent of the cells that are kept, rounded down.
-pub fn occupancy(kept: u32, n: u32) -> Answer
-    ensures { λ r. ⌜ answerOutcome r ≡ occupancyOf kept n ⌝ }
-{
-    if n < 1 {
-        return Answer::Refused(Refusal::Size);
-    }
-    if Pool::CELLS < n {
-        return Answer::Refused(Refusal::Size);
-    }
-    if n < kept {
-        return Answer::Refused(Refusal::Size);
-    }
-    Answer::Number(100 * kept / n)
 }
 
 pub fn read_cell(words: &[u32], i: u32, field: usize) -> u32
@@ -242,96 +162,6 @@ pub fn link_of(words: &[u32], i: u32, field: usize) -> u32
     ensures { λ r. ⌜ r ≡ linkOf registerCount (now (words .entry)) i field ⌝ }
 {
     read_cell(words, i, field)
-}
-
-// Is the link nil, or a used cell's number?
-pub fn valid_link(words: &[u32], n: u32, x: u32) -> bool
-    requires { ⌜ poolLength registerCount n ≤ length (now words) ⌝ }
-    ensures { λ r. ⌜ r ≡ validLink registerCount n (now (words .entry)) x ⌝ }
-{
-    if x == 0 {
-        return true;
-    }
-    if n < x {
-        return false;
-    }
-    is_used(read_cell(words, x, Pool::STATE))
-}
-
-// What a register holds, if it is a valid link.
-pub fn read_link(words: &[u32], n: u32, k: u32) -> Held
-    requires { ⌜ (k < registerCount) × (poolLength registerCount n ≤ length (now words)) ⌝ }
-    ensures { λ r. ⌜ r ≡ heldOf n (now (words .entry)) k ⌝ }
-{
-    let x = read_register(words, k);
-    if valid_link(words, n, x) {
-        Held::Link(x)
-    } else {
-        Held::Malformed
-    }
-}
-
-// Is the cell free, or used with valid links?
-fn valid_cell(words: &[u32], n: u32, i: u32) -> bool
-    requires { ⌜ (0 < i) × (i ≤ n) × (poolLength registerCount n ≤ length (now words)) ⌝ }
-    ensures { λ r. ⌜ r ≡ validCell registerCount n (now (words .entry)) i ⌝ }
-{
-    let state = read_cell(words, i, Pool::STATE);
-    if is_free(state) {
-        return true;
-    }
-    if is_used(state) {
-        if valid_link(words, n, link_of(words, i, Pool::LEFT)) {
-            valid_link(words, n, link_of(words, i, Pool::RIGHT))
-        } else {
-            false
-        }
-    } else {
-        false
-    }
-}
-
-fn registers_valid(words: &[u32], n: u32) -> bool
-    requires { ⌜ poolLength registerCount n ≤ length (now words) ⌝ }
-    ensures { λ r. ⌜ r ≡ registersValid registerCount n (now (words .entry)) ⌝ }
-{
-    let mut k = Pool::REGISTERS;
-    while 0 < k {
-        let x = read_register(words, k - 1);
-        if valid_link(words, n, x) {
-            k -= 1;
-        } else {
-            return false;
-        }
-    }
-    true
-}
-
-fn cells_valid(words: &[u32], n: u32) -> bool
-    requires { ⌜ poolLength registerCount n ≤ length (now words) ⌝ }
-    ensures { λ r. ⌜ r ≡ cellsValid registerCount n (now (words .entry)) ⌝ }
-{
-    let mut cell = n;
-    while 0 < cell {
-        if valid_cell(words, n, cell) {
-            cell -= 1;
-        } else {
-            return false;
-        }
-    }
-    true
-}
-
-// Is every state used or free, and every register and every link of a used cell valid?
-pub fn well_formed(words: &[u32], n: u32) -> bool
-    requires { ⌜ poolLength registerCount n ≤ length (now words) ⌝ }
-    ensures { λ r. ⌜ r ≡ wellFormed registerCount n (now (words .entry)) ⌝ }
-{
-    if registers_valid(words, n) {
-        cells_valid(words, n)
-    } else {
-        false
-    }
 }
 
 // Writes the four words of a cell.

@@ -14,12 +14,12 @@ use Rattle.graph.proofs.Count.{marked-mark, marked-le, counts}
 use Rattle.pool.specs.Layout.{state, left, right}
 use Rattle.pool.specs.States.{asMarked, markCell}
 use Rattle.pool.proofs.Laws.{cell-other}
-use Rattle.collector.specs.Reversal.{unmarked, markAll}
-use Rattle.collector.specs.ReversalTheorem.{Agreement}
+use Rattle.collector.specs.Reversal.{unmarked}
+use Rattle.collector.specs.ReversalTheorem.{markAll, Agreement}
 use Rattle.collector.proofs.VisitCount.{visits-cons, visits-of-append}
 use Rattle.collector.proofs.MarkAll.{markAll-append, field-markAll}
 use Rattle.collector.proofs.Agreement.{unmarked-cell, unmarked-false, unmarked-true, agreement-markAll, agreement-dfs, away}
-use Rattle.recursive_marker.specs.Recursive.{Markable, visited}
+use Rattle.recursive_marker.specs.Steps.{Markable, visited}
 use Rattle.collector.specs.Collect.{visitsOf}
 
 module _ (R n depth p visits : ℕ) (w : List ℕ) (h : Markable R n depth p visits w) where

@@ -13,18 +13,17 @@ use Rattle.graph.proofs.Depth.{order-dfs}
 use Rattle.graph.proofs.Congruence.{dfs-all-alike}
 use Rattle.graph.proofs.Theorems.{preorder-length}
 use Rattle.pool.specs.Layout.{poolLength, register, rootsOf, graphOf}
-use Rattle.pool.specs.Validity.{wellFormed}
+use Rattle.questions.specs.Validity.{wellFormed}
 use Rattle.pool.proofs.Every.{length-tabulate, getD-tabulate, member-tabulate}
-use Rattle.pool.proofs.WellFormed.{well-formed-read}
-use Rattle.pool.proofs.PoolGraph.{pool-within}
-use Rattle.collector.specs.Reversal.{markAll}
+use Rattle.questions.proofs.WellFormed.{well-formed-read}
+use Rattle.questions.proofs.PoolGraph.{pool-within}
+use Rattle.collector.specs.ReversalTheorem.{markAll, Agreement, markedOf}
 use Rattle.collector.specs.Collect.{reachedCells, visitsOf}
-use Rattle.collector.specs.ReversalTheorem.{Agreement, markedOf}
 use Rattle.collector.proofs.VisitCount.{visits-of-append, visits-three}
 use Rattle.collector.proofs.MarkAll.{markAll-append, length-markAll, register-markAll}
 use Rattle.collector.proofs.PoolMarks.{stateMarks, agreement, alike}
 use Rattle.collector.proofs.Agreement.{agreement-dfs}
-use Rattle.recursive_marker.specs.Recursive.{Markable, visited}
+use Rattle.recursive_marker.specs.Steps.{Markable, visited}
 
 -- the visits of the first of several links, and those of the others
 record Next (g : Graph) (m : ℕ → ℕ) (p : ℕ) (ps new : List ℕ) : Type 0 where

@@ -1,1 +1,2 @@
 pub mod Recursive
+pub mod Steps

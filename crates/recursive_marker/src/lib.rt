@@ -1,7 +1,7 @@
 // The recursive procedure of source document 000 as a marker, for pools of at most 64 cells (01: bench marker).
 use answers::Answer;
 use answers::Refusal;
-use pool::Admitted;
+use questions::Admitted;
 use pool::Pool;
 ghost use mathlib.Core.Path.{_≡_};
 ghost use Prim.Native.Nat.{ℕ, _≤_};
@@ -9,11 +9,12 @@ ghost use mathlib.Core.List.{List};
 ghost use mathlib.Core.Bool.{true};
 ghost use lib.ListN.{length};
 ghost use Rattle.pool.specs.Layout.{registerCount, poolLength};
-ghost use Rattle.pool.specs.Validity.{wellFormed};
+ghost use Rattle.questions.specs.Validity.{wellFormed};
 ghost use Rattle.collector.specs.ReversalTheorem.{markedOf};
 ghost use Rattle.answers.specs.Outcome.{answerOutcome};
 ghost use Rattle.collector.specs.Collect.{collectIn};
-ghost use Rattle.recursive_marker.specs.Recursive.{recursionLimit, recursiveOf, Markable, visited};
+ghost use Rattle.recursive_marker.specs.Recursive.{recursionLimit, recursiveOf};
+ghost use Rattle.recursive_marker.specs.Steps.{Markable, visited};
 
 // The most cells of a pool that is marked so. In a chain of so many the visit of the first cell has depth 64, that of the last depth 1, and the
 // visits of its links, which are nil, depth 0.
@@ -57,7 +58,7 @@ fn collect_in(words: &mut [u32], n: u32) -> Answer
     requires { ⌜ (poolLength registerCount n ≤ length (now words)) × (n ≤ recursionLimit) ⌝ }
     ensures { λ r. ⌜ (answerOutcome r, now (words .exit)) ≡ collectIn n (now (words .entry)) ⌝ }
 {
-    if pool::well_formed(words, n) {
+    if questions::well_formed(words, n) {
         let visits = mark(words, n);
         let kept = pool::sweep(words, n);
         Answer::Pair(kept, visits)
@@ -70,7 +71,7 @@ fn collect_in(words: &mut [u32], n: u32) -> Answer
 pub fn collect_recursive(words: &mut [u32]) -> Answer
     ensures { λ r. ⌜ (answerOutcome r, now (words .exit)) ≡ recursiveOf (now (words .entry)) ⌝ }
 {
-    match pool::sized(words) {
+    match questions::sized(words) {
         Admitted::Cells(n) => {
             if DEPTH < n {
                 Answer::Refused(Refusal::TooLarge)

@@ -8,7 +8,7 @@ use Rattle.graph.proofs.Pairing.{paired-reach}
 use Rattle.pool.specs.Layout.{registerCount, cell, graphOf, rootsOf}
 use Rattle.answers.specs.Outcome.{answered}
 use Rattle.pool.proofs.Retained.{length-retain, retain-count, retain-register}
-use Rattle.pool.proofs.WellFormed.{well-formed-made}
+use Rattle.questions.proofs.WellFormed.{well-formed-made}
 use Rattle.collector.specs.Collect.{isReached, collected, collectIn}
 use Rattle.collector.proofs.Collected.{collected-field, collected-well-formed}
 use Rattle.reference.specs.Model.{Model, live}

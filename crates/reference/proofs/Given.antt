@@ -8,10 +8,10 @@ use lib.ListN.{length, getD}
 use lib.Seq.{ext-getD}
 use lib.Dec.{eqb, leb, ltb}
 use Rattle.pool.specs.Layout.{registerCount, cellCount, register, setRegister, cell, setCell, value, head}
-use Rattle.pool.specs.Validity.{validLink, wellFormed}
-use Rattle.pool.specs.Calls.{areRegisters, askedNext, admittedTo, holdsLink}
+use Rattle.questions.specs.Validity.{validLink, wellFormed}
+use Rattle.questions.specs.Questions.{areRegisters, askedNext, admittedTo, holdsLink}
 use Rattle.answers.specs.Outcome.{Outcome, answered, allocated, refused, status, given}
-use Rattle.pool.specs.declared.Admitted.the-variants as admitted
+use Rattle.questions.specs.declared.Admitted.the-variants as admitted
 use Rattle.answers.specs.declared.Refusal.the-variants as refusal
 use Rattle.collector.specs.Collect.{collected}
 use Rattle.allocator.specs.Allocation.{goodHead}

@@ -7,8 +7,8 @@ use mathlib.Core.List.{List}
 use lib.ListN.{length}
 use Rattle.pool.specs.Layout.{registerCount, poolLength, cellCountOfLength, cellCount, count, head, register, setRegister, cell, setCell, state, left, right}
 use Rattle.pool.proofs.Laws.{length-setRegister, count-setRegister, head-setRegister, cell-setRegister, register-same, register-other, length-setCell, count-setCell, head-setCell, register-setCell, cell-same, cell-other}
-use Rattle.pool.proofs.Questions.{Sized, sized-length, same-count}
-use Rattle.pool.proofs.WellFormed.{Link, Cell, WellFormed}
+use Rattle.pool.proofs.Sizes.{Sized, sized-length, same-count}
+use Rattle.questions.proofs.WellFormed.{Link, Cell, WellFormed}
 use Rattle.reference.proofs.FreeList.{Free, First, chain-first, chain-free, chain-same}
 
 -- The words are a pool of N cells, well-formed, whose free list has every free cell once.

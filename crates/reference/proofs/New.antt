@@ -12,9 +12,9 @@ use Rattle.graph.proofs.Marks.{zero-or-above}
 use Rattle.graph.proofs.Theorems.{preorder-reached, preorder-distinct}
 use Rattle.pool.specs.Layout.{registerCount, head, register, state, left, graphOf, rootsOf}
 use Rattle.answers.specs.Outcome.{answered, allocated, refused}
-use Rattle.pool.proofs.PoolGraph.{reached-used, pool-within}
+use Rattle.questions.proofs.PoolGraph.{reached-used, pool-within}
 use Rattle.pool.proofs.Retained.{retain-register}
-use Rattle.pool.proofs.WellFormed.{well-formed-made}
+use Rattle.questions.proofs.WellFormed.{well-formed-made}
 use Rattle.collector.specs.Collect.{isReached, reachedCells, reachedCount, collected}
 use Rattle.collector.proofs.Collected.{head-nil-full}
 use Rattle.allocator.specs.Allocation.{newIn, goodHead, take}

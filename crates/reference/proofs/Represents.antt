@@ -10,8 +10,8 @@ use Rattle.graph.proofs.Marks.{zero-or-above}
 use Rattle.graph.proofs.Pairing.{paired-least, paired-reach, pairing-kept, length-paired}
 use Rattle.pool.specs.Layout.{registerCount, register, cell, value, graphOf, rootsOf}
 use Rattle.pool.proofs.Every.{length-tabulate, getD-tabulate}
-use Rattle.pool.proofs.WellFormed.{Link}
-use Rattle.pool.proofs.PoolGraph.{Used, reached-used, pool-within}
+use Rattle.questions.proofs.WellFormed.{Link}
+use Rattle.questions.proofs.PoolGraph.{Used, reached-used, pool-within}
 use Rattle.collector.specs.Collect.{reachedCount}
 use Rattle.reference.specs.Model.{Model, entry, held, modelGraph, live}
 use Rattle.reference.proofs.Places.{each-place}

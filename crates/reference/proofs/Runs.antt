@@ -9,12 +9,12 @@ use mathlib.Core.Bool.{Bool, true, false, false≢true, cond, _&&_, not}
 use lib.Dec.{leb, ltb}
 use borrow.Author.Tests.{le-leb, lt-leb, lt-ltb, le-ltb, leb-true, ltb-true}
 use Rattle.answers.specs.Outcome.{Outcome, answered, refused}
-use Rattle.pool.proofs.Questions.{both}
+use Rattle.pool.proofs.Sizes.{both}
 use Rattle.calls.specs.declared.Call.{Call}
 use Rattle.calls.specs.declared.Call.the-variants as call
 use Rattle.allocator.specs.Allocation.{newIn}
-use Rattle.pool.specs.Calls.{areRegisters}
-use Rattle.pool.proofs.Admission.{Registers, registers-there}
+use Rattle.questions.specs.Questions.{areRegisters}
+use Rattle.questions.proofs.Admission.{Registers, registers-there}
 use Rattle.calls.specs.Calls.{names, registersOf, bodyOf, allocates, callOf}
 use Rattle.reference.specs.Model.{Model, live, modelBody, modelOf}
 use Rattle.batch.specs.Run.{afterAll}

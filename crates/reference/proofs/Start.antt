@@ -8,10 +8,11 @@ use mathlib.Core.Bool.{false}
 use lib.ListN.{length, replicate, getD-replicate, List·getD-eq-default}
 use Rattle.pool.specs.Layout.{registerCount, cellLimit, poolLength}
 use Rattle.pool.specs.Retain.{blankWords, freshWords}
-use Rattle.pool.proofs.Questions.{cells-sized}
-use Rattle.pool.proofs.WellFormed.{Link, well-formed-read}
+use Rattle.pool.proofs.Sizes.{cells-sized}
+use Rattle.questions.proofs.WellFormed.{Link, well-formed-read}
 use Rattle.pool.proofs.RetainedPool.{retained-free}
-use Rattle.pool.proofs.FreshPool.{blank-length, fresh-is-well-formed}
+use Rattle.pool.proofs.FreshPool.{blank-length}
+use Rattle.questions.proofs.FreshPool.{fresh-is-well-formed}
 use Rattle.reference.specs.Model.{empty, held}
 use Rattle.reference.proofs.FreeList.{retained-exact}
 use Rattle.reference.proofs.Invariant.{Invariant}

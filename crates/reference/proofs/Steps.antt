@@ -10,9 +10,9 @@ use lib.Dec.{eqb}
 use borrow.Author.Tests.{lt-ltb, eq-eqb, ne-eqb}
 use Rattle.graph.proofs.Marks.{zero-or-above}
 use Rattle.pool.specs.Layout.{registerCount, register, setRegister, cell, setCell, value}
-use Rattle.pool.specs.Calls.{areRegisters, holdsLink}
+use Rattle.questions.specs.Questions.{areRegisters, holdsLink}
 use Rattle.answers.specs.Outcome.{Outcome, answered, refused}
-use Rattle.pool.proofs.WellFormed.{Link, link-made}
+use Rattle.questions.proofs.WellFormed.{Link, link-made}
 use Rattle.calls.specs.declared.Call.{Call}
 use Rattle.calls.specs.Calls.{registersOf, bodyOf, callOf, withCell, copyIn, clearIn, followIn, linkIn, setValueIn, valueIn, sameIn}
 use Rattle.reference.specs.Model.{Model, entry, held, hold, replace, onCell}

@@ -11,7 +11,7 @@ use lib.Dec.{eqb}
 use borrow.Author.Tests.{eq-eqb, ne-eqb}
 use Rattle.pool.specs.Layout.{registerCount, poolLength, count, head, register, cell, setCell, state, left}
 use Rattle.pool.proofs.Laws.{length-setCell, length-setHead, length-setRegister, cell-same, cell-other, cell-setHead, cell-setRegister, register-same, register-other, register-setHead, register-setCell, head-same, head-setRegister, count-setCell, count-setHead, count-setRegister}
-use Rattle.pool.proofs.WellFormed.{Link, Cell, WellFormed}
+use Rattle.questions.proofs.WellFormed.{Link, Cell, WellFormed}
 use Rattle.allocator.specs.Allocation.{take}
 use Rattle.reference.proofs.FreeList.{Chain, Free, First, chain-free, chain-same}
 use Rattle.reference.proofs.Invariant.{Invariant, inv-first, link-kept}

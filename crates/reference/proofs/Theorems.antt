@@ -8,7 +8,7 @@ use mathlib.Core.Bool.{false, false≢true}
 use Rattle.pool.specs.Layout.{registerCount}
 use Rattle.pool.specs.Retain.{freshWords}
 use Rattle.answers.specs.Outcome.{Outcome, answered, allocated, refused}
-use Rattle.pool.proofs.WellFormed.{well-formed-made}
+use Rattle.questions.proofs.WellFormed.{well-formed-made}
 use Rattle.calls.specs.declared.Call.{Call}
 use Rattle.reference.specs.Model.{Model, empty, modelOf}
 use Rattle.batch.specs.Run.{afterAll}

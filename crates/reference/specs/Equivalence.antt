@@ -8,8 +8,8 @@ use lib.ListN.{length}
 use lib.Dec.{leb, ltb}
 use Rattle.graph.specs.Theorems.{Distinct}
 use Rattle.pool.specs.Layout.{registerCount, cellLimit, poolLength, cellCount, state}
-use Rattle.pool.specs.Validity.{wellFormed}
-use Rattle.pool.specs.Calls.{areRegisters}
+use Rattle.questions.specs.Validity.{wellFormed}
+use Rattle.questions.specs.Questions.{areRegisters}
 use Rattle.pool.specs.Retain.{freshWords, freeList}
 use Rattle.answers.specs.Outcome.{Outcome, answered, allocated, refused}
 use Rattle.calls.specs.declared.Call.{Call}

@@ -7,7 +7,7 @@ use lib.Dec.{eqb, leb}
 use Rattle.graph.specs.Graph.{Graph}
 use Rattle.graph.specs.Preorder.{preorder}
 use Rattle.pool.specs.Layout.{registerCount}
-use Rattle.pool.specs.Calls.{areRegisters}
+use Rattle.questions.specs.Questions.{areRegisters}
 use Rattle.answers.specs.Outcome.{Outcome, answered, refused}
 use Rattle.calls.specs.declared.Call.{Call}
 use Rattle.calls.specs.declared.Call.the-variants as call

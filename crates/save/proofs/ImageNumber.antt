@@ -9,8 +9,8 @@ use borrow.Author.Tests.{eq-eqb, ne-eqb}
 use Rattle.graph.proofs.Lists.{getD-member}
 use Rattle.graph.proofs.Theorems.{preorder-reached, preorder-length}
 use Rattle.pool.specs.Layout.{register, cell, graphOf, rootsOf}
-use Rattle.pool.proofs.WellFormed.{Link, WellFormed, well-formed-read}
-use Rattle.pool.proofs.PoolGraph.{Used, link-bound, used-links, reached-used, pool-within}
+use Rattle.questions.proofs.WellFormed.{Link, WellFormed, well-formed-read}
+use Rattle.questions.proofs.PoolGraph.{Used, link-bound, used-links, reached-used, pool-within}
 use Rattle.collector.specs.Collect.{reachedCells, reachedCount}
 use Rattle.image.specs.Image.{numberIn, savedField}
 use Rattle.save.specs.Steps.{Savable, numberAt, Ordered}

@@ -15,8 +15,8 @@ use Rattle.graph.proofs.Pairing.{paired-least, preorder-paired, length-paired, 
 use Rattle.pool.specs.Words.{tabulate}
 use Rattle.pool.specs.Layout.{register, cell, left, right, value, graphOf, rootsOf}
 use Rattle.pool.proofs.Every.{length-tabulate, getD-tabulate, tabulate-list}
-use Rattle.pool.proofs.WellFormed.{WellFormed}
-use Rattle.pool.proofs.PoolGraph.{pool-within}
+use Rattle.questions.proofs.WellFormed.{WellFormed}
+use Rattle.questions.proofs.PoolGraph.{pool-within}
 use Rattle.collector.specs.Collect.{reachedCells, reachedCount}
 use Rattle.image.specs.Image.{numberIn, fieldCount}
 use Rattle.image.specs.Load.{loadedWords}

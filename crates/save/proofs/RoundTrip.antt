@@ -13,12 +13,12 @@ use Rattle.graph.proofs.Theorems.{preorder-distinct, preorder-length}
 use Rattle.leb128.specs.Leb128.{encode}
 use Rattle.pool.specs.Words.{tabulate}
 use Rattle.pool.specs.Layout.{registerCount, cellLimit, cellCountOfLength, cellCount, cell, graphOf, rootsOf}
-use Rattle.pool.specs.Validity.{wellFormed}
+use Rattle.questions.specs.Validity.{wellFormed}
 use Rattle.answers.specs.Outcome.{Outcome, answered, status, given}
 use Rattle.pool.proofs.Every.{length-tabulate, getD-tabulate, tabulate-list, tabulate-member}
-use Rattle.pool.proofs.Questions.{length-sized, cells-sized}
-use Rattle.pool.proofs.WellFormed.{WellFormed, well-formed-read, well-formed-made}
-use Rattle.pool.proofs.PoolGraph.{pool-within}
+use Rattle.pool.proofs.Sizes.{length-sized, cells-sized}
+use Rattle.questions.proofs.WellFormed.{WellFormed, well-formed-read, well-formed-made}
+use Rattle.questions.proofs.PoolGraph.{pool-within}
 use Rattle.collector.specs.Collect.{reachedCells, reachedCount}
 use Rattle.image.specs.declared.Loaded.{Loaded}
 use Rattle.image.specs.Image.{numberIn, fieldCount, savedField, encodeAll, imageOf, Image, readImage}

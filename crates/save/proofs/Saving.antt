@@ -9,11 +9,11 @@ use borrow.Author.Tests.{lt-ltb, le-leb, lt-leb}
 use Rattle.graph.proofs.Lists.{getD-member}
 use Rattle.graph.proofs.Theorems.{preorder-distinct}
 use Rattle.pool.specs.Layout.{registerCount, cellCount, graphOf, rootsOf}
-use Rattle.pool.specs.Validity.{wellFormed}
+use Rattle.questions.specs.Validity.{wellFormed}
 use Rattle.answers.specs.Outcome.{Outcome, answered, refused}
-use Rattle.pool.proofs.Questions.{cells-sized}
-use Rattle.pool.proofs.WellFormed.{well-formed-read}
-use Rattle.pool.proofs.PoolGraph.{pool-within}
+use Rattle.pool.proofs.Sizes.{cells-sized}
+use Rattle.questions.proofs.WellFormed.{well-formed-read}
+use Rattle.questions.proofs.PoolGraph.{pool-within}
 use Rattle.collector.specs.Collect.{reachedCells, reachedCount}
 use Rattle.image.specs.Image.{numberIn, imageOf}
 use Rattle.save.specs.Save.{saveImage, saveIn}

@@ -20,8 +20,8 @@ use Rattle.graph.proofs.Walk.{Walk, order-walk}
 use Rattle.graph.proofs.Theorems.{preorder-length}
 use Rattle.pool.specs.Layout.{register, left, right, graphOf, rootsOf}
 use Rattle.pool.proofs.Every.{length-tabulate, getD-tabulate}
-use Rattle.pool.proofs.WellFormed.{Link, WellFormed}
-use Rattle.pool.proofs.PoolGraph.{Used, link-bound, used-links, pool-within}
+use Rattle.questions.proofs.WellFormed.{Link, WellFormed}
+use Rattle.questions.proofs.PoolGraph.{Used, link-bound, used-links, pool-within}
 use Rattle.collector.specs.Collect.{reachedCells, reachedCount}
 use Rattle.image.specs.Image.{placeFrom, numberIn}
 use Rattle.save.specs.Steps.{isNew, Numbered}

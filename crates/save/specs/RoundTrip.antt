@@ -7,7 +7,7 @@ use lib.ListN.{length, getD, drop, replicate}
 use lib.Dec.{leb}
 use Rattle.pool.specs.Words.{tabulate}
 use Rattle.pool.specs.Layout.{registerCount, cellLimit, cellCountOfLength, cellCount, register, left, right, value}
-use Rattle.pool.specs.Validity.{wellFormed}
+use Rattle.questions.specs.Validity.{wellFormed}
 use Rattle.pool.specs.Retain.{freeList, freeCells}
 use Rattle.answers.specs.Outcome.{answered}
 use Rattle.collector.specs.Collect.{reachedCells, reachedCount}

@@ -5,8 +5,8 @@ use mathlib.Core.Bool.{cond}
 use lib.ListN.{length, drop, replicate}
 use lib.Dec.{leb}
 use Rattle.pool.specs.Layout.{registerCount}
-use Rattle.pool.specs.Validity.{wellFormed}
-use Rattle.pool.specs.Calls.{sizedOf, admittedTo}
+use Rattle.questions.specs.Validity.{wellFormed}
+use Rattle.questions.specs.Questions.{sizedOf, admittedTo}
 use Rattle.answers.specs.Outcome.{Outcome, answered, refused, refusalNumber, Determined}
 use Rattle.image.specs.Image.{imageOf}
 use Rattle.save.specs.declared.Saved.{Saved}

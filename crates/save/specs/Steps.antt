@@ -6,7 +6,7 @@ use mathlib.Core.Bool.{Bool, true, cond, not, _&&_}
 use lib.ListN.{length, getD, replicate}
 use lib.Dec.{eqb}
 use Rattle.pool.specs.Layout.{cellLimit, poolLength}
-use Rattle.pool.specs.Validity.{wellFormed}
+use Rattle.questions.specs.Validity.{wellFormed}
 use Rattle.collector.specs.Collect.{reachedCells, reachedCount}
 use Rattle.image.specs.Image.{numberIn}
 

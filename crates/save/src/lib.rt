@@ -1,7 +1,7 @@
 // The image of a pool, written to lent bytes.
 use answers::Refusal;
 use leb128::Written;
-use pool::Admitted;
+use questions::Admitted;
 use pool::Pool;
 ghost use mathlib.Core.Path.{_≡_};
 ghost use mathlib.Core.List.{_++_};
@@ -194,7 +194,7 @@ fn save_in(words: &[u32], scratch: &mut [u32], out: &mut [u8], n: u32) -> Saved
     if scratch.len() < 2 * n as usize {
         return Saved::Refused(Refusal::NoRoom);
     }
-    if pool::well_formed(words, n) {
+    if questions::well_formed(words, n) {
         save_pool(words, scratch, out, n)
     } else {
         Saved::Refused(Refusal::Malformed)
@@ -205,7 +205,7 @@ fn save_in(words: &[u32], scratch: &mut [u32], out: &mut [u8], n: u32) -> Saved
 pub fn save(words: &[u32], scratch: &mut [u32], out: &mut [u8]) -> Saved
     ensures { λ r. ⌜ (savedOutcome r, now (scratch .exit), now (out .exit)) ≡ saveOf (now (words .entry)) (now (scratch .entry)) (now (out .entry)) ⌝ }
 {
-    match pool::sized(words) {
+    match questions::sized(words) {
         Admitted::Cells(n) => save_in(words, scratch, out, n),
         Admitted::Refused(k) => Saved::Refused(k),
     }

@@ -8,7 +8,7 @@ use mathlib.Core.Bool.{Bool, true, false, cond, not, _&&_}
 use lib.ListN.{length, getD, drop}
 use lib.Dec.{leb, ltb}
 use borrow.Author.Tests.{ne-eqb, leb-true}
-use Rattle.pool.proofs.Questions.{both}
+use Rattle.pool.proofs.Sizes.{both}
 use Rattle.script.specs.declared.LineReader.{LineReader}
 use Rattle.script.specs.Lines.{isDigit, withDigit}
 use Rattle.script.specs.Reader.{badReader, withLast, digitOf, feedOf}

@@ -12,10 +12,10 @@ use Rattle.pool.specs.States.{isUsed, isMarked, asMarked, asUsed, markCell, unm
 use Rattle.pool.specs.Retain.{markedCell}
 use Rattle.pool.proofs.States.{used-not-marked, used-same, marked-marked}
 use Rattle.pool.proofs.Laws.{length-setCell, cell-same, cell-other, setCell-again, setCell-comm, setCell-cell}
-use Rattle.pool.proofs.WellFormed.{WellFormed, cell-unmarked}
-use Rattle.pool.proofs.PoolGraph.{Used}
-use Rattle.collector.specs.Reversal.{markAll}
-use Rattle.stack_marker.specs.StackCollect.{cleared}
+use Rattle.questions.proofs.WellFormed.{WellFormed, cell-unmarked}
+use Rattle.questions.proofs.PoolGraph.{Used}
+use Rattle.collector.specs.ReversalTheorem.{markAll}
+use Rattle.stack_marker.specs.Steps.{cleared}
 
 module _ (R : ℕ) where
   -- the turns of the loop

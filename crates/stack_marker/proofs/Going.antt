@@ -13,7 +13,7 @@ use Rattle.graph.proofs.Count.{marked-le}
 use Rattle.graph.specs.Marking.{outside}
 use Rattle.graph.specs.Dfs.{marks}
 use Rattle.stack_marker.specs.Stack.{isUnmarked, onward, holding, run, taken, runs, stackRun}
-use Rattle.stack_marker.specs.StackRun.{LinksSeen}
+use Rattle.stack_marker.specs.Steps.{LinksSeen}
 use Rattle.stack_marker.specs.StackTheorem.{StackEnds, StackMarksTheReached, StackBound}
 use Rattle.stack_marker.proofs.Fresh.{fresh-true, fresh-false, count, count-more, Passing, passing}
 

@@ -15,13 +15,14 @@ use Rattle.graph.proofs.Count.{marked-le}
 use Rattle.pool.specs.Layout.{poolLength, left, right, state, graphOf, rootsOf}
 use Rattle.pool.specs.States.{isUsed, markCell}
 use Rattle.pool.proofs.States.{marked-not-used}
-use Rattle.pool.proofs.WellFormed.{WellFormed, well-formed-read}
-use Rattle.pool.proofs.Questions.{both}
-use Rattle.pool.proofs.PoolGraph.{Used, pool-within}
-use Rattle.collector.specs.Reversal.{unmarked, markAll}
+use Rattle.questions.proofs.WellFormed.{WellFormed, well-formed-read}
+use Rattle.pool.proofs.Sizes.{both}
+use Rattle.questions.proofs.PoolGraph.{Used, pool-within}
+use Rattle.collector.specs.Reversal.{unmarked}
+use Rattle.collector.specs.ReversalTheorem.{markAll}
 use Rattle.collector.proofs.MarkAll.{length-markAll, state-markAll-same, state-markAll-other}
 use Rattle.collector.proofs.PoolMarks.{stateMarks, stateMarks-used, stateMarks-other}
-use Rattle.stack_marker.specs.StackRun.{onwardIn, Settled, Started, runFromCell, Ran}
+use Rattle.stack_marker.specs.Steps.{onwardIn, Settled, Started, runFromCell, Ran}
 use Rattle.stack_marker.proofs.Fresh.{marked-more, Passing, passing}
 use Rattle.stack_marker.proofs.Going.{Going, weight-most, begin}
 use Rattle.stack_marker.proofs.Simulation.{entries, entries-length, entries-push, entries-pop, Running, running-length, running-cell, running-new, running-turn, running-end, running-deep, running-undone}

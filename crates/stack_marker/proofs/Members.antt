@@ -11,7 +11,7 @@ use Rattle.graph.specs.Preorder.{elem}
 use Rattle.graph.proofs.Lists.{has-member, member-has}
 use Rattle.pool.specs.Layout.{poolLength, cell}
 use Rattle.pool.proofs.Retained.{Place, place}
-use Rattle.collector.specs.Reversal.{markAll}
+use Rattle.collector.specs.ReversalTheorem.{markAll}
 use Rattle.collector.proofs.MarkAll.{length-markAll, field-markAll, state-markAll, state-markAll-other}
 use Rattle.collector.proofs.MarkSweep.{markAll-elsewhere}
 

@@ -13,14 +13,15 @@ use borrow.Author.Tests.{le-leb, lt-leb, leb-true, leb-false}
 use Rattle.graph.specs.Graph.{Graph, Reach}
 use Rattle.pool.specs.Layout.{poolLength, register, graphOf, rootsOf}
 use Rattle.pool.specs.States.{markCell}
-use Rattle.pool.specs.Validity.{wellFormed}
+use Rattle.questions.specs.Validity.{wellFormed}
 use Rattle.pool.proofs.Every.{length-tabulate, getD-tabulate, member-tabulate}
-use Rattle.pool.proofs.WellFormed.{WellFormed, well-formed-read}
-use Rattle.pool.proofs.PoolGraph.{pool-within}
-use Rattle.collector.specs.Reversal.{unmarked, markAll}
+use Rattle.questions.proofs.WellFormed.{WellFormed, well-formed-read}
+use Rattle.questions.proofs.PoolGraph.{pool-within}
+use Rattle.collector.specs.Reversal.{unmarked}
+use Rattle.collector.specs.ReversalTheorem.{markAll}
 use Rattle.collector.proofs.MarkAll.{markAll-append, length-markAll, register-markAll}
 use Rattle.stack_marker.specs.Stack.{isUnmarked, run, taken, runs, holding}
-use Rattle.stack_marker.specs.StackRun.{Settled, Started, runFromCell, poolRun, Ran}
+use Rattle.stack_marker.specs.Steps.{Settled, Started, runFromCell, poolRun, Ran}
 use Rattle.stack_marker.proofs.Fresh.{fresh-true}
 use Rattle.stack_marker.proofs.Going.{Going, going-first, begin, weight-most, ended}
 use Rattle.stack_marker.proofs.Simulation.{test, leb-max}

@@ -16,13 +16,13 @@ use Rattle.graph.proofs.Reached.{reach-above, reach-within}
 use Rattle.pool.specs.Layout.{poolLength, cell, left, right, state, graphOf, rootsOf}
 use Rattle.pool.specs.States.{isUsed}
 use Rattle.pool.proofs.States.{marked-not-used}
-use Rattle.pool.proofs.WellFormed.{WellFormed}
-use Rattle.pool.proofs.PoolGraph.{Used, reached-used, pool-within}
-use Rattle.collector.specs.Reversal.{unmarked, markAll}
+use Rattle.questions.proofs.WellFormed.{WellFormed}
+use Rattle.questions.proofs.PoolGraph.{Used, reached-used, pool-within}
+use Rattle.collector.specs.Reversal.{unmarked}
+use Rattle.collector.specs.ReversalTheorem.{markAll}
 use Rattle.collector.proofs.MarkAll.{markAll-append, length-markAll, field-markAll, state-markAll-same, state-markAll-other}
 use Rattle.stack_marker.specs.Stack.{isUnmarked, unmarkedLinks, onward, run}
-use Rattle.stack_marker.specs.StackCollect.{cleared}
-use Rattle.stack_marker.specs.StackRun.{onwardIn}
+use Rattle.stack_marker.specs.Steps.{cleared, onwardIn}
 use Rattle.stack_marker.proofs.Fresh.{member-fresh, other-fresh}
 use Rattle.stack_marker.proofs.Cases.{run-none}
 use Rattle.stack_marker.proofs.Going.{Going, weight, turn, turn-less}

@@ -7,16 +7,16 @@ use lib.ListN.{length, replicate}
 use Rattle.graph.proofs.Theorems.{preorder-reached}
 use Rattle.graph.proofs.Reached.{reach-above, reach-within}
 use Rattle.pool.specs.Layout.{registerCount, poolLength, graphOf, rootsOf}
-use Rattle.pool.specs.Validity.{wellFormed}
+use Rattle.questions.specs.Validity.{wellFormed}
 use Rattle.pool.specs.Retain.{sweepOf}
 use Rattle.answers.specs.Outcome.{Outcome, answered}
-use Rattle.pool.proofs.WellFormed.{well-formed-read}
-use Rattle.pool.proofs.PoolGraph.{pool-within}
+use Rattle.questions.proofs.WellFormed.{well-formed-read}
+use Rattle.questions.proofs.PoolGraph.{pool-within}
 use Rattle.collector.specs.ReversalTheorem.{markedOf}
 use Rattle.collector.specs.Collect.{reachedCells, reachedCount, collected}
 use Rattle.collector.proofs.MarkSweep.{swept-reached}
-use Rattle.stack_marker.specs.StackCollect.{isEnough, stackIn, cleared}
-use Rattle.stack_marker.specs.StackRun.{poolRun, Ran}
+use Rattle.stack_marker.specs.StackCollect.{isEnough, stackIn}
+use Rattle.stack_marker.specs.Steps.{cleared, poolRun, Ran}
 use Rattle.stack_marker.proofs.Going.{stack-marks-the-reached}
 use Rattle.stack_marker.proofs.Members.{markAll-members}
 

@@ -1,5 +1,5 @@
 pub mod Stack
 pub mod StackCollect
 pub mod StackTheorem
-pub mod StackRun
+pub mod Steps
 pub mod StackExample

@@ -5,8 +5,8 @@ use mathlib.Core.Bool.{Bool, cond}
 use lib.ListN.{length, replicate}
 use lib.Dec.{leb}
 use Rattle.pool.specs.Layout.{registerCount, graphOf, rootsOf}
-use Rattle.pool.specs.Validity.{wellFormed}
-use Rattle.pool.specs.Calls.{sizedOf, admittedTo}
+use Rattle.questions.specs.Validity.{wellFormed}
+use Rattle.questions.specs.Questions.{sizedOf, admittedTo}
 use Rattle.pool.specs.States.{unmarkCell}
 use Rattle.pool.specs.Retain.{markedCell}
 use Rattle.answers.specs.Outcome.{Outcome, answered, refused}
@@ -27,8 +27,3 @@ stackIn n w stack =
 -- The call: the first question, then the collection. A refusal leaves pool and stack as they were.
 abbrev pub stackOf : List ℕ → List ℕ → Outcome × List ℕ × List ℕ
 stackOf w stack = admittedTo (λ n. stackIn n w stack) (λ k. (refused k, w, stack)) (sizedOf w)
-
--- "marks are cleared": every one of the cells i to 1 that is marked becomes used.
-unfoldable pub cleared : ℕ → ℕ → List ℕ → List ℕ
-cleared R zero w = w
-cleared R (suc i) w = cleared R i (cond (markedCell R w (suc i)) (unmarkCell R w (suc i)) w)

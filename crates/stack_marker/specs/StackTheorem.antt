@@ -8,7 +8,7 @@ use lib.ListN.{length, replicate}
 use lib.Dec.{ltb}
 use Rattle.graph.specs.Graph.{Graph, Reach, Within}
 use Rattle.pool.specs.Layout.{registerCount, cellCount, graphOf, rootsOf}
-use Rattle.pool.specs.Validity.{wellFormed}
+use Rattle.questions.specs.Validity.{wellFormed}
 use Rattle.answers.specs.Outcome.{answered}
 use Rattle.collector.specs.Collect.{collectOf}
 use Rattle.stack_marker.specs.Stack.{isUnmarked, holding, run, runs, stackRun, stackMarked, maxEntries}

@@ -1,18 +1,18 @@
 // Marking with a lent stack, and the collection that marks so.
 use answers::Answer;
 use answers::Refusal;
-use pool::Admitted;
+use questions::Admitted;
 use pool::Pool;
 ghost use mathlib.Core.Path.{_≡_};
 ghost use Prim.Native.Nat.{_<_, _≤_};
 ghost use lib.ListN.{length};
 ghost use mathlib.Core.Bool.{true, cond};
 ghost use Rattle.pool.specs.Layout.{registerCount, cellLimit, poolLength, left, right};
-ghost use Rattle.pool.specs.Validity.{wellFormed};
+ghost use Rattle.questions.specs.Validity.{wellFormed};
 ghost use Rattle.collector.specs.ReversalTheorem.{markedOf};
 ghost use Rattle.answers.specs.Outcome.{answerOutcome};
-ghost use Rattle.stack_marker.specs.StackCollect.{isEnough, stackIn, stackOf, cleared};
-ghost use Rattle.stack_marker.specs.StackRun.{linksOf, onwardIn, Started, runFromCell, poolRun, Ran};
+ghost use Rattle.stack_marker.specs.StackCollect.{isEnough, stackIn, stackOf};
+ghost use Rattle.stack_marker.specs.Steps.{cleared, linksOf, onwardIn, Started, runFromCell, poolRun, Ran};
 
 // Where the marker goes on to from a cell: with both links unmarked it goes to the left one and pushes the right one.
 enum Onward {
@@ -140,7 +140,7 @@ fn collect_in(words: &mut [u32], n: u32, stack: &mut [u32]) -> Answer
     requires { ⌜ (poolLength registerCount n ≤ length (now words)) × (n ≤ cellLimit) ⌝ }
     ensures { λ r. ⌜ (answerOutcome r, now (words .exit), now (stack .exit)) ≡ stackIn n (now (words .entry)) (now (stack .entry)) ⌝ }
 {
-    if pool::well_formed(words, n) {
+    if questions::well_formed(words, n) {
         let enough = mark(words, n, stack);
         let kept = pool::sweep(words, n);
         pool::clear(stack);
@@ -154,7 +154,7 @@ fn collect_in(words: &mut [u32], n: u32, stack: &mut [u32]) -> Answer
 pub fn collect_stack(words: &mut [u32], stack: &mut [u32]) -> Answer
     ensures { λ r. ⌜ (answerOutcome r, now (words .exit), now (stack .exit)) ≡ stackOf (now (words .entry)) (now (stack .entry)) ⌝ }
 {
-    match pool::sized(words) {
+    match questions::sized(words) {
         Admitted::Cells(n) => collect_in(words, n, stack),
         Admitted::Refused(k) => Answer::Refused(k),
     }

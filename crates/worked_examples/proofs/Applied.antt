@@ -13,7 +13,8 @@ use Rattle.pool.specs.Layout.{registerCount}
 use Rattle.answers.specs.Outcome.{answered}
 use Rattle.pool.specs.Retain.{freshWords}
 use Rattle.pool.proofs.RetainedPool.{retained-free-list}
-use Rattle.pool.proofs.FreshPool.{fresh-is-free, fresh-is-well-formed}
+use Rattle.pool.proofs.FreshPool.{fresh-is-free}
+use Rattle.questions.proofs.FreshPool.{fresh-is-well-formed}
 use Rattle.collector.specs.Collect.{isReached}
 use Rattle.collector.proofs.CollectTheorem.{collection-keeps-the-reached, collection-marks-and-sweeps}
 use Rattle.collector.proofs.Roots.{run-from-roots, run-over-pool}

@@ -20,9 +20,9 @@ use Rattle.graph.proofs.Pairing.{pairing-kept}
 use Rattle.pool.specs.Words.{tabulate, every}
 use Rattle.pool.specs.Layout.{registerCount, cellLimit, poolLength, cellCountOfLength, count, setCount, cellCount, head, setHead, register, setRegister, cell, setCell}
 use Rattle.pool.specs.Retain.{lowestFree, retain}
-use Rattle.pool.proofs.Questions.{both}
-use Rattle.pool.proofs.WellFormed.{well-formed-read}
-use Rattle.pool.proofs.PoolGraph.{pool-within}
+use Rattle.pool.proofs.Sizes.{both}
+use Rattle.questions.proofs.WellFormed.{well-formed-read}
+use Rattle.questions.proofs.PoolGraph.{pool-within}
 use Rattle.collector.specs.ReversalTheorem.{Agreement, Untouched}
 use Rattle.stack_marker.specs.Stack.{run, runs}
 use Rattle.batch.specs.Program.{programOf, programOfCalls}
@@ -33,8 +33,7 @@ use Rattle.script.specs.Lines.{all, command}
 use Rattle.script.specs.Reader.{spaceOf, letterOf, digitOf, feedOf, endOf, begunOf}
 use Rattle.replies.specs.Replies.{digits, decimal}
 use Rattle.script.specs.Scripts.{nextLine}
-use Rattle.worked_examples.specs.Instances.{three, threeCollected, two, graph, roots, Swapped}
-use Rattle.worked_examples.specs.Instances.{Pool-instance, Reversal-instance, Graph-instance, Number-instance, Image-instance, Batch-instance, Script-instance}
+use Rattle.worked_examples.specs.Instances.{three, threeCollected, two, graph, roots, Swapped, Pool-instance, Reversal-instance, Graph-instance, Number-instance, Image-instance, Batch-instance, Script-instance}
 use Rattle.collector.specs.Collect.{visitsOf}
 
 -- Every element of a list that is tested whole is below a bound.

@@ -13,12 +13,12 @@ use Rattle.graph.specs.Marking.{outside, Closure}
 use Rattle.graph.specs.Compare.{Agree, Paired, OneToOne}
 use Rattle.pool.specs.Words.{tabulate}
 use Rattle.pool.specs.Layout.{registerCount, cellLimit, poolLength, cellCountOfLength, cellCount, graphOf, rootsOf}
-use Rattle.pool.specs.Validity.{wellFormed}
+use Rattle.questions.specs.Validity.{wellFormed}
 use Rattle.pool.specs.Retain.{freshWords}
 use Rattle.answers.specs.Outcome.{answered}
 use Rattle.collector.specs.Collect.{reachedCells, reachedCount, collectOf}
 use Rattle.collector.specs.ReversalTheorem.{Agreement}
-use Rattle.recursive_marker.specs.Recursive.{Markable}
+use Rattle.recursive_marker.specs.Steps.{Markable}
 use Rattle.stack_marker.specs.Stack.{isUnmarked, stackRun}
 use Rattle.stack_marker.specs.StackCollect.{stackOf}
 use Rattle.calls.specs.declared.Call.{Call}

@@ -4,7 +4,7 @@ use Rattle.allocator.proofs.new_in.Statement.{statement}
 use Rattle.allocator.proofs.new_in.Tie as tie
 use native.Mathlib.Omega.{arith}
 use mathlib.Core.Path.{sym, _∙_}
-use Rattle.pool.proofs.RegisterLinks.{holds, holds-none}
+use Rattle.questions.proofs.RegisterLinks.{holds, holds-none}
 use Rattle.allocator.proofs.Allocation.{good-bound, new-malformed, new-collected, new-taken, new-refused}
 
 read-link-requires : tie.Need-read-link-requires

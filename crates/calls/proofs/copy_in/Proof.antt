@@ -2,7 +2,7 @@
 use borrow.Author.Needs.{needs}
 use Rattle.calls.proofs.copy_in.Statement.{statement}
 use Rattle.calls.proofs.copy_in.Tie as tie
-use Rattle.pool.proofs.RegisterLinks.{holds, holds-none}
+use Rattle.questions.proofs.RegisterLinks.{holds, holds-none}
 use Rattle.calls.proofs.Simple.{copied}
 
 read-link-requires : tie.Need-read-link-requires

@@ -4,7 +4,7 @@ use Rattle.calls.proofs.follow_in.Statement.{statement}
 use Rattle.calls.proofs.follow_in.Tie as tie
 use native.Mathlib.Omega.{arith}
 use mathlib.Core.Path.{sym, _∙_}
-use Rattle.pool.proofs.RegisterLinks.{holds, holds-none, holds-cell}
+use Rattle.questions.proofs.RegisterLinks.{holds, holds-none, holds-cell}
 use Rattle.calls.proofs.Simple.{follow-nil, followed, follow-malformed}
 
 read-link-requires : tie.Need-read-link-requires

@@ -3,7 +3,7 @@ use borrow.Author.Needs.{needs}
 use Rattle.calls.proofs.link_in.Statement.{statement}
 use Rattle.calls.proofs.link_in.Tie as tie
 use native.Mathlib.Omega.{arith}
-use Rattle.pool.proofs.RegisterLinks.{holds, holds-none, holds-cell}
+use Rattle.questions.proofs.RegisterLinks.{holds, holds-none, holds-cell}
 use Rattle.calls.proofs.Simple.{link-malformed, link-nil, linked}
 
 read-link-requires : tie.Need-read-link-requires

@@ -2,7 +2,7 @@
 use borrow.Author.Needs.{needs}
 use Rattle.calls.proofs.same_in.Statement.{statement}
 use Rattle.calls.proofs.same_in.Tie as tie
-use Rattle.pool.proofs.RegisterLinks.{holds, holds-none}
+use Rattle.questions.proofs.RegisterLinks.{holds, holds-none}
 use Rattle.calls.proofs.Simple.{same-malformed, compared-same, compared-other}
 
 read-link-requires : tie.Need-read-link-requires

@@ -3,7 +3,7 @@ use borrow.Author.Needs.{needs}
 use Rattle.calls.proofs.set_value_in.Statement.{statement}
 use Rattle.calls.proofs.set_value_in.Tie as tie
 use native.Mathlib.Omega.{arith}
-use Rattle.pool.proofs.RegisterLinks.{holds, holds-none, holds-cell}
+use Rattle.questions.proofs.RegisterLinks.{holds, holds-none, holds-cell}
 use Rattle.calls.proofs.Simple.{set-value-nil, value-set}
 
 read-link-requires : tie.Need-read-link-requires

@@ -8,7 +8,7 @@ use mathlib.Core.List.{[]}
 use lib.ListN.{length, length-set}
 use Rattle.pool.specs.Layout.{registerCount}
 use Rattle.pool.specs.Retain.{sweepOf}
-use Rattle.pool.proofs.Questions.{Sized}
+use Rattle.pool.proofs.Sizes.{Sized}
 use Rattle.image.proofs.Loading.{load-no-pool, load-sized, load-refused, load-whole-few, load-whole}
 use denote.Ref.{now}
 

@@ -8,7 +8,7 @@ use mathlib.Core.Path.{ap, _∙_}
 use lib.ListN.{getD}
 use denote.Ref.{now}
 use Rattle.pool.specs.Layout.{registerCount}
-use Rattle.pool.proofs.PoolGraph.{Used}
+use Rattle.questions.proofs.PoolGraph.{Used}
 use Rattle.save.specs.Steps.{numberAt}
 use Rattle.save.proofs.ImageNumber.{few-kept, cell-used, link-here-bound, saved-value, saved-link}
 

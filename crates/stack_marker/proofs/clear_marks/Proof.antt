@@ -7,7 +7,7 @@ use Rattle.pool.specs.Layout.{registerCount}
 use Prim.Native.Nat.{_≤_}
 use mathlib.Core.Path.{_≡_, refl, sym, _∙_}
 use lib.ListN.{length}
-use Rattle.stack_marker.specs.StackCollect.{cleared}
+use Rattle.stack_marker.specs.Steps.{cleared}
 use Rattle.stack_marker.proofs.Cleared.{cleared-none, cleared-marked, cleared-other}
 
 abbrev Inv-loop : tie.InvT-loop

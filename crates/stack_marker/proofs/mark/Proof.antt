@@ -8,7 +8,7 @@ use mathlib.Core.Path.{ap, _∙_}
 use Prim.Native.Nat.{ℕ}
 use mathlib.Core.List.{List}
 use lib.ListN.{length}
-use Rattle.pool.specs.Validity.{wellFormed}
+use Rattle.questions.specs.Validity.{wellFormed}
 use Rattle.collector.specs.ReversalTheorem.{markedOf}
 use Rattle.stack_marker.proofs.StackSweep.{marked-enough, marked-anew, not-enough}
 

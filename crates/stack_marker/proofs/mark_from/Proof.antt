@@ -5,7 +5,7 @@ use native.Mathlib.Omega.{arith}
 use Rattle.pool.specs.Layout.{registerCount}
 use mathlib.Core.Path.{refl, sym, ap, _∙_}
 use mathlib.Core.List.{List·Memᴰ·head, List·Memᴰ·tail}
-use Rattle.stack_marker.specs.StackRun.{linksOf}
+use Rattle.stack_marker.specs.Steps.{linksOf}
 use Rattle.stack_marker.proofs.HandLoop.{Hand, turnsLeft, hand-first, hand-cell, hand-length, hand-new, hand-full, hand-push, hand-go, hand-pop, hand-last, less-push, less-go}
 use borrow.Author.Needs.{needs}
 

@@ -1,6 +1,6 @@
 -- `trials::run` meets its contract: where the trial agrees, the words were compared and are the same.
 use mathlib.Core.Bool.{_&&_}
-use Rattle.pool.proofs.Questions.{both}
+use Rattle.pool.proofs.Sizes.{both}
 use borrow.Author.Needs.{needs}
 use Rattle.trials.proofs.run.Statement.{statement}
 use Rattle.trials.proofs.run.Tie as tie

@@ -1,0 +1,6 @@
+pub mod WellFormed
+pub mod PoolGraph
+pub mod RetainedPool
+pub mod FreshPool
+pub mod RegisterLinks
+pub mod Admission

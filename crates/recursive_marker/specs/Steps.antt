@@ -1,0 +1,30 @@
+-- What a visit of the recursive marker may rely on, and what it comes to.
+use Prim.Native.Nat.{ℕ, _+_, _*_, _^_, _<_, _≤_}
+use mathlib.Core.List.{List}
+use mathlib.Core.Bool.{cond}
+use lib.ListN.{length}
+use lib.Dec.{leb}
+use Rattle.graph.specs.Graph.{Graph}
+use Rattle.graph.specs.Dfs.{Dfs}
+use Rattle.graph.specs.Marking.{markedCount}
+use Rattle.pool.specs.Layout.{registerCount}
+use Rattle.questions.specs.Questions.{sizedOf, admittedTo}
+use Rattle.answers.specs.Outcome.{Outcome, refused}
+use Rattle.collector.specs.Collect.{collectIn, visitsOf}
+use Rattle.collector.specs.ReversalTheorem.{markAll, Agreement}
+
+-- What a visit of the link p may rely on: the words hold the n cells of a graph, of which some are marked; the visit newly marks `cells`; the
+-- depth left is no less than the number of unmarked cells, so it does not run out; and three visits for each cell still fit.
+pub record Markable (R n depth p visits : ℕ) (w : List ℕ) : Type 0 where
+  pub graph : Graph
+  pub marks : ℕ → ℕ
+  pub cells : List ℕ
+  pub agree : Agreement R n graph marks w
+  pub dfs : Dfs graph marks p cells
+  pub bounded : p ≤ n
+  pub deep : n ≤ depth + markedCount n marks
+  pub fits : visits + visitsOf cells < 2 ^ 32
+
+-- What it does: three visits for each cell that it newly marks, and state 3 in each of these; no other word is changed.
+abbrev pub visited : (R n depth p visits : ℕ) (w : List ℕ) → Markable R n depth p visits w → ℕ × List ℕ
+visited R n depth p visits w h = (visits + visitsOf (h .cells), markAll R w (h .cells))
