@@ -1,4 +1,4 @@
--- Marking by link reversal (01, "Marking by reversal", after source document 000).
+-- Marking by link reversal (01, "Marking by reversal", after Gries 2006).
 use Prim.Native.Nat.{ℕ, suc, _<_, _≤_}
 use mathlib.Core.Path.{_≡_}
 use mathlib.Core.List.{List, [], _∷_}

@@ -25,6 +25,6 @@ pub record Markable (R n depth p visits : ℕ) (w : List ℕ) : Type 0 where
   pub deep : n ≤ depth + markedCount n marks
   pub fits : visits + visitsOf cells < 2 ^ 32
 
--- What it does: three visits for each cell that it newly marks, and state 3 in each of these; no other word is changed.
+-- What it does: three visits for each cell that it newly marks; no other word is changed.
 abbrev pub visited : (R n depth p visits : ℕ) (w : List ℕ) → Markable R n depth p visits w → ℕ × List ℕ
 visited R n depth p visits w h = (visits + visitsOf (h .cells), markAll R w (h .cells))

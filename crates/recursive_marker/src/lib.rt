@@ -1,4 +1,4 @@
-// The recursive procedure of source document 000 as a marker, for pools of at most 64 cells (01: bench marker).
+// The recursive procedure of Gries 2006 as a marker, for pools of at most 64 cells (01: bench marker).
 use answers::Answer;
 use answers::Refusal;
 use questions::Admitted;
@@ -20,7 +20,7 @@ ghost use Rattle.recursive_marker.specs.Steps.{Markable, visited};
 // visits of its links, which are nil, depth 0.
 const DEPTH: u32 = 64;
 
-// Marks the link's cell, if it is unmarked, and what its links lead to, with so much depth left. (000 tests a link before the call, this in the
+// Marks the link's cell, if it is unmarked, and what its links lead to, with so much depth left. (Gries tests a link before the call, this in the
 // call.) Gives the visits made so far: one of the cell itself, one after its left link and one after its right link.
 fn visit(words: &mut [u32], n: u32, depth: u32, p: u32, visits: u32) -> u32
     requires { ⌜ Markable registerCount n depth p visits (now words) ⌝ }

@@ -1,4 +1,4 @@
--- Marking with a stack that has no limit (01, "Marking with a lent stack", after source document 003's Algorithm 2).
+-- Marking with a stack that has no limit (01, "Marking with a lent stack", after Kurokawa's Algorithm 2).
 use Prim.Native.Nat.{ℕ, zero, suc, _*_, max}
 use mathlib.Core.List.{List, [], _∷_, _++_}
 use mathlib.Core.Bool.{Bool, true, false, cond, _||_, not}
