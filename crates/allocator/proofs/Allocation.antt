@@ -1,5 +1,5 @@
 -- The call `new`: what its steps leave, where they went as the equations say, is what its definition leaves.
-use Prim.Native.Nat.{ℕ, zero, suc, _+_, _-_, _*_, _<_, _≤_}
+use Prim.Native.Nat.{ℕ, zero, suc, _+_, _-_, _<_, _≤_}
 use native.Mathlib.Omega.{arith}
 use mathlib.Core.Path.{_≡_, refl, ap, _∙_}
 use mathlib.Core.List.{List, [], _∷_}
@@ -16,7 +16,8 @@ use Rattle.answers.specs.Outcome.{Outcome, answered, allocated, refused, status
 use Rattle.pool.proofs.Sizes.{both}
 use Rattle.questions.proofs.WellFormed.{well-formed-read}
 use Rattle.pool.proofs.Retained.{retain-head}
-use Rattle.collector.specs.Collect.{isReached, reachedCount, collected, collectIn, reachedVisits}
+use Rattle.reversal.specs.Reached.{isReached, reachedCount, reachedVisits}
+use Rattle.collector.specs.Collect.{collected, collectIn}
 use Rattle.collector.proofs.Collected.{collected-full, head-nil-full}
 use Rattle.allocator.specs.Allocation.{take, takeCollected, goodHead, newIn}
 use Rattle.questions.proofs.RegisterLinks.{Holds}

@@ -1,6 +1,6 @@
 -- What "new" answers and leaves behind the first two questions (01, "The eleven calls" and "Questions, in order"): on the words of a pool of n cells, for
 -- registers that there are.
-use Prim.Native.Nat.{ℕ, _*_}
+use Prim.Native.Nat.{ℕ}
 use mathlib.Core.List.{List}
 use mathlib.Core.Bool.{Bool, cond, _&&_}
 use lib.Dec.{eqb, leb}
@@ -9,7 +9,8 @@ use Rattle.questions.specs.Validity.{wellFormed}
 use Rattle.pool.specs.States.{usedState, isFree}
 use Rattle.questions.specs.Questions.{holdsLink}
 use Rattle.answers.specs.Outcome.{Outcome, allocated, refused}
-use Rattle.collector.specs.Collect.{reachedCount, collected, reachedVisits}
+use Rattle.reversal.specs.Reached.{reachedVisits}
+use Rattle.collector.specs.Collect.{collected}
 
 -- "a used cell with left from a, right from b, value v; r gets it. It takes the head cell, and the head becomes that cell's left."
 abbrev pub take : List ℕ → ℕ → ℕ → ℕ → ℕ → List ℕ

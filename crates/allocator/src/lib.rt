@@ -1,8 +1,8 @@
 // The allocation of a cell: "new" behind its first two questions. A function takes the number of cells, n, of words that hold them, and registers that there are.
 use answers::Answer;
 use answers::Refusal;
-use questions::Held;
 use pool::Pool;
+use questions::Held;
 ghost use mathlib.Core.Path.{_≡_};
 ghost use Prim.Native.Nat.{_<_, _≤_};
 ghost use lib.ListN.{length};

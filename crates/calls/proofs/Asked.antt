@@ -10,7 +10,7 @@ use Rattle.pool.specs.Layout.{registerCount, cellLimit, poolLength}
 use Rattle.questions.specs.declared.Named.{Named}
 use Rattle.questions.specs.declared.Admitted.{Admitted}
 use Rattle.questions.specs.declared.Admitted.the-variants as admitted
-use Rattle.questions.specs.Questions.{admitOf, admittedTo}
+use Rattle.questions.specs.Questions.{admitOf}
 use Rattle.questions.proofs.Admission.{sized-cells, registers-there, admit-cells, went-on, stopped}
 use Rattle.calls.specs.declared.Call.{Call}
 use Rattle.calls.specs.Calls.{registersOf, bodyOf, callOf}

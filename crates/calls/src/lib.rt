@@ -2,10 +2,10 @@
 // that hold them, and registers that there are. The others ask these questions first, and run on any words and any numbers.
 use answers::Answer;
 use answers::Refusal;
+use pool::Pool;
 use questions::Admitted;
 use questions::Held;
 use questions::Named;
-use pool::Pool;
 ghost use mathlib.Core.Path.{_≡_};
 ghost use Prim.Native.Nat.{_<_, _≤_};
 ghost use lib.ListN.{length};

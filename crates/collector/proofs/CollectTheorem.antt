@@ -18,12 +18,13 @@ use Rattle.questions.proofs.WellFormed.{WellFormed, well-formed-read, well-form
 use Rattle.questions.proofs.PoolGraph.{pool-within}
 use Rattle.pool.proofs.Retained.{length-retain, retain-register, retain-count}
 use Rattle.pool.proofs.RetainedPool.{retained-used, retained-free, retained-free-list}
-use Rattle.collector.specs.Collect.{reachedCells, isReached, reachedCount, collected, collectIn, collectOf, visitsOf, reachedVisits}
-use Rattle.collector.specs.ReversalTheorem.{markedOf}
+use Rattle.reversal.specs.Reached.{reachedCells, isReached, visitsOf, reachedVisits}
+use Rattle.collector.specs.Collect.{collected, collectIn, collectOf}
+use Rattle.reversal.specs.ReversalTheorem.{markedOf}
 use Rattle.collector.specs.CollectTheorem.{Reached, Collected, CollectionKeepsTheReached, CollectionMarksAndSweeps}
-use Rattle.collector.proofs.Roots.{run-over-pool, roots-same}
+use Rattle.reversal.proofs.Roots.{run-over-pool, roots-same}
 use Rattle.collector.proofs.MarkSweep.{swept-reached}
-use Rattle.collector.proofs.VisitCount.{visits-three}
+use Rattle.reversal.proofs.VisitCount.{visits-three}
 use Rattle.collector.proofs.Collected.{reached-kept, kept-reached, collected-field, collected-well-formed, collected-order, collected-again, collected-full}
 
 -- the collection of a pool of n cells is the marker's runs and the sweep

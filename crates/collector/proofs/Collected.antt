@@ -26,7 +26,8 @@ use Rattle.pool.proofs.Retained.{retain-register, retain-head}
 use Rattle.questions.proofs.RetainedPool.{Kept, retained-well-formed}
 use Rattle.pool.proofs.RetainedPool.{retained-same}
 use Rattle.pool.proofs.AllKept.{counted-all, all-counted, none-free-all, retain-all, retain-again}
-use Rattle.collector.specs.Collect.{reachedCells, isReached, reachedCount, collected}
+use Rattle.reversal.specs.Reached.{reachedCells, isReached, reachedCount}
+use Rattle.collector.specs.Collect.{collected}
 
 -- the same count, of tests and of marks
 count-marked : (n : ℕ) (keep : ℕ → Bool) (m : ℕ → ℕ) → ((j : ℕ) → 0 < j → j ≤ n → keep j ≡ ltb 0 (m j)) → keptCount keep n ≡ markedCount n m

@@ -1,13 +1,3 @@
-pub mod MarkAll
-pub mod VisitCount
-pub mod Agreement
-pub mod Run
-pub mod PoolMarks
-pub mod Roots
-pub mod Measure
-pub mod RunLoop
 pub mod Collected
-pub mod VisitStep
-pub mod RootLoop
 pub mod MarkSweep
 pub mod CollectTheorem

@@ -7,15 +7,16 @@ use mathlib.Core.Bool.{Bool, true, false, true≢false}
 use lib.ListN.{length, getD}
 use Rattle.graph.proofs.Lists.{has-member, member-has}
 use Rattle.graph.proofs.Reached.{reach-above, reach-within}
-use Rattle.pool.specs.Layout.{poolLength, setCell, state}
+use Rattle.pool.specs.Layout.{poolLength, state}
 use Rattle.pool.specs.Retain.{markedCell, sweepOf}
 use Rattle.pool.specs.States.{isMarked, asMarked, markCell}
 use Rattle.questions.proofs.WellFormed.{Cell, WellFormed, cell-unmarked}
 use Rattle.questions.proofs.PoolGraph.{pool-within}
 use Rattle.pool.proofs.Retained.{Elsewhere, setCell-elsewhere, kept-cong, retain-cong}
-use Rattle.collector.specs.ReversalTheorem.{markAll}
-use Rattle.collector.specs.Collect.{reachedCells, isReached, reachedCount, collected}
-use Rattle.collector.proofs.MarkAll.{length-markAll, field-markAll, state-markAll-same, state-markAll-other}
+use Rattle.reversal.specs.ReversalTheorem.{markAll}
+use Rattle.reversal.specs.Reached.{reachedCells, isReached, reachedCount}
+use Rattle.collector.specs.Collect.{collected}
+use Rattle.reversal.proofs.MarkAll.{length-markAll, field-markAll, state-markAll-same, state-markAll-other}
 use Rattle.collector.proofs.Collected.{kept-reached, kept-count}
 
 -- marking cells changes no word but theirs

@@ -12,8 +12,9 @@ use Rattle.pool.specs.States.{isUsed, isFree}
 use Rattle.questions.specs.Validity.{wellFormed}
 use Rattle.pool.specs.Retain.{freeList, freeCells, sweepOf}
 use Rattle.answers.specs.Outcome.{answered}
-use Rattle.collector.specs.Collect.{isReached, collectOf}
-use Rattle.collector.specs.Reversal.{MarkRoots}
+use Rattle.reversal.specs.Reached.{isReached}
+use Rattle.collector.specs.Collect.{collectOf}
+use Rattle.reversal.specs.Reversal.{MarkRoots}
 
 -- Cell x can be reached from the registers over left and right.
 abbrev pub Reached : List ℕ → ℕ → Type 0

@@ -11,7 +11,7 @@ use Rattle.pool.specs.Words.{tabulate}
 use Rattle.pool.specs.Layout.{register, cell, value}
 use Rattle.answers.specs.declared.Refusal.{Refusal}
 use Rattle.answers.specs.declared.Refusal.the-variants as refusal
-use Rattle.collector.specs.Collect.{reachedCells}
+use Rattle.reversal.specs.Reached.{reachedCells}
 use Rattle.image.specs.declared.Field.{Field}
 use Rattle.image.specs.declared.Field.the-variants as field
 

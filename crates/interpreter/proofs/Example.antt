@@ -9,7 +9,7 @@ use Rattle.script.specs.Scripts.{linesOf}
 use Rattle.replies.specs.Replies.{digits, decimal, spaced}
 use Rattle.interpreter.specs.Execute.{transcript}
 use Rattle.interpreter.specs.Example.{bytesOf, TranscriptExample}
-use Rattle.collector.specs.Collect.{visitsOf}
+use Rattle.reversal.specs.Reached.{visitsOf}
 
 pub transcript-example : TranscriptExample
 unfolding elem visit visits preorder visitsOf tabulate every cellCountOfLength count setCount cellCount head setHead register setRegister cell setCell lowestFree retain firstWord laterWords all isNumber command lineOf parseLine linesOf digits decimal spaced transcript bytesOf

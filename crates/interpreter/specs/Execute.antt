@@ -1,6 +1,5 @@
 -- What a line of a script does to the pool, and what is printed for it (01, "Strips flown on paper").
 use Prim.Native.Nat.{ℕ}
-use Prim.Native.Char.{code}
 use mathlib.Core.List.{List, [], _∷_, _++_, map}
 use mathlib.Core.Bool.{Bool, cond, _&&_}
 use lib.ListN.{length, take, drop}

@@ -1,7 +1,7 @@
 -- Fresh words: what `Pool::fresh` leaves, and that every cell is on the free list.
 use Prim.Native.Nat.{ℕ, zero, suc, _+_, _*_, _<_, _≤_}
 use native.Mathlib.Omega.{arith}
-use mathlib.Core.Path.{_≡_, refl, sym, ap, _∙_}
+use mathlib.Core.Path.{_≡_, refl, ap, _∙_}
 use mathlib.Core.List.{List, [], _∷_, _++_, append-nil}
 use mathlib.Core.Bool.{false}
 use lib.ListN.{length, getD, set, drop, replicate, length-replicate, length-append, length-drop, length-set, drop-of-length-le, List·getD-append}
@@ -12,9 +12,9 @@ use Rattle.pool.specs.Layout.{registerCount, firstRegister, poolLength, 
 use Rattle.pool.specs.Retain.{freeCells, markedCell, sweepOf, blankWords, freshWords}
 use Rattle.answers.specs.Outcome.{Outcome, answered}
 use Rattle.pool.specs.Fresh.{freshOf, FreshIsFree}
-use Rattle.pool.proofs.Sizes.{length-sized, sized-length, same-count}
+use Rattle.pool.proofs.Sizes.{length-sized}
 use Rattle.pool.proofs.Every.{tabulate-list, tabulate-cong}
-use Rattle.pool.proofs.Retained.{length-retain, retain-count, retain-cong}
+use Rattle.pool.proofs.Retained.{retain-cong}
 use Rattle.pool.proofs.RetainedPool.{retained-free-list}
 
 zeros : (m k : ℕ) → getD {A = ℕ} (replicate m 0) k 0 ≡ 0

@@ -4,7 +4,7 @@ use native.Mathlib.Omega.{arith}
 use mathlib.Core.Path.{_≡_, _∙_}
 use mathlib.Core.List.{List}
 use lib.ListN.{length}
-use Rattle.pool.specs.Layout.{poolLength, cell, setCell, setNode, putCell, state, left, right, value}
+use Rattle.pool.specs.Layout.{poolLength, cell, setCell, setNode, putCell, state, left, right}
 use Rattle.pool.proofs.Laws.{length-setCell, cell-same, cell-other, setCell-again, setCell-comm, setCell-cell}
 
 pub length-setNode : (R : ℕ) (w : List ℕ) (p s l r : ℕ) → length (setNode R w p s l r) ≡ length w

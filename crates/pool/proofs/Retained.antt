@@ -8,7 +8,7 @@ use mathlib.Core.Bool.{Bool, true, false, cond, _||_}
 use lib.ListN.{length, getD, List·getD-eq-default}
 use lib.Seq.{getD-set-same, getD-set-other}
 use lib.Dec.{ltb, leb}
-use borrow.Author.Tests.{lt-ltb, le-ltb, le-leb, lt-leb, eq-eqb, ne-eqb}
+use borrow.Author.Tests.{lt-ltb, le-ltb, le-leb, lt-leb, ne-eqb}
 use Rattle.pool.specs.Words.{tabulate}
 use Rattle.pool.specs.Layout.{firstRegister, firstCell, poolLength, cellAt, cell, setCell, setNode, putCell, state, head, setHead, count, register}
 use Rattle.pool.specs.States.{freeState, isMarked, asUsed, unmarkCell}

@@ -6,11 +6,11 @@ use mathlib.Core.List.{List, [], _∷_}
 use mathlib.Core.Bool.{Bool, true, false}
 use lib.ListN.{length}
 use lib.Dec.{eqb·suc-zero}
-use Rattle.pool.specs.Layout.{poolLength, register, cell, state, left, linkOf}
-use Rattle.pool.specs.States.{freeState, isUsed, isFree, asUsed}
+use Rattle.pool.specs.Layout.{poolLength, cell, state, left}
+use Rattle.pool.specs.States.{freeState, isUsed, asUsed}
 use Rattle.pool.specs.Retain.{lowestFree, chainFrom, freeCells, retain}
 use Rattle.pool.specs.Fresh.{RetainedFreeList}
-use Rattle.pool.proofs.Retained.{retain-head, retain-register, retain-cell}
+use Rattle.pool.proofs.Retained.{retain-head, retain-cell}
 use Rattle.pool.proofs.States.{used-used}
 
 -- the free list of a retained pool, from any cell on

@@ -1,6 +1,6 @@
 -- The pool that keeps some cells and frees all others (01: "the ascending chain"). Fresh keeps none, a collection keeps what is reached, and
 -- a loaded image keeps its own cells.
-use Prim.Native.Nat.{ℕ, zero, suc, _+_, _*_, _-_, _/_, _%_}
+use Prim.Native.Nat.{ℕ, zero, suc, _+_, _-_, _/_, _%_}
 use mathlib.Core.List.{List, [], _∷_, _++_}
 use mathlib.Core.Bool.{Bool, true, false, cond, _||_}
 use lib.ListN.{length, getD, drop, replicate}

@@ -160,4 +160,3 @@ pub fn well_formed(words: &[u32], n: u32) -> bool
         false
     }
 }
-

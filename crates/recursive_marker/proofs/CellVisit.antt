@@ -1,10 +1,9 @@
 -- A visit of the recursive marker: what its two calls may rely on, and what the three visits of the cell come to.
-use Prim.Native.Nat.{ℕ, suc, _+_, _*_, _-_, _^_, _<_, _≤_}
+use Prim.Native.Nat.{ℕ, suc, _+_, _-_, _^_, _<_, _≤_}
 use native.Mathlib.Omega.{arith}
 use mathlib.Core.Path.{_≡_, refl, sym, ap, ap₂, _∙_}
 use mathlib.Core.List.{List, [], _∷_, _++_}
 use mathlib.Core.Bool.{true, false, true≢false, false≢true}
-use lib.ListN.{length}
 use Rattle.graph.specs.Graph.{Graph}
 use Rattle.graph.specs.Dfs.{mark, marks, Dfs}
 use Rattle.graph.specs.Marking.{markedCount}
@@ -14,13 +13,13 @@ use Rattle.graph.proofs.Count.{marked-mark, marked-le, counts}
 use Rattle.pool.specs.Layout.{state, left, right}
 use Rattle.pool.specs.States.{asMarked, markCell}
 use Rattle.pool.proofs.Laws.{cell-other}
-use Rattle.collector.specs.Reversal.{unmarked}
-use Rattle.collector.specs.ReversalTheorem.{markAll, Agreement}
-use Rattle.collector.proofs.VisitCount.{visits-cons, visits-of-append}
-use Rattle.collector.proofs.MarkAll.{markAll-append, field-markAll}
-use Rattle.collector.proofs.Agreement.{unmarked-cell, unmarked-false, unmarked-true, agreement-markAll, agreement-dfs, away}
+use Rattle.reversal.specs.Reversal.{unmarked}
+use Rattle.reversal.specs.ReversalTheorem.{markAll, Agreement}
+use Rattle.reversal.proofs.VisitCount.{visits-cons, visits-of-append}
+use Rattle.reversal.proofs.MarkAll.{markAll-append, field-markAll}
+use Rattle.reversal.proofs.Agreement.{unmarked-cell, unmarked-false, unmarked-true, agreement-markAll, agreement-dfs, away}
 use Rattle.recursive_marker.specs.Steps.{Markable, visited}
-use Rattle.collector.specs.Collect.{visitsOf}
+use Rattle.reversal.specs.Reached.{visitsOf}
 
 module _ (R n depth p visits : ℕ) (w : List ℕ) (h : Markable R n depth p visits w) where
   abbrev g : Graph

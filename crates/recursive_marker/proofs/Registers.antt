@@ -1,5 +1,5 @@
 -- The loop over the registers: it makes the visits of the depth-first preorder, in the order of the registers.
-use Prim.Native.Nat.{ℕ, _+_, _*_, _^_, _<_, _≤_}
+use Prim.Native.Nat.{ℕ, _+_, _^_, _<_, _≤_}
 use native.Mathlib.Omega.{arith}
 use native.Mathlib.Numerals.{add-one}
 use mathlib.Core.Path.{_≡_, refl, sym, ap, ap₂, _∙_}
@@ -17,12 +17,12 @@ use Rattle.questions.specs.Validity.{wellFormed}
 use Rattle.pool.proofs.Every.{length-tabulate, getD-tabulate, member-tabulate}
 use Rattle.questions.proofs.WellFormed.{well-formed-read}
 use Rattle.questions.proofs.PoolGraph.{pool-within}
-use Rattle.collector.specs.ReversalTheorem.{markAll, Agreement, markedOf}
-use Rattle.collector.specs.Collect.{reachedCells, visitsOf}
-use Rattle.collector.proofs.VisitCount.{visits-of-append, visits-three}
-use Rattle.collector.proofs.MarkAll.{markAll-append, length-markAll, register-markAll}
-use Rattle.collector.proofs.PoolMarks.{stateMarks, agreement, alike}
-use Rattle.collector.proofs.Agreement.{agreement-dfs}
+use Rattle.reversal.specs.ReversalTheorem.{markAll, Agreement, markedOf}
+use Rattle.reversal.specs.Reached.{reachedCells, visitsOf}
+use Rattle.reversal.proofs.VisitCount.{visits-of-append, visits-three}
+use Rattle.reversal.proofs.MarkAll.{markAll-append, length-markAll, register-markAll}
+use Rattle.reversal.proofs.PoolMarks.{stateMarks, agreement, alike}
+use Rattle.reversal.proofs.Agreement.{agreement-dfs}
 use Rattle.recursive_marker.specs.Steps.{Markable, visited}
 
 -- the visits of the first of several links, and those of the others

@@ -1,17 +1,11 @@
 -- The recursive marker (01, "Bench marker": "For N up to 64, the recursive procedure of 000 collects; answer and pool are those of collect").
-use Prim.Native.Nat.{ℕ, _+_, _*_, _^_, _<_, _≤_}
+use Prim.Native.Nat.{ℕ}
 use mathlib.Core.List.{List}
 use mathlib.Core.Bool.{cond}
-use lib.ListN.{length}
 use lib.Dec.{leb}
-use Rattle.graph.specs.Graph.{Graph}
-use Rattle.graph.specs.Dfs.{Dfs}
-use Rattle.graph.specs.Marking.{markedCount}
-use Rattle.pool.specs.Layout.{registerCount}
 use Rattle.questions.specs.Questions.{sizedOf, admittedTo}
 use Rattle.answers.specs.Outcome.{Outcome, refused}
-use Rattle.collector.specs.Collect.{collectIn, visitsOf}
-use Rattle.collector.specs.ReversalTheorem.{markAll, Agreement}
+use Rattle.collector.specs.Collect.{collectIn}
 
 -- "N up to 64"
 abbrev pub recursionLimit : ℕ

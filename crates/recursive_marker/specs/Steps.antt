@@ -1,17 +1,11 @@
 -- What a visit of the recursive marker may rely on, and what it comes to.
-use Prim.Native.Nat.{ℕ, _+_, _*_, _^_, _<_, _≤_}
+use Prim.Native.Nat.{ℕ, _+_, _^_, _<_, _≤_}
 use mathlib.Core.List.{List}
-use mathlib.Core.Bool.{cond}
-use lib.ListN.{length}
-use lib.Dec.{leb}
 use Rattle.graph.specs.Graph.{Graph}
 use Rattle.graph.specs.Dfs.{Dfs}
 use Rattle.graph.specs.Marking.{markedCount}
-use Rattle.pool.specs.Layout.{registerCount}
-use Rattle.questions.specs.Questions.{sizedOf, admittedTo}
-use Rattle.answers.specs.Outcome.{Outcome, refused}
-use Rattle.collector.specs.Collect.{collectIn, visitsOf}
-use Rattle.collector.specs.ReversalTheorem.{markAll, Agreement}
+use Rattle.reversal.specs.Reached.{visitsOf}
+use Rattle.reversal.specs.ReversalTheorem.{markAll, Agreement}
 
 -- What a visit of the link p may rely on: the words hold the n cells of a graph, of which some are marked; the visit newly marks `cells`; the
 -- depth left is no less than the number of unmarked cells, so it does not run out; and three visits for each cell still fit.

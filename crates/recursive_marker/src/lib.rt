@@ -1,8 +1,8 @@
 // The recursive procedure of Gries 2006 as a marker, for pools of at most 64 cells (01: bench marker).
 use answers::Answer;
 use answers::Refusal;
-use questions::Admitted;
 use pool::Pool;
+use questions::Admitted;
 ghost use mathlib.Core.Path.{_≡_};
 ghost use Prim.Native.Nat.{ℕ, _≤_};
 ghost use mathlib.Core.List.{List};
@@ -10,7 +10,7 @@ ghost use mathlib.Core.Bool.{true};
 ghost use lib.ListN.{length};
 ghost use Rattle.pool.specs.Layout.{registerCount, poolLength};
 ghost use Rattle.questions.specs.Validity.{wellFormed};
-ghost use Rattle.collector.specs.ReversalTheorem.{markedOf};
+ghost use Rattle.reversal.specs.ReversalTheorem.{markedOf};
 ghost use Rattle.answers.specs.Outcome.{answerOutcome};
 ghost use Rattle.collector.specs.Collect.{collectIn};
 ghost use Rattle.recursive_marker.specs.Recursive.{recursionLimit, recursiveOf};
@@ -26,7 +26,7 @@ fn visit(words: &mut [u32], n: u32, depth: u32, p: u32, visits: u32) -> u32
     requires { ⌜ Markable registerCount n depth p visits (now words) ⌝ }
     ensures { λ r. ⌜ ((h : Markable registerCount n depth p visits (now (words .entry))) → _≡_ {A = ℕ × List ℕ} (r, now (words .exit)) (visited registerCount n depth p visits (now (words .entry)) h)) ⌝ }
 {
-    if collector::is_unmarked(words, p) {
+    if reversal::is_unmarked(words, p) {
         pool::mark_cell(words, p);
         let left = pool::link_of(words, p, Pool::LEFT);
         let after_left = visit(words, n, depth - 1, left, visits + 1);

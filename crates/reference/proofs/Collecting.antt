@@ -9,7 +9,8 @@ use Rattle.pool.specs.Layout.{registerCount, cell, graphOf, rootsOf}
 use Rattle.answers.specs.Outcome.{answered}
 use Rattle.pool.proofs.Retained.{length-retain, retain-count, retain-register}
 use Rattle.questions.proofs.WellFormed.{well-formed-made}
-use Rattle.collector.specs.Collect.{isReached, collected, collectIn}
+use Rattle.reversal.specs.Reached.{isReached}
+use Rattle.collector.specs.Collect.{collected, collectIn}
 use Rattle.collector.proofs.Collected.{collected-field, collected-well-formed}
 use Rattle.reference.specs.Model.{Model, live}
 use Rattle.reference.proofs.FreeList.{retained-exact}

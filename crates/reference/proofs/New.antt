@@ -3,7 +3,7 @@ use Prim.Native.Nat.{ℕ, _*_, _<_, _≤_}
 use native.Mathlib.Omega.{arith}
 use mathlib.Core.Path.{_≡_, refl}
 use mathlib.Core.Logic.{⊎-elim}
-use mathlib.Core.List.{List, [], _∷_, List·Memᴰ}
+use mathlib.Core.List.{List, [], List·Memᴰ}
 use mathlib.Core.Bool.{true}
 use borrow.Author.Tests.{eq-eqb, ne-eqb, le-leb}
 use Rattle.graph.specs.Theorems.{Distinct}
@@ -15,7 +15,8 @@ use Rattle.answers.specs.Outcome.{answered, allocated, refused}
 use Rattle.questions.proofs.PoolGraph.{reached-used, pool-within}
 use Rattle.pool.proofs.Retained.{retain-register}
 use Rattle.questions.proofs.WellFormed.{well-formed-made}
-use Rattle.collector.specs.Collect.{isReached, reachedCells, reachedCount, collected}
+use Rattle.reversal.specs.Reached.{isReached, reachedCells, reachedCount}
+use Rattle.collector.specs.Collect.{collected}
 use Rattle.collector.proofs.Collected.{head-nil-full}
 use Rattle.allocator.specs.Allocation.{newIn, goodHead, take}
 use Rattle.reference.specs.Model.{Model, live, append}

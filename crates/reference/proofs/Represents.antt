@@ -12,7 +12,7 @@ use Rattle.pool.specs.Layout.{registerCount, register, cell, value, graphOf, ro
 use Rattle.pool.proofs.Every.{length-tabulate, getD-tabulate}
 use Rattle.questions.proofs.WellFormed.{Link}
 use Rattle.questions.proofs.PoolGraph.{Used, reached-used, pool-within}
-use Rattle.collector.specs.Collect.{reachedCount}
+use Rattle.reversal.specs.Reached.{reachedCount}
 use Rattle.reference.specs.Model.{Model, entry, held, modelGraph, live}
 use Rattle.reference.proofs.Places.{each-place}
 use Rattle.reference.proofs.Invariant.{Invariant}

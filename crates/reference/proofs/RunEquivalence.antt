@@ -1,5 +1,5 @@
 -- The equivalence of code that runs follows from that of the calls, and from what a run writes.
-use Prim.Native.Nat.{ℕ, _*_}
+use Prim.Native.Nat.{_*_}
 use mathlib.Core.Path.{refl, ap}
 use lib.ListN.{length, drop}
 use lib.Seq.{drop-at}

@@ -13,7 +13,7 @@ use Rattle.leb128.specs.declared.Written.{Written}
 use Rattle.leb128.specs.declared.Written.the-variants as written
 use Rattle.leb128.proofs.Encoding.{encode-size}
 use Rattle.pool.specs.Words.{tabulate}
-use Rattle.collector.specs.Collect.{reachedCells, reachedCount}
+use Rattle.reversal.specs.Reached.{reachedCells, reachedCount}
 use Rattle.image.specs.Image.{fieldCount, savedField, encodeAll, imageOf}
 
 pub encode-append : (us vs : List ℕ) → encodeAll (us ++ vs) ≡ encodeAll us ++ encodeAll vs

@@ -11,7 +11,7 @@ use Rattle.graph.proofs.Theorems.{preorder-reached, preorder-length}
 use Rattle.pool.specs.Layout.{register, cell, graphOf, rootsOf}
 use Rattle.questions.proofs.WellFormed.{Link, WellFormed, well-formed-read}
 use Rattle.questions.proofs.PoolGraph.{Used, link-bound, used-links, reached-used, pool-within}
-use Rattle.collector.specs.Collect.{reachedCells, reachedCount}
+use Rattle.reversal.specs.Reached.{reachedCells, reachedCount}
 use Rattle.image.specs.Image.{numberIn, savedField}
 use Rattle.save.specs.Steps.{Savable, numberAt, Ordered}
 use Rattle.save.proofs.Numbering.{place-none}

@@ -17,7 +17,7 @@ use Rattle.pool.specs.Layout.{register, cell, left, right, value, graphOf, root
 use Rattle.pool.proofs.Every.{length-tabulate, getD-tabulate, tabulate-list}
 use Rattle.questions.proofs.WellFormed.{WellFormed}
 use Rattle.questions.proofs.PoolGraph.{pool-within}
-use Rattle.collector.specs.Collect.{reachedCells, reachedCount}
+use Rattle.reversal.specs.Reached.{reachedCells, reachedCount}
 use Rattle.image.specs.Image.{numberIn, fieldCount}
 use Rattle.image.specs.Load.{loadedWords}
 use Rattle.save.proofs.Numbering.{place-none, number-member, number-placed, number-at}

@@ -19,7 +19,7 @@ use Rattle.pool.proofs.Every.{length-tabulate, getD-tabulate, tabulate-list, ta
 use Rattle.pool.proofs.Sizes.{length-sized, cells-sized}
 use Rattle.questions.proofs.WellFormed.{WellFormed, well-formed-read, well-formed-made}
 use Rattle.questions.proofs.PoolGraph.{pool-within}
-use Rattle.collector.specs.Collect.{reachedCells, reachedCount}
+use Rattle.reversal.specs.Reached.{reachedCells, reachedCount}
 use Rattle.image.specs.declared.Loaded.{Loaded}
 use Rattle.image.specs.Image.{numberIn, fieldCount, savedField, encodeAll, imageOf, Image, readImage}
 use Rattle.image.specs.Load.{scanOf, loadedWords, loadOf}

@@ -5,16 +5,15 @@ use mathlib.Core.Path.{_≡_, sym, ap, subst, _∙_}
 use mathlib.Core.List.{List, [], _∷_, _++_}
 use mathlib.Core.Bool.{Bool, true, false}
 use lib.ListN.{length, getD, drop, replicate}
-use borrow.Author.Tests.{lt-ltb, le-leb, lt-leb}
+use borrow.Author.Tests.{le-leb, lt-leb}
 use Rattle.graph.proofs.Lists.{getD-member}
 use Rattle.graph.proofs.Theorems.{preorder-distinct}
-use Rattle.pool.specs.Layout.{registerCount, cellCount, graphOf, rootsOf}
+use Rattle.pool.specs.Layout.{registerCount, graphOf, rootsOf}
 use Rattle.questions.specs.Validity.{wellFormed}
 use Rattle.answers.specs.Outcome.{Outcome, answered, refused}
-use Rattle.pool.proofs.Sizes.{cells-sized}
 use Rattle.questions.proofs.WellFormed.{well-formed-read}
 use Rattle.questions.proofs.PoolGraph.{pool-within}
-use Rattle.collector.specs.Collect.{reachedCells, reachedCount}
+use Rattle.reversal.specs.Reached.{reachedCells, reachedCount}
 use Rattle.image.specs.Image.{numberIn, imageOf}
 use Rattle.save.specs.Save.{saveImage, saveIn}
 use Rattle.save.specs.Steps.{Savable, Clear, Numbered, NumbersWithin, Listed, Ordered}

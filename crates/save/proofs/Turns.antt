@@ -7,7 +7,7 @@ use mathlib.Core.Bool.{Bool, true, false}
 use lib.ListN.{length, getD, set, replicate, length-set}
 use Rattle.pool.specs.Layout.{cellLimit, poolLength, register, left, right}
 use Rattle.questions.proofs.WellFormed.{WellFormed, well-formed-read}
-use Rattle.collector.specs.Collect.{reachedCount}
+use Rattle.reversal.specs.Reached.{reachedCount}
 use Rattle.save.specs.Steps.{Savable, Clear, isNew, Numbered}
 use Rattle.save.proofs.Walking.{Walking, new-cell, walking-first, walking-few, walking-hand, walking-room, walking-take, walking-pop, walking-root, walking-end}
 

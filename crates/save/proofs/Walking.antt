@@ -22,7 +22,7 @@ use Rattle.pool.specs.Layout.{register, left, right, graphOf, rootsOf}
 use Rattle.pool.proofs.Every.{length-tabulate, getD-tabulate}
 use Rattle.questions.proofs.WellFormed.{Link, WellFormed}
 use Rattle.questions.proofs.PoolGraph.{Used, link-bound, used-links, pool-within}
-use Rattle.collector.specs.Collect.{reachedCells, reachedCount}
+use Rattle.reversal.specs.Reached.{reachedCells, reachedCount}
 use Rattle.image.specs.Image.{placeFrom, numberIn}
 use Rattle.save.specs.Steps.{isNew, Numbered}
 use Rattle.save.proofs.Numbering.{number-member, number-placed, number-last, number-other}

@@ -10,7 +10,7 @@ use Rattle.pool.specs.Layout.{registerCount, cellLimit, cellCountOfLength, cell
 use Rattle.questions.specs.Validity.{wellFormed}
 use Rattle.pool.specs.Retain.{freeList, freeCells}
 use Rattle.answers.specs.Outcome.{answered}
-use Rattle.collector.specs.Collect.{reachedCells, reachedCount}
+use Rattle.reversal.specs.Reached.{reachedCells, reachedCount}
 use Rattle.image.specs.Image.{numberIn, encodeAll, Image, readImage}
 use Rattle.image.specs.Load.{loadedWords, loadOf}
 use Rattle.save.specs.Save.{saveImage, saveOf}

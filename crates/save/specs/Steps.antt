@@ -7,7 +7,7 @@ use lib.ListN.{length, getD, replicate}
 use lib.Dec.{eqb}
 use Rattle.pool.specs.Layout.{cellLimit, poolLength}
 use Rattle.questions.specs.Validity.{wellFormed}
-use Rattle.collector.specs.Collect.{reachedCells, reachedCount}
+use Rattle.reversal.specs.Reached.{reachedCells, reachedCount}
 use Rattle.image.specs.Image.{numberIn}
 
 -- A well-formed pool of n cells, with scratch of s words.

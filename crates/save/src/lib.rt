@@ -1,15 +1,15 @@
 // The image of a pool, written to lent bytes.
 use answers::Refusal;
 use leb128::Written;
-use questions::Admitted;
 use pool::Pool;
+use questions::Admitted;
 ghost use mathlib.Core.Path.{_≡_};
 ghost use mathlib.Core.List.{_++_};
 ghost use Prim.Native.Nat.{_+_, _*_, _<_, _≤_};
 ghost use lib.ListN.{length, take, drop};
 ghost use Rattle.leb128.specs.Leb128.{encode};
 ghost use Rattle.pool.specs.Layout.{registerCount, cellLimit, poolLength};
-ghost use Rattle.collector.specs.Collect.{reachedCells, reachedCount};
+ghost use Rattle.reversal.specs.Reached.{reachedCells, reachedCount};
 ghost use Rattle.image.specs.Image.{savedField, imageOf};
 ghost use Rattle.save.specs.Save.{savedOutcome, saveImage, saveIn, saveOf};
 ghost use Rattle.save.specs.Steps.{numberAt, isNew, Savable, Clear, Numbered, NumbersWithin, Listed, Ordered};

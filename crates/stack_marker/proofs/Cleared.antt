@@ -14,7 +14,7 @@ use Rattle.pool.proofs.States.{used-not-marked, used-same, marked-marked}
 use Rattle.pool.proofs.Laws.{length-setCell, cell-same, cell-other, setCell-again, setCell-comm, setCell-cell}
 use Rattle.questions.proofs.WellFormed.{WellFormed, cell-unmarked}
 use Rattle.questions.proofs.PoolGraph.{Used}
-use Rattle.collector.specs.ReversalTheorem.{markAll}
+use Rattle.reversal.specs.ReversalTheorem.{markAll}
 use Rattle.stack_marker.specs.Steps.{cleared}
 
 module _ (R : ℕ) where

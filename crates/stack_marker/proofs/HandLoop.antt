@@ -18,13 +18,14 @@ use Rattle.pool.proofs.States.{marked-not-used}
 use Rattle.questions.proofs.WellFormed.{WellFormed, well-formed-read}
 use Rattle.pool.proofs.Sizes.{both}
 use Rattle.questions.proofs.PoolGraph.{Used, pool-within}
-use Rattle.collector.specs.Reversal.{unmarked}
-use Rattle.collector.specs.ReversalTheorem.{markAll}
-use Rattle.collector.proofs.MarkAll.{length-markAll, state-markAll-same, state-markAll-other}
-use Rattle.collector.proofs.PoolMarks.{stateMarks, stateMarks-used, stateMarks-other}
-use Rattle.stack_marker.specs.Steps.{onwardIn, Settled, Started, runFromCell, Ran}
-use Rattle.stack_marker.proofs.Fresh.{marked-more, Passing, passing}
-use Rattle.stack_marker.proofs.Going.{Going, weight-most, begin}
+use Rattle.reversal.specs.Reversal.{unmarked}
+use Rattle.reversal.specs.ReversalTheorem.{markAll}
+use Rattle.reversal.proofs.MarkAll.{length-markAll, state-markAll-same, state-markAll-other}
+use Rattle.reversal.proofs.PoolMarks.{stateMarks, stateMarks-used, stateMarks-other}
+use Rattle.stack_marker.specs.Steps.{onwardIn, Started, runFromCell, Ran}
+use Rattle.stack_algorithm.specs.Steps.{Settled}
+use Rattle.stack_algorithm.proofs.Fresh.{marked-more, Passing, passing}
+use Rattle.stack_algorithm.proofs.Going.{Going, weight-most, begin}
 use Rattle.stack_marker.proofs.Simulation.{entries, entries-length, entries-push, entries-pop, Running, running-length, running-cell, running-new, running-turn, running-end, running-deep, running-undone}
 
 -- Where nothing is pending.

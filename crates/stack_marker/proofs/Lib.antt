@@ -1,7 +1,3 @@
-pub mod Fresh
-pub mod Cases
-pub mod Going
-pub mod Chain
 pub mod Cleared
 pub mod Members
 pub mod Simulation

@@ -11,8 +11,8 @@ use Rattle.graph.specs.Preorder.{elem}
 use Rattle.graph.proofs.Lists.{has-member, member-has}
 use Rattle.pool.specs.Layout.{poolLength, cell}
 use Rattle.pool.proofs.Retained.{Place, place}
-use Rattle.collector.specs.ReversalTheorem.{markAll}
-use Rattle.collector.proofs.MarkAll.{length-markAll, field-markAll, state-markAll, state-markAll-other}
+use Rattle.reversal.specs.ReversalTheorem.{markAll}
+use Rattle.reversal.proofs.MarkAll.{length-markAll, field-markAll, state-markAll, state-markAll-other}
 use Rattle.collector.proofs.MarkSweep.{markAll-elsewhere}
 
 pub markAll-members : (R n : ℕ) (w t u : List ℕ) → poolLength R n ≤ length w → ((x : ℕ) → List·Memᴰ x t → (0 < x) × (x ≤ n))

@@ -17,15 +17,16 @@ use Rattle.questions.specs.Validity.{wellFormed}
 use Rattle.pool.proofs.Every.{length-tabulate, getD-tabulate, member-tabulate}
 use Rattle.questions.proofs.WellFormed.{WellFormed, well-formed-read}
 use Rattle.questions.proofs.PoolGraph.{pool-within}
-use Rattle.collector.specs.Reversal.{unmarked}
-use Rattle.collector.specs.ReversalTheorem.{markAll}
-use Rattle.collector.proofs.MarkAll.{markAll-append, length-markAll, register-markAll}
-use Rattle.stack_marker.specs.Stack.{isUnmarked, run, taken, runs, holding}
-use Rattle.stack_marker.specs.Steps.{Settled, Started, runFromCell, poolRun, Ran}
-use Rattle.stack_marker.proofs.Fresh.{fresh-true}
-use Rattle.stack_marker.proofs.Going.{Going, going-first, begin, weight-most, ended}
+use Rattle.reversal.specs.Reversal.{unmarked}
+use Rattle.reversal.specs.ReversalTheorem.{markAll}
+use Rattle.reversal.proofs.MarkAll.{markAll-append, length-markAll, register-markAll}
+use Rattle.stack_algorithm.specs.Stack.{isUnmarked, run, taken, runs, holding}
+use Rattle.stack_algorithm.specs.Steps.{Settled}
+use Rattle.stack_marker.specs.Steps.{Started, runFromCell, poolRun, Ran}
+use Rattle.stack_algorithm.proofs.Fresh.{fresh-true}
+use Rattle.stack_algorithm.proofs.Going.{Going, going-first, begin, weight-most, ended}
 use Rattle.stack_marker.proofs.Simulation.{test, leb-max}
-use Rattle.stack_marker.proofs.Cases.{run-none}
+use Rattle.stack_algorithm.proofs.Cases.{run-none}
 use Rattle.stack_marker.proofs.HandLoop.{settled-going}
 
 going-settled : {n : ℕ} {g : Graph} {roots seen : List ℕ} → Going n g roots seen [] → Settled g roots seen

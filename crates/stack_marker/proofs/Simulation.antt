@@ -18,14 +18,14 @@ use Rattle.pool.specs.States.{isUsed}
 use Rattle.pool.proofs.States.{marked-not-used}
 use Rattle.questions.proofs.WellFormed.{WellFormed}
 use Rattle.questions.proofs.PoolGraph.{Used, reached-used, pool-within}
-use Rattle.collector.specs.Reversal.{unmarked}
-use Rattle.collector.specs.ReversalTheorem.{markAll}
-use Rattle.collector.proofs.MarkAll.{markAll-append, length-markAll, field-markAll, state-markAll-same, state-markAll-other}
-use Rattle.stack_marker.specs.Stack.{isUnmarked, unmarkedLinks, onward, run}
+use Rattle.reversal.specs.Reversal.{unmarked}
+use Rattle.reversal.specs.ReversalTheorem.{markAll}
+use Rattle.reversal.proofs.MarkAll.{markAll-append, length-markAll, field-markAll, state-markAll-same, state-markAll-other}
+use Rattle.stack_algorithm.specs.Stack.{isUnmarked, unmarkedLinks, onward, run}
 use Rattle.stack_marker.specs.Steps.{cleared, onwardIn}
-use Rattle.stack_marker.proofs.Fresh.{member-fresh, other-fresh}
-use Rattle.stack_marker.proofs.Cases.{run-none}
-use Rattle.stack_marker.proofs.Going.{Going, weight, turn, turn-less}
+use Rattle.stack_algorithm.proofs.Fresh.{member-fresh, other-fresh}
+use Rattle.stack_algorithm.proofs.Cases.{run-none}
+use Rattle.stack_algorithm.proofs.Going.{Going, weight, turn, turn-less}
 use Rattle.stack_marker.proofs.Cleared.{cleared-marks}
 
 -- the two tests decide which links the marker goes on to

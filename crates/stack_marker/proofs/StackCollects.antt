@@ -1,5 +1,5 @@
 -- What a collection with a lent stack answers and leaves, beside `collect`.
-use Prim.Native.Nat.{ℕ, _*_, _<_, _≤_}
+use Prim.Native.Nat.{ℕ, _<_, _≤_}
 use native.Mathlib.Omega.{arith}
 use mathlib.Core.Path.{_≡_, refl}
 use mathlib.Core.Logic.{_↔_}
@@ -8,8 +8,9 @@ use lib.ListN.{length}
 use lib.Dec.{leb}
 use borrow.Author.Tests.{lt-ltb, leb-true, leb-false}
 use Rattle.pool.specs.Layout.{registerCount, graphOf, rootsOf}
-use Rattle.collector.specs.Collect.{reachedCount, collected, reachedVisits}
-use Rattle.stack_marker.specs.Stack.{maxEntries}
+use Rattle.reversal.specs.Reached.{reachedCount, reachedVisits}
+use Rattle.collector.specs.Collect.{collected}
+use Rattle.stack_algorithm.specs.Stack.{maxEntries}
 use Rattle.stack_marker.specs.StackCollect.{isEnough}
 use Rattle.stack_marker.specs.StackTheorem.{StackCollects}
 

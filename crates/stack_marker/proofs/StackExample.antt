@@ -4,9 +4,9 @@ use Rattle.graph.specs.Preorder.{elem, visit, visits, preorder}
 use Rattle.pool.specs.Words.{tabulate, every}
 use Rattle.pool.specs.Layout.{cellCountOfLength, count, cellCount, head, register, cell, setCell}
 use Rattle.pool.specs.Retain.{lowestFree, retain}
-use Rattle.stack_marker.specs.Stack.{run, runs}
+use Rattle.stack_algorithm.specs.Stack.{run, runs}
 use Rattle.stack_marker.specs.StackExample.{LeafExample}
-use Rattle.collector.specs.Collect.{visitsOf}
+use Rattle.reversal.specs.Reached.{visitsOf}
 
 pub leaf-example : LeafExample
 unfolding elem visit visits preorder visitsOf tabulate every cellCountOfLength count cellCount head register cell setCell lowestFree retain run runs

@@ -12,12 +12,13 @@ use Rattle.pool.specs.Retain.{sweepOf}
 use Rattle.answers.specs.Outcome.{Outcome, answered}
 use Rattle.questions.proofs.WellFormed.{well-formed-read}
 use Rattle.questions.proofs.PoolGraph.{pool-within}
-use Rattle.collector.specs.ReversalTheorem.{markedOf}
-use Rattle.collector.specs.Collect.{reachedCells, reachedCount, collected}
+use Rattle.reversal.specs.ReversalTheorem.{markedOf}
+use Rattle.reversal.specs.Reached.{reachedCells, reachedCount}
+use Rattle.collector.specs.Collect.{collected}
 use Rattle.collector.proofs.MarkSweep.{swept-reached}
 use Rattle.stack_marker.specs.StackCollect.{isEnough, stackIn}
 use Rattle.stack_marker.specs.Steps.{cleared, poolRun, Ran}
-use Rattle.stack_marker.proofs.Going.{stack-marks-the-reached}
+use Rattle.stack_algorithm.proofs.Going.{stack-marks-the-reached}
 use Rattle.stack_marker.proofs.Members.{markAll-members}
 
 module _ (n : ℕ) (w stack w' : List ℕ) (well : wellFormed registerCount n w ≡ true) (enough : Bool)

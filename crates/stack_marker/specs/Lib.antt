@@ -1,4 +1,3 @@
-pub mod Stack
 pub mod StackCollect
 pub mod StackTheorem
 pub mod Steps

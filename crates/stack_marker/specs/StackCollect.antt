@@ -1,5 +1,5 @@
 -- A collection that marks with a lent stack (01, "Marking with a lent stack").
-use Prim.Native.Nat.{ℕ, zero, suc}
+use Prim.Native.Nat.{ℕ}
 use mathlib.Core.List.{List, [], _∷_}
 use mathlib.Core.Bool.{Bool, cond}
 use lib.ListN.{length, replicate}
@@ -7,11 +7,10 @@ use lib.Dec.{leb}
 use Rattle.pool.specs.Layout.{registerCount, graphOf, rootsOf}
 use Rattle.questions.specs.Validity.{wellFormed}
 use Rattle.questions.specs.Questions.{sizedOf, admittedTo}
-use Rattle.pool.specs.States.{unmarkCell}
-use Rattle.pool.specs.Retain.{markedCell}
 use Rattle.answers.specs.Outcome.{Outcome, answered, refused}
-use Rattle.collector.specs.Collect.{reachedCount, collected}
-use Rattle.stack_marker.specs.Stack.{maxEntries}
+use Rattle.reversal.specs.Reached.{reachedCount}
+use Rattle.collector.specs.Collect.{collected}
+use Rattle.stack_algorithm.specs.Stack.{maxEntries}
 
 -- "whether the stack was enough, yes exactly when Algorithm 2 never holds more entries than there are words"
 abbrev pub isEnough : ℕ → List ℕ → List ℕ → Bool

@@ -1,19 +1,20 @@
 -- What the loops of the stack marker may rely on, and what they come to.
-use Prim.Native.Nat.{ℕ, zero, suc, _*_, _<_}
+use Prim.Native.Nat.{ℕ, zero, suc, _*_}
 use mathlib.Core.Path.{_≡_}
-use mathlib.Core.List.{List, [], _∷_, _++_, List·Memᴰ}
+use mathlib.Core.List.{List, [], _∷_, _++_}
 use mathlib.Core.Bool.{Bool, true, false, cond}
 use lib.Dec.{leb}
-use Rattle.graph.specs.Graph.{Graph, Reach}
+use Rattle.graph.specs.Graph.{Reach}
 use Rattle.pool.specs.Layout.{linkOf, graphOf, rootsOf}
 use Rattle.questions.specs.Validity.{wellFormed}
-use Rattle.collector.specs.Reversal.{unmarked}
-use Rattle.collector.specs.ReversalTheorem.{markAll}
-use Rattle.stack_marker.specs.Stack.{isUnmarked, unmarkedLinks, run, stackRun}
+use Rattle.reversal.specs.Reversal.{unmarked}
+use Rattle.reversal.specs.ReversalTheorem.{markAll}
+use Rattle.stack_algorithm.specs.Stack.{isUnmarked, unmarkedLinks, run, stackRun}
 use Rattle.pool.specs.States.{unmarkCell}
 use Rattle.pool.specs.Retain.{markedCell}
 use Rattle.stack_marker.specs.declared.Onward.{Onward}
 use Rattle.stack_marker.specs.declared.Onward.the-variants as onward
+use Rattle.stack_algorithm.specs.Steps.{Settled}
 
 -- "marks are cleared": every one of the cells i to 1 that is marked becomes used.
 unfoldable pub cleared : ℕ → ℕ → List ℕ → List ℕ
@@ -30,15 +31,6 @@ linksOf (onward.Both l r) = l ∷ r ∷ []
 abbrev pub onwardIn : ℕ → List ℕ → ℕ → List ℕ
 onwardIn R w p =
     unmarkedLinks (unmarked R w (linkOf R w p 1)) (unmarked R w (linkOf R w p 2)) (linkOf R w p 1) (linkOf R w p 2)
-
--- The links of a cell are nil or marked.
-abbrev pub LinksSeen : Graph → List ℕ → ℕ → Type 0
-LinksSeen g seen x = (0 < g .left x → List·Memᴰ (g .left x) seen) × (0 < g .right x → List·Memᴰ (g .right x) seen)
-
--- Between the runs from two registers: what is marked is reached, and its links are nil or marked.
-pub record Settled (g : Graph) (roots seen : List ℕ) : Type 0 where
-  pub cells : (x : ℕ) → List·Memᴰ x seen → Reach g roots x
-  pub closed : (x : ℕ) → List·Memᴰ x seen → LinksSeen g seen x
 
 -- What a run from the cell p may rely on: the words w are those of a well-formed pool of n cells in which some cells are marked, and then p, a cell
 -- that is reached and was not marked.

@@ -1,15 +1,15 @@
 // Marking with a lent stack, and the collection that marks so.
 use answers::Answer;
 use answers::Refusal;
-use questions::Admitted;
 use pool::Pool;
+use questions::Admitted;
 ghost use mathlib.Core.Path.{_≡_};
 ghost use Prim.Native.Nat.{_<_, _≤_};
 ghost use lib.ListN.{length};
 ghost use mathlib.Core.Bool.{true, cond};
 ghost use Rattle.pool.specs.Layout.{registerCount, cellLimit, poolLength, left, right};
 ghost use Rattle.questions.specs.Validity.{wellFormed};
-ghost use Rattle.collector.specs.ReversalTheorem.{markedOf};
+ghost use Rattle.reversal.specs.ReversalTheorem.{markedOf};
 ghost use Rattle.answers.specs.Outcome.{answerOutcome};
 ghost use Rattle.stack_marker.specs.StackCollect.{isEnough, stackIn, stackOf};
 ghost use Rattle.stack_marker.specs.Steps.{cleared, linksOf, onwardIn, Started, runFromCell, poolRun, Ran};
@@ -28,13 +28,13 @@ fn look(words: &[u32], n: u32, p: u32) -> Onward
 {
     let left = pool::link_of(words, p, Pool::LEFT);
     let right = pool::link_of(words, p, Pool::RIGHT);
-    if collector::is_unmarked(words, left) {
-        if collector::is_unmarked(words, right) {
+    if reversal::is_unmarked(words, left) {
+        if reversal::is_unmarked(words, right) {
             Onward::Both(left, right)
         } else {
             Onward::To(left)
         }
-    } else if collector::is_unmarked(words, right) {
+    } else if reversal::is_unmarked(words, right) {
         Onward::To(right)
     } else {
         Onward::Nowhere
@@ -101,7 +101,7 @@ fn mark_registers(words: &mut [u32], n: u32, stack: &mut [u32]) -> bool
     let mut k = 0;
     while k < Pool::REGISTERS {
         let p = pool::read_register(words, k);
-        if collector::is_unmarked(words, p) {
+        if reversal::is_unmarked(words, p) {
             pool::mark_cell(words, p);
             if mark_from(words, n, stack, p) {
                 k += 1;
@@ -124,7 +124,7 @@ fn mark(words: &mut [u32], n: u32, stack: &mut [u32]) -> bool
         return true;
     }
     clear_marks(words, n);
-    collector::mark(words, n);
+    reversal::mark(words, n);
     false
 }
 

@@ -15,14 +15,14 @@ use Rattle.pool.specs.Retain.{freshWords}
 use Rattle.pool.proofs.RetainedPool.{retained-free-list}
 use Rattle.pool.proofs.FreshPool.{fresh-is-free}
 use Rattle.questions.proofs.FreshPool.{fresh-is-well-formed}
-use Rattle.collector.specs.Collect.{isReached}
+use Rattle.reversal.specs.Reached.{isReached}
 use Rattle.collector.proofs.CollectTheorem.{collection-keeps-the-reached, collection-marks-and-sweeps}
-use Rattle.collector.proofs.Roots.{run-from-roots, run-over-pool}
-use Rattle.collector.proofs.Run.{run-from-link}
-use Rattle.stack_marker.proofs.Chain.{chain-needs}
+use Rattle.reversal.proofs.Roots.{run-from-roots, run-over-pool}
+use Rattle.reversal.proofs.Run.{run-from-link}
+use Rattle.stack_algorithm.proofs.Chain.{chain-needs}
 use Rattle.stack_marker.proofs.StackCollects.{stack-collects}
-use Rattle.stack_marker.proofs.Going.{stack-ends, stack-marks-the-reached, stack-bound}
-use Rattle.stack_marker.proofs.Cases.{stack-cases}
+use Rattle.stack_algorithm.proofs.Going.{stack-ends, stack-marks-the-reached, stack-bound}
+use Rattle.stack_algorithm.proofs.Cases.{stack-cases}
 use Rattle.calls.specs.declared.Call.the-variants as call
 use Rattle.batch.proofs.Whole.{runs-one-after-the-other}
 use Rattle.reference.proofs.Theorems.{equivalence, equivalence-at-limit, reached-pools, never-malformed}

@@ -23,8 +23,8 @@ use Rattle.pool.specs.Retain.{lowestFree, retain}
 use Rattle.pool.proofs.Sizes.{both}
 use Rattle.questions.proofs.WellFormed.{well-formed-read}
 use Rattle.questions.proofs.PoolGraph.{pool-within}
-use Rattle.collector.specs.ReversalTheorem.{Agreement, Untouched}
-use Rattle.stack_marker.specs.Stack.{run, runs}
+use Rattle.reversal.specs.ReversalTheorem.{Agreement, Untouched}
+use Rattle.stack_algorithm.specs.Stack.{run, runs}
 use Rattle.batch.specs.Program.{programOf, programOfCalls}
 use Rattle.batch.specs.Run.{runFrom, afterAll}
 use Rattle.reference.specs.Equivalence.{poolAnswers}
@@ -34,7 +34,7 @@ use Rattle.script.specs.Reader.{spaceOf, letterOf, digitOf, feedOf, endOf, begu
 use Rattle.replies.specs.Replies.{digits, decimal}
 use Rattle.script.specs.Scripts.{nextLine}
 use Rattle.worked_examples.specs.Instances.{three, threeCollected, two, graph, roots, Swapped, Pool-instance, Reversal-instance, Graph-instance, Number-instance, Image-instance, Batch-instance, Script-instance}
-use Rattle.collector.specs.Collect.{visitsOf}
+use Rattle.reversal.specs.Reached.{visitsOf}
 
 -- Every element of a list that is tested whole is below a bound.
 below : (b : ℕ) → 0 < b → (xs : List ℕ) → all (λ x. ltb x b) xs ≡ true → (i : ℕ) → getD xs i 0 < b

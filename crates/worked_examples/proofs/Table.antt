@@ -4,10 +4,10 @@ use Rattle.leb128.specs.Leb128.{groups, encode, readGroups, readAt}
 use Rattle.graph.specs.Preorder.{elem, visit, visits, preorder}
 use Rattle.pool.specs.Words.{tabulate, every}
 use Rattle.pool.specs.Layout.{cellCountOfLength, count, cellCount, register, cell}
-use Rattle.stack_marker.specs.Stack.{run, runs}
+use Rattle.stack_algorithm.specs.Stack.{run, runs}
 use Rattle.image.specs.Image.{readFields, readImage}
 use Rattle.worked_examples.specs.Table.{All, WorkedExamples}
-use Rattle.collector.specs.Collect.{visitsOf}
+use Rattle.reversal.specs.Reached.{visitsOf}
 
 pub worked-examples : WorkedExamples
 unfolding All groups encode readGroups readAt elem visit visits preorder visitsOf tabulate every cellCountOfLength count cellCount register cell readFields readImage run runs

@@ -16,10 +16,11 @@ use Rattle.pool.specs.Layout.{registerCount, cellLimit, poolLength, cellCountOf
 use Rattle.questions.specs.Validity.{wellFormed}
 use Rattle.pool.specs.Retain.{freshWords}
 use Rattle.answers.specs.Outcome.{answered}
-use Rattle.collector.specs.Collect.{reachedCells, reachedCount, collectOf}
-use Rattle.collector.specs.ReversalTheorem.{Agreement}
+use Rattle.reversal.specs.Reached.{reachedCells, reachedCount}
+use Rattle.collector.specs.Collect.{collectOf}
+use Rattle.reversal.specs.ReversalTheorem.{Agreement}
 use Rattle.recursive_marker.specs.Steps.{Markable}
-use Rattle.stack_marker.specs.Stack.{isUnmarked, stackRun}
+use Rattle.stack_algorithm.specs.Stack.{isUnmarked, stackRun}
 use Rattle.stack_marker.specs.StackCollect.{stackOf}
 use Rattle.calls.specs.declared.Call.{Call}
 use Rattle.calls.specs.declared.Call.the-variants as call

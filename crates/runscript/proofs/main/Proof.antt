@@ -56,13 +56,12 @@ loop-again : tie.Need-loop-again Inv-loop μ-loop
 loop-again c =
     let at-if1 = c .before in
     let at-read-part = at-if1 .before .before .before .before .before in
-    let at-loop = at-read-part .before .before .before .before .before in
-    (
-  at-read-part .read-part .kept .0 ∙ at-loop .loop .inv .0,
-  at-read-part .read-part .kept .1 .0 ∙ at-loop .loop .inv .1,
-  at-read-part .read-part .kept .1 .1 .0 ∙ at-loop .loop .inv .2,
-  so-far-on _ _ _ _ _ (at-loop .loop .inv .3) (at-read-part .read-part .ensures (not-false _ (at-if1 .if1 .left))),
-)
+    let at-loop = at-read-part .before .before .before .before .before in (
+      at-read-part .read-part .kept .0 ∙ at-loop .loop .inv .0,
+      at-read-part .read-part .kept .1 .0 ∙ at-loop .loop .inv .1,
+      at-read-part .read-part .kept .1 .1 .0 ∙ at-loop .loop .inv .2,
+      so-far-on _ _ _ _ _ (at-loop .loop .inv .3) (at-read-part .read-part .ensures (not-false _ (at-if1 .if1 .left))),
+    )
 
 returns-2 : tie.Need-returns-2 Inv-loop μ-loop
 returns-2 c = tt

@@ -9,7 +9,7 @@ use mathlib.Core.List.{List}
 use denote.Ref.{now}
 use Rattle.leb128.proofs.Encoding.{encode-size}
 use Rattle.pool.specs.Layout.{cellLimit, registerCount}
-use Rattle.collector.specs.Collect.{reachedCells}
+use Rattle.reversal.specs.Reached.{reachedCells}
 use Rattle.image.specs.Image.{savedField}
 use Rattle.save.specs.Steps.{numberAt}
 use Rattle.save.proofs.ImageNumber.{few-kept, register-bound, saved-register}

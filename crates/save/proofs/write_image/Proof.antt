@@ -8,7 +8,7 @@ use mathlib.Core.List.{List}
 use lib.ListN.{length}
 use denote.Ref.{now}
 use Rattle.pool.specs.Layout.{cellLimit, registerCount}
-use Rattle.collector.specs.Collect.{reachedCells}
+use Rattle.reversal.specs.Reached.{reachedCells}
 use Rattle.image.specs.Image.{fieldCount, savedField}
 use Rattle.save.specs.Steps.{numberAt}
 use Rattle.save.proofs.ImageNumber.{few-kept, register-bound, saved-register}

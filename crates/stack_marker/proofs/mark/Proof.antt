@@ -9,7 +9,7 @@ use Prim.Native.Nat.{ℕ}
 use mathlib.Core.List.{List}
 use lib.ListN.{length}
 use Rattle.questions.specs.Validity.{wellFormed}
-use Rattle.collector.specs.ReversalTheorem.{markedOf}
+use Rattle.reversal.specs.ReversalTheorem.{markedOf}
 use Rattle.stack_marker.proofs.StackSweep.{marked-enough, marked-anew, not-enough}
 
 mark-registers-requires : tie.Need-mark-registers-requires

@@ -1,0 +1,10 @@
+pub mod MarkAll
+pub mod VisitCount
+pub mod Agreement
+pub mod Run
+pub mod PoolMarks
+pub mod Roots
+pub mod Measure
+pub mod RunLoop
+pub mod VisitStep
+pub mod RootLoop

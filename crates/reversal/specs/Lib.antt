@@ -1,0 +1,4 @@
+pub mod Reached
+pub mod Reversal
+pub mod ReversalTheorem
+pub mod Steps

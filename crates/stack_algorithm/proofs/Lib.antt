@@ -1,0 +1,4 @@
+pub mod Fresh
+pub mod Cases
+pub mod Going
+pub mod Chain
