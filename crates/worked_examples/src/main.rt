@@ -53,7 +53,7 @@ fn chain(words: &mut [u32]) {
     calls::new(words, 0, 0, 0, 5);
 }
 
-// "Halving the stack bound: a chain with equal links needs N - 1 words." The pool is as it was after either, and so it collects the same.
+// "Halving the stack bound: a chain with equal links needs N − 1 words." The pool is as it was after either, and so it collects the same.
 fn equal_links() {
     let mut words = [0u32; 38];
     let mut four = [0u32; 4];
