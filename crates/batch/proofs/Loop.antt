@@ -16,10 +16,11 @@ use Rattle.calls.specs.Calls.{callOf}
 use Rattle.batch.specs.declared.Decoded.{Decoded}
 use Rattle.batch.specs.declared.Decoded.the-variants as decoded
 use Rattle.batch.specs.declared.Ran.the-variants as ran
-use Rattle.batch.specs.Program.{Program, ended, malformed, then, callNumbered, thenDecoded, programOf, entryAt}
+use Rattle.batch.specs.Program.{Program, ended, malformed, then, callNumbered, thenDecoded, programOf}
 use Rattle.batch.specs.Run.{written, runFrom, runOf}
+use Rattle.batch.specs.Steps.{entryAt}
 
--- a list of five words or more begins with an entry, and one of fewer is cut
+-- a list of five words or more begins with an entry, and a shorter one is malformed unless it is empty
 five : (l : List ℕ) → 5 ≤ length l
     → programOf l ≡ thenDecoded (callNumbered (getD l 0 0) (getD l 1 0) (getD l 2 0) (getD l 3 0) (getD l 4 0)) (programOf (drop 5 l))
 unfolding programOf
@@ -59,7 +60,7 @@ pub record Running (list w₀ out₀ w out : List ℕ) (k : ℕ) : Type 0 where
 pub running-first : (list w out : List ℕ) → Running list w out w out 0
 running-first list w out = record { bound = omega arith; words = refl; answers = refl; same = refl }
 
--- a step of the definition, at each thing that may come
+-- one step of `runFrom`, for each program that may remain
 module _ (k : ℕ) {p : Program} (w out : List ℕ) where
   at-end : p ≡ ended → runFrom k p w out ≡ (ran.All k, w, out)
   unfolding runFrom

@@ -1,4 +1,4 @@
--- A list that holds calls, whole, with room for their answers: the calls run one after the other, and each answer is written.
+-- A list of words that holds calls and nothing else, with room for their answers: the calls run one after the other, and each answer is written.
 use Prim.Native.Nat.{ℕ, zero, suc, _+_, _*_, _≤_}
 use native.Mathlib.Omega.{arith}
 use native.Mathlib.Nat.{add-zero, zero-add}
@@ -71,3 +71,9 @@ from (c ∷ cs) k w front (x ∷ y ∷ z ∷ back) e room =
 
 pub runs-one-after-the-other : RunsOneAfterTheOther
 runs-one-after-the-other list cs w out holds room = rw holds (simp zero-add at (from cs 0 w [] out refl room))
+
+-- each answer has three words
+pub words-length : (cs : List Call) (w : List ℕ) → length (answerWords (answersOf cs w)) ≡ 3 * length cs
+unfolding answersOf answerWords
+words-length [] w = refl
+words-length (c ∷ cs) w = omega (arith, words-length cs (callOf c w .1))

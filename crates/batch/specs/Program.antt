@@ -1,9 +1,8 @@
 -- A list of calls as words: five words a call, its code and then its arguments; what follows them among the five is ignored.
-use Prim.Native.Nat.{ℕ, _+_}
+use Prim.Native.Nat.{ℕ}
 use mathlib.Core.List.{List, [], _∷_, _++_}
 use mathlib.Core.Bool.{cond}
-use lib.ListN.{length, getD}
-use lib.Dec.{eqb, leb}
+use lib.Dec.{eqb}
 use Rattle.calls.specs.declared.Call.{Call}
 use Rattle.calls.specs.declared.Call.the-variants as call
 use Rattle.batch.specs.declared.Decoded.{Decoded}
@@ -24,17 +23,18 @@ callNumbered code x y z u =
     (cond (eqb code 9) (decoded.Known (call.Same x y))
     (cond (eqb code 10) (decoded.Known call.Collect) decoded.Unknown))))))))))
 
--- The calls that a list of words holds, to its end or to the first entry that is no call: one of fewer than five words, or of an unknown code.
+-- A program: calls, to the end of the list or to the first entry that is no call, one of fewer than five words or of an unknown code.
 pub data Program : Type 0 where
   ended : Program
   malformed : Program
   then : Call → Program → Program
 
+-- An entry, and the program behind it.
 abbrev pub thenDecoded : Decoded → Program → Program
 thenDecoded (decoded.Known c) rest = then c rest
 thenDecoded decoded.Unknown rest = malformed
 
--- The calls that these words hold.
+-- The program that these words hold.
 unfoldable pub programOf : List ℕ → Program
 programOf [] = ended
 programOf (code ∷ x ∷ y ∷ z ∷ u ∷ rest) = thenDecoded (callNumbered code x y z u) (programOf rest)
@@ -43,12 +43,12 @@ programOf (code ∷ x ∷ []) = malformed
 programOf (code ∷ x ∷ y ∷ []) = malformed
 programOf (code ∷ x ∷ y ∷ z ∷ []) = malformed
 
--- The program that has these calls, and nothing else.
+-- The program of these calls, to the end of the list.
 unfoldable pub programOfCalls : List Call → Program
 programOfCalls [] = ended
 programOfCalls (c ∷ cs) = then c (programOfCalls cs)
 
--- The five words of a call, and of each call of a list.
+-- The five words of a call.
 abbrev pub callWords : Call → List ℕ
 callWords (call.Copy r a) = 0 ∷ r ∷ a ∷ 0 ∷ 0 ∷ []
 callWords (call.Clear r) = 1 ∷ r ∷ 0 ∷ 0 ∷ 0 ∷ []
@@ -62,13 +62,7 @@ callWords (call.Value a) = 8 ∷ a ∷ 0 ∷ 0 ∷ 0 ∷ []
 callWords (call.Same a b) = 9 ∷ a ∷ b ∷ 0 ∷ 0 ∷ []
 callWords call.Collect = 10 ∷ 0 ∷ 0 ∷ 0 ∷ 0 ∷ []
 
+-- The words of a list of calls.
 unfoldable pub programWords : List Call → List ℕ
 programWords [] = []
 programWords (c ∷ cs) = callWords c ++ programWords cs
-
--- The entry that begins at a word of the list; unknown where fewer than five words are left.
-abbrev pub entryAt : List ℕ → ℕ → Decoded
-entryAt list at =
-    cond (leb (at + 5) (length list))
-    (callNumbered (getD list at 0) (getD list (at + 1) 0) (getD list (at + 2) 0) (getD list (at + 3) 0) (getD list (at + 4) 0))
-    decoded.Unknown

@@ -31,11 +31,12 @@ runFrom k (then c rest) w out =
 abbrev pub runOf : List ℕ → List ℕ → List ℕ → Ran × List ℕ × List ℕ
 runOf list w out = runFrom 0 (programOf list) w out
 
--- The answers of a list of calls, each on the words that the one before it left, and the words after the last.
+-- The answers of a list of calls: "each call gets what the one before it left, refused or not".
 unfoldable pub answersOf : List Call → List ℕ → List Outcome
 answersOf [] w = []
 answersOf (c ∷ cs) w = callOf c w .0 ∷ answersOf cs (callOf c w .1)
 
+-- The words that the last of them leaves.
 unfoldable pub afterAll : List Call → List ℕ → List ℕ
 afterAll [] w = w
 afterAll (c ∷ cs) w = afterAll cs (callOf c w .1)
@@ -51,6 +52,6 @@ RunsOneAfterTheOther =
     (list : List ℕ) (cs : List Call) (w out : List ℕ) → programOf list ≡ programOfCalls cs → 3 * length cs ≤ length out
     → runOf list w out ≡ (ran.All (length cs), afterAll cs w, answerWords (answersOf cs w) ++ drop (3 * length cs) out)
 
--- Every list of calls can be given so.
+-- Every list of calls has words that hold it.
 abbrev pub EveryListHasWords : Type 0
 EveryListHasWords = (cs : List Call) → programOf (programWords cs) ≡ programOfCalls cs

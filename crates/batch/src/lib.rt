@@ -5,8 +5,9 @@ ghost use mathlib.Core.Path.{_≡_};
 ghost use Prim.Native.Nat.{_+_, _*_, _≤_};
 ghost use lib.ListN.{length};
 ghost use Rattle.answers.specs.Outcome.{answerOutcome};
-ghost use Rattle.batch.specs.Program.{callNumbered, entryAt};
+ghost use Rattle.batch.specs.Program.{callNumbered};
 ghost use Rattle.batch.specs.Run.{written, runOf};
+ghost use Rattle.batch.specs.Steps.{entryAt};
 
 // The call of an entry of the list.
 pub enum Decoded {

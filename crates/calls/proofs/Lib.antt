@@ -1,2 +1,1 @@
-pub mod Simple
 pub mod Asked

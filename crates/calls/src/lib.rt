@@ -1,17 +1,12 @@
-// The eleven calls on a pool. A function whose name ends in `_in` is a call behind its first two questions: it takes the number of cells, n, of words
-// that hold them, and registers that there are. The others ask these questions first, and run on any words and any numbers.
+// The eleven calls on a pool. Each asks the first two questions and then runs its body, which is in `operations`, `allocator` or `collector`. They take
+// any words and any numbers.
 use answers::Answer;
-use answers::Refusal;
 use pool::Pool;
 use questions::Admitted;
-use questions::Held;
 use questions::Named;
 ghost use mathlib.Core.Path.{_≡_};
-ghost use Prim.Native.Nat.{_<_, _≤_};
-ghost use lib.ListN.{length};
-ghost use Rattle.pool.specs.Layout.{registerCount, poolLength};
 ghost use Rattle.answers.specs.Outcome.{answerOutcome};
-ghost use Rattle.calls.specs.Calls.{copyIn, clearIn, followIn, linkIn, setValueIn, valueIn, sameIn, names, callOf};
+ghost use Rattle.calls.specs.Calls.{names, callOf};
 
 // A call: r, a and b are register numbers, v is a value.
 pub enum Call {
@@ -34,112 +29,6 @@ pub struct Step {
     pub answer: Answer,
 }
 
-// r gets what a holds.
-fn copy_in(words: &mut [u32], n: u32, r: u32, a: u32) -> Answer
-    requires { ⌜ (poolLength registerCount n ≤ length (now words)) × (r < registerCount) × (a < registerCount) ⌝ }
-    ensures { λ q. ⌜ (answerOutcome q, now (words .exit)) ≡ copyIn n (now (words .entry)) r a ⌝ }
-{
-    let Held::Link(x) = questions::read_link(words, n, a) else {
-        return Answer::Refused(Refusal::Malformed);
-    };
-    pool::write_register(words, r, x);
-    Answer::Done
-}
-
-// r becomes nil.
-fn clear_in(words: &mut [u32], r: u32) -> Answer
-    requires { ⌜ (poolLength registerCount 0 ≤ length (now words)) × (r < registerCount) ⌝ }
-    ensures { λ q. ⌜ (answerOutcome q, now (words .exit)) ≡ clearIn (now (words .entry)) r ⌝ }
-{
-    pool::write_register(words, r, 0);
-    Answer::Done
-}
-
-// r gets a link of a's cell: field 1 is left, 2 is right.
-fn follow_in(words: &mut [u32], n: u32, field: usize, r: u32, a: u32) -> Answer
-    requires { ⌜ (poolLength registerCount n ≤ length (now words)) × (field < 4) × (r < registerCount) × (a < registerCount) ⌝ }
-    ensures { λ q. ⌜ (answerOutcome q, now (words .exit)) ≡ followIn n (now (words .entry)) field r a ⌝ }
-{
-    let Held::Link(x) = questions::read_link(words, n, a) else {
-        return Answer::Refused(Refusal::Malformed);
-    };
-    if x == 0 {
-        return Answer::Refused(Refusal::Nil);
-    }
-    let link = pool::read_cell(words, x, field);
-    if questions::valid_link(words, n, link) {
-        pool::write_register(words, r, link);
-        Answer::Done
-    } else {
-        Answer::Refused(Refusal::Malformed)
-    }
-}
-
-// A link of a's cell becomes what b holds.
-fn link_in(words: &mut [u32], n: u32, field: usize, a: u32, b: u32) -> Answer
-    requires { ⌜ (poolLength registerCount n ≤ length (now words)) × (field < 4) × (a < registerCount) × (b < registerCount) ⌝ }
-    ensures { λ q. ⌜ (answerOutcome q, now (words .exit)) ≡ linkIn n (now (words .entry)) field a b ⌝ }
-{
-    let Held::Link(y) = questions::read_link(words, n, b) else {
-        return Answer::Refused(Refusal::Malformed);
-    };
-    let Held::Link(x) = questions::read_link(words, n, a) else {
-        return Answer::Refused(Refusal::Malformed);
-    };
-    if x == 0 {
-        return Answer::Refused(Refusal::Nil);
-    }
-    pool::write_cell(words, x, field, y);
-    Answer::Done
-}
-
-// The value of a's cell becomes v.
-fn set_value_in(words: &mut [u32], n: u32, a: u32, v: u32) -> Answer
-    requires { ⌜ (poolLength registerCount n ≤ length (now words)) × (a < registerCount) ⌝ }
-    ensures { λ q. ⌜ (answerOutcome q, now (words .exit)) ≡ setValueIn n (now (words .entry)) a v ⌝ }
-{
-    let Held::Link(x) = questions::read_link(words, n, a) else {
-        return Answer::Refused(Refusal::Malformed);
-    };
-    if x == 0 {
-        return Answer::Refused(Refusal::Nil);
-    }
-    pool::write_cell(words, x, Pool::VALUE, v);
-    Answer::Done
-}
-
-// The value of a's cell.
-fn value_in(words: &[u32], n: u32, a: u32) -> Answer
-    requires { ⌜ (poolLength registerCount n ≤ length (now words)) × (a < registerCount) ⌝ }
-    ensures { λ q. ⌜ (answerOutcome q, now (words .entry)) ≡ valueIn n (now (words .entry)) a ⌝ }
-{
-    let Held::Link(x) = questions::read_link(words, n, a) else {
-        return Answer::Refused(Refusal::Malformed);
-    };
-    if x == 0 {
-        return Answer::Refused(Refusal::Nil);
-    }
-    Answer::Number(pool::read_cell(words, x, Pool::VALUE))
-}
-
-// Do a and b hold the same link?
-fn same_in(words: &[u32], n: u32, a: u32, b: u32) -> Answer
-    requires { ⌜ (poolLength registerCount n ≤ length (now words)) × (a < registerCount) × (b < registerCount) ⌝ }
-    ensures { λ q. ⌜ (answerOutcome q, now (words .entry)) ≡ sameIn n (now (words .entry)) a b ⌝ }
-{
-    let Held::Link(x) = questions::read_link(words, n, a) else {
-        return Answer::Refused(Refusal::Malformed);
-    };
-    let Held::Link(y) = questions::read_link(words, n, b) else {
-        return Answer::Refused(Refusal::Malformed);
-    };
-    if x == y {
-        Answer::Number(1)
-    } else {
-        Answer::Number(0)
-    }
-}
-
 // The registers r, a and b.
 fn names(r: u32, a: u32, b: u32) -> Named
     ensures { λ q. ⌜ q ≡ names r a b ⌝ }
@@ -156,7 +45,7 @@ pub fn copy(words: &mut [u32], r: u32, a: u32) -> Answer
     ensures { λ q. ⌜ (answerOutcome q, now (words .exit)) ≡ callOf (Call.Copy r a) (now (words .entry)) ⌝ }
 {
     match questions::admit(words, names(r, a, a)) {
-        Admitted::Cells(n) => copy_in(words, n, r, a),
+        Admitted::Cells(n) => operations::copy_in(words, n, r, a),
         Admitted::Refused(k) => Answer::Refused(k),
     }
 }
@@ -166,7 +55,7 @@ pub fn clear(words: &mut [u32], r: u32) -> Answer
     ensures { λ q. ⌜ (answerOutcome q, now (words .exit)) ≡ callOf (Call.Clear r) (now (words .entry)) ⌝ }
 {
     match questions::admit(words, names(r, r, r)) {
-        Admitted::Cells(_) => clear_in(words, r),
+        Admitted::Cells(_) => operations::clear_in(words, r),
         Admitted::Refused(k) => Answer::Refused(k),
     }
 }
@@ -186,7 +75,7 @@ pub fn left(words: &mut [u32], r: u32, a: u32) -> Answer
     ensures { λ q. ⌜ (answerOutcome q, now (words .exit)) ≡ callOf (Call.Left r a) (now (words .entry)) ⌝ }
 {
     match questions::admit(words, names(r, a, a)) {
-        Admitted::Cells(n) => follow_in(words, n, Pool::LEFT, r, a),
+        Admitted::Cells(n) => operations::follow_in(words, n, Pool::LEFT, r, a),
         Admitted::Refused(k) => Answer::Refused(k),
     }
 }
@@ -196,7 +85,7 @@ pub fn right(words: &mut [u32], r: u32, a: u32) -> Answer
     ensures { λ q. ⌜ (answerOutcome q, now (words .exit)) ≡ callOf (Call.Right r a) (now (words .entry)) ⌝ }
 {
     match questions::admit(words, names(r, a, a)) {
-        Admitted::Cells(n) => follow_in(words, n, Pool::RIGHT, r, a),
+        Admitted::Cells(n) => operations::follow_in(words, n, Pool::RIGHT, r, a),
         Admitted::Refused(k) => Answer::Refused(k),
     }
 }
@@ -206,7 +95,7 @@ pub fn set_left(words: &mut [u32], a: u32, b: u32) -> Answer
     ensures { λ q. ⌜ (answerOutcome q, now (words .exit)) ≡ callOf (Call.SetLeft a b) (now (words .entry)) ⌝ }
 {
     match questions::admit(words, names(a, b, b)) {
-        Admitted::Cells(n) => link_in(words, n, Pool::LEFT, a, b),
+        Admitted::Cells(n) => operations::link_in(words, n, Pool::LEFT, a, b),
         Admitted::Refused(k) => Answer::Refused(k),
     }
 }
@@ -216,7 +105,7 @@ pub fn set_right(words: &mut [u32], a: u32, b: u32) -> Answer
     ensures { λ q. ⌜ (answerOutcome q, now (words .exit)) ≡ callOf (Call.SetRight a b) (now (words .entry)) ⌝ }
 {
     match questions::admit(words, names(a, b, b)) {
-        Admitted::Cells(n) => link_in(words, n, Pool::RIGHT, a, b),
+        Admitted::Cells(n) => operations::link_in(words, n, Pool::RIGHT, a, b),
         Admitted::Refused(k) => Answer::Refused(k),
     }
 }
@@ -226,7 +115,7 @@ pub fn set_value(words: &mut [u32], a: u32, v: u32) -> Answer
     ensures { λ q. ⌜ (answerOutcome q, now (words .exit)) ≡ callOf (Call.SetValue a v) (now (words .entry)) ⌝ }
 {
     match questions::admit(words, names(a, a, a)) {
-        Admitted::Cells(n) => set_value_in(words, n, a, v),
+        Admitted::Cells(n) => operations::set_value_in(words, n, a, v),
         Admitted::Refused(k) => Answer::Refused(k),
     }
 }
@@ -236,7 +125,7 @@ pub fn value(words: &[u32], a: u32) -> Answer
     ensures { λ q. ⌜ (answerOutcome q, now (words .entry)) ≡ callOf (Call.Value a) (now (words .entry)) ⌝ }
 {
     match questions::admit(words, names(a, a, a)) {
-        Admitted::Cells(n) => value_in(words, n, a),
+        Admitted::Cells(n) => operations::value_in(words, n, a),
         Admitted::Refused(k) => Answer::Refused(k),
     }
 }
@@ -246,7 +135,7 @@ pub fn same(words: &[u32], a: u32, b: u32) -> Answer
     ensures { λ q. ⌜ (answerOutcome q, now (words .entry)) ≡ callOf (Call.Same a b) (now (words .entry)) ⌝ }
 {
     match questions::admit(words, names(a, b, b)) {
-        Admitted::Cells(n) => same_in(words, n, a, b),
+        Admitted::Cells(n) => operations::same_in(words, n, a, b),
         Admitted::Refused(k) => Answer::Refused(k),
     }
 }

@@ -6,14 +6,16 @@ use mathlib.Core.Path.{_≡_, _∙_}
 use mathlib.Core.Logic.{inl, inr}
 use mathlib.Core.List.{List, [], _∷_}
 use lib.ListN.{length, length-set, length-append, List·getD-append}
+use borrow.Author.Tests.{eq-eqb}
 use lib.Seq.{getD-set-same, getD-set-other, getD-append-seam}
 use Rattle.graph.specs.Compare.{OneToOne}
-use Rattle.pool.specs.Layout.{registerCount, head, register, cell, state}
+use Rattle.pool.specs.Layout.{registerCount, head, register, cell}
 use Rattle.allocator.specs.Allocation.{take}
 use Rattle.reference.specs.Model.{Entry, Model, anyEntry, entry, held, append}
 use Rattle.reference.proofs.Places.{set-holds, append-holds}
-use Rattle.reference.proofs.Invariant.{Invariant, inv-first}
-use Rattle.reference.proofs.Taken.{taken-cell, taken-other, taken-register, taken-register-other}
+use Rattle.invariant.proofs.FreeList.{free-or-used}
+use Rattle.invariant.proofs.Invariant.{Invariant, inv-first}
+use Rattle.invariant.proofs.Taken.{taken-cell, taken-other, taken-register, taken-register-other}
 use Rattle.reference.proofs.Fields.{Field, number, number-below, get, Related, related-map, Linked}
 use Rattle.reference.proofs.Represents.{Pair, More, more-one, Bounded, Represents, rep-made, root-pair, field-related, pair-place, pair-used}
 
@@ -21,9 +23,8 @@ module _ {N : ℕ} {w : List ℕ} {m : Model} (inv : Invariant N w) (rep : Repre
   -- No pair has the cell or the place that is new.
   new-cell : {x y : ℕ} → Pair w m x y → x ≡ head w → ⊥
   new-cell {x} pair e =
-      let used = pair-used rep inv pair (omega arith) in
-      let free : state registerCount w x ≡ 4 = rw e (inv-first inv some .free) in
-      omega (arith, used .state)
+      let used = pair-used rep (inv .pool) pair (omega arith) in
+      free-or-used w x (rw e (inv-first inv some .free)) (used .state)
 
   new-place : {x y : ℕ} → Pair w m x y → y ≡ suc (length (m .cells)) → ⊥
   new-place pair e = omega (arith, pair-place rep pair)

@@ -6,7 +6,8 @@ use Rattle.pool.specs.Layout.{cellCountOfLength, count, setCount, cellCount, he
 use Rattle.pool.specs.Retain.{lowestFree, retain}
 use Rattle.reference.specs.Equivalence.{poolAnswers, modelAnswers, noneDistinguishes}
 use Rattle.reference.specs.Examples.{Full, Apart, Alike}
+use Rattle.reversal.specs.Reached.{visitsOf}
 
 pub examples : Full × Apart × Alike
-unfolding elem visit visits preorder tabulate every cellCountOfLength count setCount cellCount head setHead register setRegister cell setCell lowestFree retain poolAnswers modelAnswers noneDistinguishes
+unfolding elem visit visits preorder visitsOf tabulate every cellCountOfLength count setCount cellCount head setHead register setRegister cell setCell lowestFree retain poolAnswers modelAnswers noneDistinguishes
 examples = ((refl, refl, refl), (refl, refl, refl), (refl, refl, refl))

@@ -1,8 +1,4 @@
 pub mod Places
-pub mod Pigeonhole
-pub mod FreeList
-pub mod Invariant
-pub mod Taken
 pub mod Fields
 pub mod Represents
 pub mod Writes
@@ -11,8 +7,8 @@ pub mod Steps
 pub mod Collecting
 pub mod New
 pub mod Start
+pub mod Plain
 pub mod Runs
-pub mod Given
 pub mod Theorems
 pub mod Examples
 pub mod RunEquivalence

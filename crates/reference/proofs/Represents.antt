@@ -1,21 +1,19 @@
 -- The words of a pool represent a state of the reference model: their cells are paired from the registers on, one to one, with equal values.
 use Prim.Native.Nat.{ℕ, _<_, _≤_}
 use mathlib.Core.Path.{_≡_, sym, _∙_}
-use mathlib.Core.Logic.{_↔_, _⊎_, inl, inr, ⊎-elim}
+use mathlib.Core.Logic.{_↔_, _⊎_, inl, inr}
 use mathlib.Core.List.{List}
 use lib.ListN.{length, getD}
 use Rattle.graph.specs.Graph.{Within}
 use Rattle.graph.specs.Compare.{Paired, OneToOne}
-use Rattle.graph.proofs.Marks.{zero-or-above}
 use Rattle.graph.proofs.Pairing.{paired-least, paired-reach, pairing-kept, length-paired}
 use Rattle.pool.specs.Layout.{registerCount, register, cell, value, graphOf, rootsOf}
 use Rattle.pool.proofs.Every.{length-tabulate, getD-tabulate}
-use Rattle.questions.proofs.WellFormed.{Link}
 use Rattle.questions.proofs.PoolGraph.{Used, reached-used, pool-within}
 use Rattle.reversal.specs.Reached.{reachedCount}
 use Rattle.reference.specs.Model.{Model, entry, held, modelGraph, live}
 use Rattle.reference.proofs.Places.{each-place}
-use Rattle.reference.proofs.Invariant.{Invariant}
+use Rattle.invariant.proofs.Standing.{Standing}
 use Rattle.reference.proofs.Fields.{Field, number, get, Related, Linked}
 
 -- A link of the pool and one of the reference model that the same register leads to, over the same lefts and rights.
@@ -43,7 +41,7 @@ pub record Represents (w : List ℕ) (m : Model) : Type 0 where
   pub one-to-one : OneToOne (Pair w m)
   pub values : (x y : ℕ) → Pair w m x y → 0 < x → 0 < y → value registerCount w x ≡ (entry m y) .value
 
--- The words represent the model where some one-to-one relation holds of the registers, and with two cells of their fields.
+-- The words represent the model if some one-to-one relation holds between their registers and, wherever it holds between two cells, between their fields.
 pub rep-made : (w : List ℕ) (m : Model) (P : ℕ → ℕ → Type 0) → OneToOne P → Bounded m
     → ((k : ℕ) → k < registerCount → P (register w k) (held m k))
     → ((x y : ℕ) → P x y → 0 < x → 0 < y → (f : Field) → Related P f (cell registerCount w x (number f)) (get f (entry m y)))
@@ -69,7 +67,7 @@ abbrev pub More : List ℕ → Model → ℕ → ℕ → ℕ → ℕ → Type 0
 More w m p q x y = Pair w m x y ⊎ ((x ≡ p) × (y ≡ q))
 
 module _ {w : List ℕ} {m : Model} (rep : Represents w m) where
-  -- With one more they are one-to-one where that one goes with each of them.
+  -- With one more they are one-to-one if that one agrees with each of them.
   pub more-one : (p q : ℕ) → (p ≡ 0) ↔ (q ≡ 0) → ((x y : ℕ) → Pair w m x y → (x ≡ p) ↔ (y ≡ q)) → OneToOne (More w m p q)
   more-one p q ends fits = record { nil = nil; forward = forward; backward = backward }
     where
@@ -107,22 +105,14 @@ module _ {w : List ℕ} {m : Model} (rep : Represents w m) where
       paired-least (λ x y. y ≤ length (m .cells)) (λ i low. rep .bounded .roots i)
       (λ x y pair hx hy. (rep .bounded .cells y .0, rep .bounded .cells y .1))
 
-  module _ {N : ℕ} (inv : Invariant N w) where
-    -- A link of the pool that is paired is nil or a used cell.
+  module _ {N : ℕ} (pool : Standing N w) where
+    -- A cell of the pool that is paired is used.
     pub pair-used : {x y : ℕ} → Pair w m x y → 0 < x → Used registerCount N w x
-    pair-used pair some = reached-used (inv .well) (paired-reach pair some)
-
-    pub pair-link : {x y : ℕ} → Pair w m x y → Link registerCount N w x
-    pair-link {x} pair =
-        ⊎-elim Link.nil
-        (λ some.
-        let used = pair-used pair some in
-        Link.used some (used .bounded) (used .state))
-        (zero-or-above x)
+    pair-used pair some = reached-used (pool .well) (paired-reach pair some)
 
     -- As many cells are live as the pool keeps.
     pub kept-live : reachedCount registerCount N w ≡ live m
     kept-live =
         length-paired N (graphOf registerCount w) (rootsOf registerCount w) (length (m .cells)) (modelGraph m) (m .registers)
-        (pool-within (inv .well)) (model-within (rep .bounded))
+        (pool-within (pool .well)) (model-within (rep .bounded))
         (length-tabulate registerCount (λ j. register w j) ∙ sym (rep .bounded .registers)) (rep .one-to-one)

@@ -6,20 +6,22 @@ use lib.Seq.{drop-at}
 use Rattle.pool.specs.Layout.{registerCount}
 use Rattle.pool.specs.Retain.{freshWords}
 use Rattle.batch.specs.Run.{answersOf, answerWords}
-use Rattle.batch.proofs.Whole.{runs-one-after-the-other}
-use Rattle.reference.specs.Model.{empty}
+use Rattle.batch.proofs.Whole.{runs-one-after-the-other, words-length}
 use Rattle.reference.specs.RunEquivalence.{RunEquivalence}
-use Rattle.reference.proofs.Given.{words-length, compared-words, answers-by-words}
-use Rattle.reference.proofs.Theorems.{equivalence}
+use Rattle.invariant.proofs.Rebuilt.{fresh-inv}
+use Rattle.reference.proofs.Start.{fresh-rep}
+use Rattle.reference.proofs.Runs.{compared, observed-words}
 
 pub run-equivalence : RunEquivalence
 run-equivalence N L lent list out cs least most exact program room =
     let w = freshWords registerCount N lent in
-    let same = equivalence N L lent cs least most exact in
+    let inv = fresh-inv N lent least most exact in
+    let rep = fresh-rep N lent least most exact in
+    let both-are = compared N L cs inv rep in
     rw (runs-one-after-the-other list cs w out program room)
     (record {
       all = refl;
       pool = refl;
       behind = drop-at (answerWords (answersOf cs w)) (drop (3 * length cs) out) (3 * length cs) (words-length cs w);
-      alike = rw (compared-words cs w) (λ e. same .0 (answers-by-words L cs w empty e), λ e. ap answerWords (same .1 e));
+      alike = rw (observed-words N cs inv rep (drop (3 * length cs) out)) (both-are .none, λ e. ap answerWords (both-are .equal e));
     })

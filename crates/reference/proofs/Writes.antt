@@ -11,11 +11,11 @@ use Rattle.pool.specs.Layout.{registerCount, poolLength, register, setRegister,
 use Rattle.pool.proofs.Laws.{register-same, register-other, cell-setRegister, register-setCell, cell-same, cell-other}
 use Rattle.reference.specs.Model.{Entry, Model, anyEntry, entry, held, hold, replace}
 use Rattle.reference.proofs.Places.{set-holds}
-use Rattle.reference.proofs.Invariant.{Invariant}
+use Rattle.invariant.proofs.Standing.{Standing}
 use Rattle.reference.proofs.Fields.{Field, number, number-below, get, put, Related, related-map, link-related, Linked, put-linked, put-related}
 use Rattle.reference.proofs.Represents.{Pair, More, more-one, Represents, rep-made, root-pair, field-related, pair-place, pair-used}
 
-module _ {N : ℕ} {w : List ℕ} {m : Model} (inv : Invariant N w) (rep : Represents w m) where
+module _ {N : ℕ} {w : List ℕ} {m : Model} (pool : Standing N w) (rep : Represents w m) where
   -- A register gets a link that is paired, or nil in both.
   pub rep-hold : (r x y : ℕ) → r < registerCount → More w m 0 0 x y → Represents (setRegister w r x) (hold m r y)
   rep-hold r x y low link =
@@ -34,7 +34,7 @@ module _ {N : ℕ} {w : List ℕ} {m : Model} (inv : Invariant N w) (rep : Repre
       roots k below (yes e) =
           rw (
             e,
-            register-same registerCount w r x (omega (arith, inv .sized .exact, inv .sized .least)),
+            register-same registerCount w r x (omega (arith, pool .sized .exact, pool .sized .least)),
             getD-set-same (m .registers) r y 0 (omega (arith, rep .bounded .registers)),
           ) link
       roots k below (no e) =
@@ -71,7 +71,7 @@ module _ {N : ℕ} {w : List ℕ} {m : Model} (inv : Invariant N w) (rep : Repre
       model = replace m y e
 
       room : poolLength registerCount x ≤ length w
-      room = omega (arith, inv .sized .exact, pair-used rep inv pair hx .bounded)
+      room = omega (arith, pool .sized .exact, pair-used rep pool pair hx .bounded)
 
       -- the cell written, field by field, and every other cell
       here : (g : Field) → Related (Pair w m) g (cell registerCount after x (number g)) (get g e)

@@ -1,30 +1,27 @@
 -- Demand 3, for every list of calls: the pool answers as the reference model does.
-use Prim.Native.Nat.{ℕ, _≤_, _<_, min, max}
+use Prim.Native.Nat.{ℕ, _≤_, min, max}
 use mathlib.Core.Path.{_≡_}
 use mathlib.Core.Logic.{_↔_}
 use mathlib.Core.List.{List, [], _∷_, List·Memᴰ}
 use mathlib.Core.Bool.{Bool, true, _&&_, not}
 use lib.ListN.{length}
 use lib.Dec.{leb, ltb}
-use Rattle.graph.specs.Theorems.{Distinct}
-use Rattle.pool.specs.Layout.{registerCount, cellLimit, poolLength, cellCount, state}
-use Rattle.questions.specs.Validity.{wellFormed}
+use Rattle.pool.specs.Layout.{registerCount, cellLimit, poolLength}
 use Rattle.questions.specs.Questions.{areRegisters}
-use Rattle.pool.specs.Retain.{freshWords, freeList}
+use Rattle.pool.specs.Retain.{freshWords}
 use Rattle.answers.specs.Outcome.{Outcome, answered, allocated, refused}
 use Rattle.calls.specs.declared.Call.{Call}
-use Rattle.batch.specs.Run.{afterAll}
 use Rattle.calls.specs.Calls.{registersOf, allocates, callOf}
 use Rattle.reference.specs.Model.{Model, empty, live, modelOf}
 
--- What of a call's answer is compared with the reference model: "An answer is done (an accepted "new" too, its visits left out), the number or numbers
--- given, or the refusal."
+-- What is observed of a call's answer, and compared with the reference model's: "An answer is done (an accepted "new" too, its visits left out), the
+-- number or numbers given, or the refusal."
 abbrev pub observed : Outcome → Outcome
 observed (answered numbers) = answered numbers
 observed (allocated visits) = answered []
 observed (refused k) = refused k
 
--- "each call gets what the one before it left, refused or not": the answers of the pool, as they are compared.
+-- "each call gets what the one before it left, refused or not": what is observed of the pool's answers.
 unfoldable pub poolAnswers : List Call → List ℕ → List Outcome
 poolAnswers [] w = []
 poolAnswers (c ∷ cs) w = observed ((callOf c w) .0) ∷ poolAnswers cs ((callOf c w) .1)
@@ -34,12 +31,12 @@ unfoldable pub modelAnswers : ℕ → List Call → Model → List Outcome
 modelAnswers L [] m = []
 modelAnswers L (c ∷ cs) m = (modelOf L c m) .0 ∷ modelAnswers L cs ((modelOf L c m) .1)
 
--- Does this call tell a pool of N cells from a limit of L? Demand 3: a "new" with valid registers does, where it finds at least the smaller and
--- fewer than the larger of N and L live cells.
+-- Does this call distinguish a pool of N cells from a model with limit L? Demand 3: a "new" with valid registers does, where it finds at least the
+-- smaller and fewer than the larger of N and L live cells.
 abbrev pub distinguishes : ℕ → ℕ → Call → Model → Bool
 distinguishes N L c m = allocates c && areRegisters (registersOf c) && leb (min N L) (live m) && ltb (live m) (max N L)
 
--- No call of the list tells them apart, in the run of the reference model.
+-- No call of the list does, in the run of the reference model.
 unfoldable pub noneDistinguishes : ℕ → ℕ → List Call → Model → Bool
 noneDistinguishes N L [] m = true
 noneDistinguishes N L (c ∷ cs) m = not (distinguishes N L c m) && noneDistinguishes N L cs ((modelOf L c m) .1)
@@ -56,20 +53,6 @@ abbrev pub EquivalenceAtLimit : Type 0
 EquivalenceAtLimit =
     (N : ℕ) (lent : List ℕ) (calls : List Call) → 1 ≤ N → N ≤ cellLimit → length lent ≡ poolLength registerCount N
     → poolAnswers calls (freshWords registerCount N lent) ≡ modelAnswers N calls empty
-
--- The free list has every free cell once, and nothing else.
-pub record ExactFreeList (n : ℕ) (w : List ℕ) : Type 0 where
-  pub once : Distinct (freeList registerCount n w)
-  pub free : (i : ℕ) → List·Memᴰ i (freeList registerCount n w) → (0 < i) × (i ≤ n) × (state registerCount w i ≡ 4)
-  pub all : (i : ℕ) → 0 < i → i ≤ n → state registerCount w i ≡ 4 → List·Memᴰ i (freeList registerCount n w)
-
--- Every pool that calls lead to from fresh words is a pool of N cells, well-formed, and its free list has every free cell once.
-abbrev pub ReachedPools : Type 0
-ReachedPools =
-    (N : ℕ) (lent : List ℕ) (calls : List Call) → 1 ≤ N → N ≤ cellLimit → length lent ≡ poolLength registerCount N
-    → (cellCount registerCount (afterAll calls (freshWords registerCount N lent)) ≡ N)
-    × (wellFormed registerCount N (afterAll calls (freshWords registerCount N lent)) ≡ true)
-    × ExactFreeList N (afterAll calls (freshWords registerCount N lent))
 
 -- "Refusals .. 1 and 3 never come": no list of calls on a fresh pool is ever refused with 1 or 3.
 abbrev pub NeverMalformed : Type 0

@@ -13,12 +13,13 @@ use Rattle.calls.specs.declared.Call.{Call}
 use Rattle.calls.specs.declared.Call.the-variants as call
 use Rattle.calls.specs.Calls.{registersOf}
 
--- "a list of cells (left, right, value) that only grows, and sixteen registers, each nil or a place in that list". Places count from 1; 0 is nil.
+-- One of its "cells (left, right, value)". Its places count from 1, and link 0 is nil.
 pub record Entry : Type 0 where
   pub left : ℕ
   pub right : ℕ
   pub value : ℕ
 
+-- "Its state: a list of cells (left, right, value) that only grows, and sixteen registers, each nil or a place in that list."
 pub record Model : Type 0 where
   pub cells : List Entry
   pub registers : List ℕ
@@ -27,20 +28,23 @@ pub record Model : Type 0 where
 abbrev pub empty : Model
 empty = record { cells = []; registers = replicate registerCount 0 }
 
--- The cell at a place (any, where there is none), and the cells with another one at that place.
+-- What is read at a place where there is no cell.
 abbrev pub anyEntry : Entry
 anyEntry = record { left = 0; right = 0; value = 0 }
 
+-- The cell at place x.
 abbrev pub entry : Model → ℕ → Entry
 entry m x = getD (m .cells) (x - 1) anyEntry
 
+-- The model with the cell e at place x.
 abbrev pub replace : Model → ℕ → Entry → Model
 replace m x e = record { cells = set (m .cells) (x - 1) e; registers = m .registers }
 
--- What register k holds, and the model in which it holds x.
+-- What register k holds.
 abbrev pub held : Model → ℕ → ℕ
 held m k = getD (m .registers) k 0
 
+-- The model in which register k holds x.
 abbrev pub hold : Model → ℕ → ℕ → Model
 hold m k x = record { cells = m .cells; registers = set (m .registers) k x }
 
@@ -52,10 +56,6 @@ modelGraph m = record { left = λ x. (entry m x) .left; right = λ x. (entry m x
 abbrev pub live : Model → ℕ
 live m = length (preorder (length (m .cells)) (modelGraph m) (m .registers))
 
--- "does a hold a cell? No: 4."
-abbrev pub onCell : Model → ℕ → Outcome × Model → Outcome × Model
-onCell m a x = cond (eqb (held m a) 0) (refused 4, m) x
-
 -- An accepted "new": "it appends its cell, and r gets that cell's place".
 abbrev pub append : Model → ℕ → ℕ → ℕ → ℕ → Model
 append m r a b v =
@@ -64,28 +64,33 @@ append m r a b v =
       registers = set (m .registers) r (suc (length (m .cells)));
     }
 
--- A call with valid registers, with the limit L. A "new" "with valid registers finds the live count as it stands before it: it is refused with 5 if that is
--- L or more, L a whole number from 0 up". "collect answers live and 3 × live and changes nothing."
+-- An accepted call that gives no number.
+abbrev pub done : Model → Outcome × Model
+done m = (answered [], m)
+
+-- What is done with a's cell: "does a hold a cell? No: 4."
+abbrev pub onCell : Model → ℕ → (Entry → Outcome × Model) → Outcome × Model
+onCell m a body = cond (eqb (held m a) 0) (refused 4, m) (body (entry m (held m a)))
+
+-- A call with valid registers, with the limit L: "Each call does as written above on this list, with a place where the pool has a cell number." A "new"
+-- "finds the live count as it stands before it: it is refused with 5 if that is L or more"; "collect answers live and 3 × live and changes nothing".
 abbrev pub modelBody : ℕ → Call → Model → Outcome × Model
-modelBody L (call.Copy r a) m = (answered [], hold m r (held m a))
-modelBody L (call.Clear r) m = (answered [], hold m r 0)
-modelBody L (call.New r a b v) m = cond (leb L (live m)) (refused 5, m) (answered [], append m r a b v)
-modelBody L (call.Left r a) m = onCell m a (answered [], hold m r ((entry m (held m a)) .left))
-modelBody L (call.Right r a) m = onCell m a (answered [], hold m r ((entry m (held m a)) .right))
+modelBody L (call.Copy r a) m = done (hold m r (held m a))
+modelBody L (call.Clear r) m = done (hold m r 0)
+modelBody L (call.New r a b v) m = cond (leb L (live m)) (refused 5, m) (done (append m r a b v))
+modelBody L (call.Left r a) m = onCell m a λ e. done (hold m r (e .left))
+modelBody L (call.Right r a) m = onCell m a λ e. done (hold m r (e .right))
 modelBody L (call.SetLeft a b) m =
-    let e = entry m (held m a) in
-    onCell m a (answered [], replace m (held m a) (record { left = held m b; right = e .right; value = e .value }))
+    onCell m a λ e. done (replace m (held m a) (record { left = held m b; right = e .right; value = e .value }))
 modelBody L (call.SetRight a b) m =
-    let e = entry m (held m a) in
-    onCell m a (answered [], replace m (held m a) (record { left = e .left; right = held m b; value = e .value }))
+    onCell m a λ e. done (replace m (held m a) (record { left = e .left; right = held m b; value = e .value }))
 modelBody L (call.SetValue a v) m =
-    let e = entry m (held m a) in
-    onCell m a (answered [], replace m (held m a) (record { left = e .left; right = e .right; value = v }))
-modelBody L (call.Value a) m = onCell m a (answered ((entry m (held m a)) .value ∷ []), m)
+    onCell m a λ e. done (replace m (held m a) (record { left = e .left; right = e .right; value = v }))
+modelBody L (call.Value a) m = onCell m a λ e. (answered (e .value ∷ []), m)
 modelBody L (call.Same a b) m = (answered (cond (eqb (held m a) (held m b)) 1 0 ∷ []), m)
 modelBody L call.Collect m = (answered (live m ∷ 3 * live m ∷ []), m)
 
--- One call: "A call's registers are valid if all their numbers are below 16", and where they are not it is refused with 2, by the pool's own test. "A refused
--- call changes nothing here."
+-- One call: "A call's registers are valid if all their numbers are below 16", by the pool's own test, and where they are not it is refused with 2. "A
+-- refused call changes nothing here."
 abbrev pub modelOf : ℕ → Call → Model → Outcome × Model
 modelOf L c m = cond (areRegisters (registersOf c)) (modelBody L c m) (refused 2, m)

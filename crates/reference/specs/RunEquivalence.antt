@@ -16,13 +16,13 @@ use Rattle.batch.specs.Run.{runOf, afterAll, answerWords}
 use Rattle.reference.specs.Model.{empty}
 use Rattle.reference.specs.Equivalence.{modelAnswers, noneDistinguishes}
 
--- What of the words of answers, three for each call, is compared: all of them but the visits that a "new" reports, which count as 0.
+-- What is observed of the words of answers, three for each call: all of them but the visits that a "new" reports, which count as 0.
 unfoldable pub observedWords : List Call → List ℕ → List ℕ
 observedWords [] out = []
 observedWords (c ∷ cs) out = getD out 0 0 ∷ cond (allocates c) 0 (getD out 1 0) ∷ getD out 2 0 ∷ observedWords cs (drop 3 out)
 
 -- What a run of the calls cs on a fresh pool of N cells gives (`end`): all of them ran, one after the other; words behind those of their answers stay;
--- and the words of their answers, as they are compared, are those of the model's answers with limit L exactly when no call tells the two apart.
+-- and what is observed of the words of their answers is the words of the model's answers with limit L exactly when no call distinguishes the two.
 pub record RunsAlike (N L : ℕ) (lent : List ℕ) (cs : List Call) (out : List ℕ) (end : Ran × List ℕ × List ℕ) : Type 0 where
   pub all : end .0 ≡ ran.All (length cs)
   pub pool : end .1 ≡ afterAll cs (freshWords registerCount N lent)

@@ -25,7 +25,8 @@ use Rattle.stack_algorithm.proofs.Going.{stack-ends, stack-marks-the-reached, s
 use Rattle.stack_algorithm.proofs.Cases.{stack-cases}
 use Rattle.calls.specs.declared.Call.the-variants as call
 use Rattle.batch.proofs.Whole.{runs-one-after-the-other}
-use Rattle.reference.proofs.Theorems.{equivalence, equivalence-at-limit, reached-pools, never-malformed}
+use Rattle.invariant.proofs.Theorems.{reached-pools}
+use Rattle.reference.proofs.Theorems.{equivalence, equivalence-at-limit, never-malformed}
 use Rattle.reference.proofs.RunEquivalence.{run-equivalence}
 use Rattle.image.proofs.Check.{check-is-load}
 use Rattle.image.proofs.Accepted.{load-is-well-formed}

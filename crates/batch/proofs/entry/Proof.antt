@@ -60,7 +60,10 @@ call-numbered-requires : tie.Need-call-numbered-requires
 call-numbered-requires c κs = search needs
 
 returns-2 : tie.Need-returns-2
-returns-2 c = let p = c .before .before .before .before .before .before .before .before .args in simp (le-leb (p .at + 5) (length (now (p .list))) (omega arith)) (c .call-numbered .ensures)
+returns-2 c =
+    let at-first-read = c .before .before .before .before .before in
+    let p = at-first-read .before .before .before .args in
+    simp (le-leb (p .at + 5) (length (now (p .list))) (omega arith)) (c .call-numbered .ensures)
 
 pub entry-spec : {M : Type 1} → statement M
 entry-spec =

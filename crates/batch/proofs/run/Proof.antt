@@ -69,13 +69,15 @@ write-answer-requires c κs = omega arith
 
 add-k : tie.Need-add-k Inv-loop μ-loop
 add-k c =
-    let at-call = c .before .before .before .before .before .before .before .before .before .before in
+    let at-perform = c .before .before .before .before .before .before in
+    let at-call = at-perform .before .before .before .before in
     let at-loop-test = at-call .before .before .before in
     omega (arith, running-inside _ (at-loop-test .before .loop .inv) (at-loop-test .loop-test .taken) (at-call .before .before .entry .ensures) (at-call .call .given .1))
 
 loop-less : tie.Need-loop-less Inv-loop μ-loop
 loop-less c =
-    let at-call = c .before .before .before .before .before .before .before .before .before .before in
+    let at-perform = c .before .before .before .before .before .before in
+    let at-call = at-perform .before .before .before .before in
     let at-loop-test = at-call .before .before .before in
     omega (arith, running-inside _ (at-loop-test .before .loop .inv) (at-loop-test .loop-test .taken) (at-call .before .before .entry .ensures) (at-call .call .given .1))
 

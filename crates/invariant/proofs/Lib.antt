@@ -1,0 +1,9 @@
+pub mod Pigeonhole
+pub mod FreeList
+pub mod Standing
+pub mod Invariant
+pub mod Taken
+pub mod Rebuilt
+pub mod New
+pub mod Preservation
+pub mod Theorems

@@ -1,0 +1,143 @@
+-- A standing pool: words that are a well-formed pool of N cells, whatever its free list. What its questions answer, and that writes of links keep it.
+use Prim.Native.Nat.{ℕ, zero, suc, _+_, _*_, _<_, _≤_}
+use native.Mathlib.Omega.{arith}
+use native.Mathlib.Decide.{ℕ-discrete}
+use mathlib.Core.Path.{_≡_, refl, sym, ap, _∙_}
+use mathlib.Core.List.{List}
+use mathlib.Core.Bool.{Bool, true, false, cond}
+use lib.ListN.{length}
+use borrow.Author.Tests.{eqb-true, eq-eqb, ne-eqb, lt-ltb}
+use Rattle.pool.specs.Layout.{registerCount, poolLength, cellCountOfLength, cellCount, count, register, setRegister, cell, setCell, state, left, right}
+use Rattle.pool.specs.States.{isUsed, isFree}
+use Rattle.questions.specs.Questions.{areRegisters, holdsLink}
+use Rattle.answers.specs.Outcome.{Outcome, refused}
+use Rattle.pool.proofs.Laws.{length-setRegister, count-setRegister, cell-setRegister, register-same, register-other, length-setCell, count-setCell, register-setCell, cell-same, cell-other}
+use Rattle.pool.proofs.Sizes.{Sized, sized-length, same-count}
+use Rattle.questions.proofs.WellFormed.{Link, Cell, WellFormed, link-made}
+use Rattle.questions.proofs.PoolGraph.{Used, used-links}
+use Rattle.operations.specs.Operations.{withCell}
+use Rattle.calls.specs.declared.Call.{Call}
+use Rattle.calls.specs.Calls.{registersOf, bodyOf, callOf}
+
+pub record Standing (N : ℕ) (w : List ℕ) : Type 0 where
+  pub sized : Sized registerCount (length w) N
+  pub counted : count w ≡ N
+  pub well : WellFormed registerCount N w
+
+module _ {N : ℕ} {w : List ℕ} (pool : Standing N w) where
+  pub standing-cells : cellCount registerCount w ≡ N
+  standing-cells =
+      let size = pool .sized in
+      let cells : cellCountOfLength registerCount (length w) ≡ N = rw (size .exact) (sized-length registerCount N (size .least) (size .most)) in
+      same-count registerCount w (pool .counted ∙ sym cells) ∙ cells
+
+  pub standing-room : poolLength registerCount N ≤ length w
+  standing-room = omega (arith, pool .sized .exact)
+
+  -- The first question is answered with yes.
+  pub called : (c : Call) → callOf c w ≡ cond (areRegisters (registersOf c)) (bodyOf c N w) (refused 2, w)
+  called c = go (areRegisters (registersOf c)) refl
+    where
+      go : (t : Bool) → areRegisters (registersOf c) ≡ t → callOf c w ≡ cond t (bodyOf c N w) (refused 2, w)
+      go true e = simp (standing-cells, lt-ltb 0 N (pool .sized .least), e)
+      go false e = simp (standing-cells, lt-ltb 0 N (pool .sized .least), e)
+
+  module _ (a : ℕ) (low : a < registerCount) where
+    -- Every register holds a valid link.
+    pub holds-link : holdsLink N w a ≡ true
+    holds-link = link-made registerCount N w (register w a) (pool .well .registers a low)
+
+    -- A register that holds nil, and one that holds a cell.
+    pub on-nil : register w a ≡ 0 → (body : ℕ → Outcome × List ℕ) → withCell N w a body ≡ (refused 4, w)
+    on-nil e body = rw (holds-link, eq-eqb (register w a) 0 e)
+
+    pub on-cell : 0 < register w a → (body : ℕ → Outcome × List ℕ) → withCell N w a body ≡ body (register w a)
+    on-cell some body = rw (holds-link, ne-eqb (register w a) 0 (λ e. omega arith))
+
+    -- That cell is used, with valid links.
+    pub held-used : 0 < register w a → Used registerCount N w (register w a)
+    held-used some = go (pool .well .registers a low)
+      where
+        go : Link registerCount N w (register w a) → Used registerCount N w (register w a)
+        go (Link.nil e) = absurd (omega arith)
+        go (Link.used positive bounded s) = record { positive = positive; bounded = bounded; state = s }
+
+    pub held-link : 0 < register w a → (f : ℕ) → 0 < f → f < 3 → Link registerCount N w (cell registerCount w (register w a) f)
+    held-link some zero above below = absurd (omega arith)
+    held-link some (suc zero) above below = used-links (pool .well) (held-used some) .0
+    held-link some (suc (suc zero)) above below = used-links (pool .well) (held-used some) .1
+    held-link some (suc (suc (suc f))) above below = absurd (omega arith)
+
+-- A valid link stays valid where used cells stay used.
+pub link-kept : {N : ℕ} {w : List ℕ} (w' : List ℕ) → ((i : ℕ) → 0 < i → isUsed (state registerCount w i) ≡ true → isUsed (state registerCount w' i) ≡ true)
+    → {x : ℕ} → Link registerCount N w x → Link registerCount N w' x
+link-kept w' used (Link.nil e) = Link.nil e
+link-kept w' used {x} (Link.used low high s) = Link.used low high (used x low s)
+
+-- Words that differ only in registers, links and values, and whose registers and used cells have valid links.
+record Rewritten (N : ℕ) (w w' : List ℕ) : Type 0 where
+  len : length w' ≡ length w
+  counted : count w' ≡ count w
+  states : (i : ℕ) → 0 < i → state registerCount w' i ≡ state registerCount w i
+  registers : (k : ℕ) → k < registerCount → Link registerCount N w (register w' k)
+  links : (i : ℕ) → 0 < i → Link registerCount N w (left registerCount w i) → Link registerCount N w (right registerCount w i)
+      → Link registerCount N w (left registerCount w' i) × Link registerCount N w (right registerCount w' i)
+
+rewritten : {N : ℕ} {w w' : List ℕ} → Rewritten N w w' → Standing N w → Standing N w'
+rewritten {N} {w} {w'} c pool =
+    record {
+      sized = rw (c .len) (pool .sized);
+      counted = c .counted ∙ pool .counted;
+      well = record { registers = λ k low. along (c .registers k low); cells = λ i low high. cells i low (pool .well .cells i low high) };
+    }
+  where
+    along : {x : ℕ} → Link registerCount N w x → Link registerCount N w' x
+    along = link-kept w' (λ i low s. rw (c .states i low) s)
+
+    cells : (i : ℕ) → 0 < i → Cell registerCount N w i → Cell registerCount N w' i
+    cells i low (Cell.free s) = Cell.free (ap isFree (c .states i low) ∙ s)
+    cells i low (Cell.used s l r) =
+        let links = c .links i low l r in
+        Cell.used (ap isUsed (c .states i low) ∙ s) (along (links .0)) (along (links .1))
+
+module _ {N : ℕ} {w : List ℕ} (pool : Standing N w) where
+  pub standing-setRegister : (r v : ℕ) → r < registerCount → Link registerCount N w v → Standing N (setRegister w r v)
+  standing-setRegister r v low link =
+      rewritten
+      (record {
+        len = length-setRegister registerCount w r v;
+        counted = count-setRegister registerCount w r v;
+        states = λ i some. cell-setRegister registerCount w r v i 0 low;
+        registers = λ k below. registers k below (ℕ-discrete k r);
+        links = λ i some left right.
+            (rw (cell-setRegister registerCount w r v i 1 low) left, rw (cell-setRegister registerCount w r v i 2 low) right);
+      })
+      pool
+    where
+      registers : (k : ℕ) → k < registerCount → Dec (k ≡ r) → Link registerCount N w (register (setRegister w r v) k)
+      registers k below (yes same) = rw (same, register-same registerCount w r v (omega (arith, pool .sized .exact, pool .sized .least))) link
+      registers k below (no other) = rw (register-other registerCount w r v k other) (pool .well .registers k below)
+
+  -- A link of a cell, or its value, is changed.
+  pub standing-setCell : (x f v : ℕ) → 0 < x → x ≤ N → 0 < f → f < 4 → (f < 3 → Link registerCount N w v) → Standing N (setCell registerCount w x f v)
+  standing-setCell x f v low high positive below link =
+      rewritten
+      (record {
+        len = length-setCell registerCount w x f v;
+        counted = count-setCell registerCount w x f v;
+        states = λ i some. cell-other registerCount w x f v i 0 low below some (omega arith) (λ e. omega arith);
+        registers = λ k some. rw (register-setCell registerCount w x f v k some) (pool .well .registers k some);
+        links = λ i some left right. (links i 1 some (omega arith) left, links i 2 some (omega arith) right);
+      })
+      pool
+    where
+      links : (i g : ℕ) → 0 < i → g < 3 → Link registerCount N w (cell registerCount w i g)
+          → Link registerCount N w (cell registerCount (setCell registerCount w x f v) i g)
+      links i g some few old = go (ℕ-discrete (4 * x + f) (4 * i + g))
+        where
+          go : Dec (4 * x + f ≡ 4 * i + g) → Link registerCount N w (cell registerCount (setCell registerCount w x f v) i g)
+          go (yes e) =
+              let cell-here : i ≡ x = omega arith in
+              let field-here : g ≡ f = omega arith in
+              rw (cell-here, field-here, cell-same registerCount w x f v low below (omega (arith, pool .sized .exact))) (link (omega arith))
+          go (no e) = rw (cell-other registerCount w x f v i g low below some (omega arith) e) old
