@@ -4,7 +4,7 @@ use Prim.Native.Nat.{ℕ}
 use mathlib.Core.List.{List}
 use Rattle.answers.specs.Outcome.{Outcome, status, given}
 use Rattle.tally.specs.declared.Tally.{Tally}
-use Rattle.image.specs.declared.Loaded.{Loaded}
+use Rattle.load.specs.declared.Loaded.{Loaded}
 
 -- A call that gives no number, one number or two: its status, what it leaves, and the lent places.
 abbrev pub givingNone {ℓ} : {A : Type ℓ} → Outcome × A → ℕ × A

@@ -13,7 +13,8 @@ ghost use Rattle.calls.specs.Calls.{callOf};
 ghost use Rattle.recursive_marker.specs.Recursive.{recursiveOf};
 ghost use Rattle.stack_marker.specs.StackCollect.{stackOf};
 ghost use Rattle.tally.specs.TallyOf.{tallyOf};
-ghost use Rattle.image.specs.Load.{loadOf, checkOf};
+ghost use Rattle.image.specs.Check.{checkOf};
+ghost use Rattle.load.specs.Load.{loadOf};
 ghost use Rattle.save.specs.Save.{saveOf};
 ghost use Rattle.cellpool.specs.Interface.{givingNone, giving, givingTwo, tallying, withStack, number, numbers, saving, loading};
 
@@ -226,7 +227,7 @@ pub extern "C" fn cellpool_save(
 pub extern "C" fn cellpool_load(words: &mut [u32], bytes: &[u8], rest: &mut usize) -> u32
     ensures { λ q. ⌜ (q, now (words .exit), now (rest .exit)) ≡ loading (loadOf (now (words .entry)) (now (bytes .entry))) ⌝ }
 {
-    let loaded = image::load_at(words, bytes);
+    let loaded = load::load_at(words, bytes);
     *rest = loaded.end;
     loaded.verdict
 }

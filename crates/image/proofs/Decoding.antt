@@ -1,77 +1,102 @@
--- The bytes of an image are read as its numbers, whatever stands behind them.
-use Prim.Native.Nat.{ℕ, zero, suc, _+_, _<_, _≤_, _^_}
+-- The bytes of an image are read as the image, whatever stands behind them.
+use Prim.Native.Nat.{ℕ, _+_, _<_, _≤_, _^_}
 use native.Mathlib.Omega.{arith}
-use mathlib.Core.Path.{_≡_, refl, sym, ap, _∙_}
-use mathlib.Core.List.{List, [], _∷_, _++_, append-assoc}
-use mathlib.Core.Bool.{true, false, _||_}
-use lib.ListN.{length, getD, length-append}
-use lib.Dec.{leb}
+use mathlib.Core.Path.{_≡_, sym, ap, _∙_}
+use mathlib.Core.List.{List, [], _∷_, _++_, append-assoc, flatMap}
+use lib.ListN.{length, take, drop, length-append, length-drop, take-append-drop}
+use lib.Seq.{length-take-le, drop-append-seam, drop-drop}
 use borrow.Author.Tests.{le-leb}
-use Rattle.leb128.specs.Leb128.{encode, readAt}
+use Rattle.leb128.specs.Leb128.{encode}
 use Rattle.leb128.specs.declared.Number.the-variants as number
+use Rattle.leb128.proofs.Encoding.{encode-size}
 use Rattle.leb128.proofs.Theorems.{round-trip}
-use Rattle.answers.specs.declared.Refusal.the-variants as refusal
-use Rattle.image.specs.declared.Field.the-variants as field
-use Rattle.image.specs.Image.{isValue, fieldCount, encodeAll, bounded, countAt, fieldAt, Fields, consField, readFields, Image, withFields, readImage}
-use Rattle.image.proofs.Scanning.{fields-first, bounded-value, image-fields}
+use Rattle.answers.specs.declared.Refusal.{Refusal}
+use Rattle.image.specs.declared.ImageCell.{ImageCell}
+use Rattle.image.specs.Image.{Image, cellBytes, imageBytes, Parsed, parsed, anyNumber, readNumber, atMost, readLink, readCell, readEach, readImage}
+use Rattle.image.proofs.Reading.{then-parsed, Each}
+use Rattle.image.proofs.Images.{Linked, LinksWithin, cell-parsed, image-parsed}
 
--- Number j may have the value v.
-abbrev pub Allowed : ℕ → ℕ → ℕ → ℕ → Type 0
-Allowed R K j v = (isValue R j || leb v K) ≡ true
+-- What stands behind bytes that stand at a place.
+behind : (bytes : List ℕ) (at : ℕ) (here after : List ℕ) → drop at bytes ≡ here ++ after → drop (at + length here) bytes ≡ after
+behind bytes at here after e = sym (drop-drop (length here) at bytes) ∙ (ap (drop (length here)) e ∙ drop-append-seam here after)
 
--- An encoding at a place is read as its number.
-read-encoded : (v : ℕ) (before after bytes : List ℕ) → v < 2 ^ 32 → bytes ≡ before ++ encode v ++ after
-    → readAt bytes (length before) ≡ number.Value v (length before + length (encode v))
-read-encoded v before after bytes fits e = rw e (round-trip v before after fits)
+module _ (bytes : List ℕ) where
+  -- An encoding at a place is read as its number.
+  number-encoded : (v at : ℕ) (after : List ℕ) → v < 2 ^ 32 → drop at bytes ≡ encode v ++ after
+      → readNumber bytes at ≡ parsed v (at + length (encode v))
+  number-encoded v at after fits e =
+      let inside : at ≤ length bytes = omega (arith, length-drop at bytes, ap length e, length-append (encode v) after, encode-size v) in
+      let before : length (take at bytes) ≡ at = length-take-le at bytes inside in
+      let whole : take at bytes ++ encode v ++ after ≡ bytes =
+      append-assoc (take at bytes) (encode v) after ∙ (ap (λ (l : List ℕ). take at bytes ++ l) (sym e) ∙ take-append-drop at bytes) in
+      ap anyNumber (rw (whole, before) at (round-trip v (take at bytes) after fits))
 
-module _ (R K : ℕ) (behind bytes : List ℕ) where
-  pub fields-encoded : (us before : List ℕ) (j : ℕ) → bytes ≡ before ++ encodeAll us ++ behind
-      → ((i : ℕ) → i < length us → getD us i 0 < 2 ^ 32) → ((i : ℕ) → i < length us → Allowed R K (j + i) (getD us i 0))
-      → readFields R K bytes (length us) j (length before) ≡ Fields.fields us (length before + length (encodeAll us))
-  unfolding readFields encodeAll
-  fields-encoded [] before j e fits allowed = let here : length before ≡ length before + 0 = omega arith in ap (Fields.fields []) here
-  fields-encoded (u ∷ us) before j e fits allowed =
-      let split : bytes ≡ before ++ encode u ++ (encodeAll us ++ behind) = e ∙ simp append-assoc in
-      let more : bytes ≡ (before ++ encode u) ++ encodeAll us ++ behind = e ∙ simp append-assoc in
-      let read = read-encoded u before (encodeAll us ++ behind) bytes (fits 0 (omega arith)) split in
-      let place : j + 0 ≡ j = omega arith in
-      let allow : (isValue R j || leb u K) ≡ true = rw place at (allowed 0 (omega arith)) in
-      let here : fieldAt R K bytes j (length before) ≡ field.Value u (length before + length (encode u)) =
-      ap (bounded (isValue R j) K refusal.LinkRange) read ∙ rw allow in
-      let long : length (before ++ encode u) ≡ length before + length (encode u) = length-append before (encode u) in
-      let rest = fields-encoded us (before ++ encode u) (suc j) more (λ i below. fits (suc i) (omega arith))
-      (λ i below. let next : suc j + i ≡ j + suc i = omega arith in rw next (allowed (suc i) (omega arith))) in
-      let end : length before + length (encode u) + length (encodeAll us) ≡ length before + length (encode u ++ encodeAll us) =
-      omega (arith, length-append (encode u) (encodeAll us)) in
-      rw (here, readFields) (ap (consField u) (rw long at rest ∙ ap (Fields.fields us) end))
+  bounded-encoded : (most : ℕ) (over : Refusal) (v at : ℕ) (after : List ℕ) → v ≤ most → v < 2 ^ 32 → drop at bytes ≡ encode v ++ after
+      → atMost most over (readNumber bytes at) ≡ parsed v (at + length (encode v))
+  bounded-encoded most over v at after low fits e =
+      ap (atMost most over) (number-encoded v at after fits e) ∙ rw (le-leb v most low)
 
--- The image as a whole.
-pub image-encoded : (R n K : ℕ) (vs behind : List ℕ) → K ≤ n → K < 2 ^ 32 → length vs ≡ fieldCount R K
-    → ((i : ℕ) → i < length vs → getD vs i 0 < 2 ^ 32) → ((i : ℕ) → i < length vs → Allowed R K i (getD vs i 0))
-    → readImage R n (encodeAll (K ∷ vs) ++ behind) ≡ Image.image K (length (encode K)) vs (length (encodeAll (K ∷ vs)))
-unfolding encodeAll
-image-encoded R n K vs behind few small size fits allowed =
-    let bytes = encodeAll (K ∷ vs) ++ behind in
-    let split : bytes ≡ [] ++ encode K ++ (encodeAll vs ++ behind) = append-assoc (encode K) (encodeAll vs) behind in
-    let read = read-encoded K [] (encodeAll vs ++ behind) bytes small split in
-    let start : 0 + length (encode K) ≡ length (encode K) = omega arith in
-    let here : countAt n bytes ≡ field.Value K (length (encode K)) =
-    ap (bounded false n refusal.TooManyCells) (rw start at read) ∙ rw (le-leb K n few) in
-    let rest = fields-encoded R K behind bytes vs (encode K) 0 refl fits (λ i below. let this : 0 + i ≡ i = omega arith in rw this (allowed i below)) in
-    image-fields R n bytes K (length (encode K)) here
-    ∙ (ap (withFields K (length (encode K))) (rw size at rest)
-    ∙ ap (Image.image K (length (encode K)) vs) (sym (length-append (encode K) (encodeAll vs))))
+  -- So is a cell, and a list of things of which each one is read.
+  cell-encoded : (K : ℕ) (c : ImageCell) (at : ℕ) (after : List ℕ) → K < 2 ^ 32 → Linked K c → c .value < 2 ^ 32 → drop at bytes ≡ cellBytes c ++ after
+      → readCell K bytes at ≡ parsed c (at + length (cellBytes c))
+  cell-encoded K c at after small linked fits e =
+      let l = encode (c .left) in
+      let r = encode (c .right) in
+      let v = encode (c .value) in
+      let first : drop at bytes ≡ l ++ (r ++ (v ++ after)) = e ∙ simp append-assoc in
+      let second = behind bytes at l (r ++ (v ++ after)) first in
+      let third = behind bytes (at + length l) r (v ++ after) second in
+      let end : at + length l + length r + length v ≡ at + length (cellBytes c) = omega (arith, length-append (l ++ r) v, length-append l r) in
+      cell-parsed K bytes c at (at + length l) (at + length l + length r) (at + length (cellBytes c))
+      (bounded-encoded K _ (c .left) at (r ++ (v ++ after)) (linked .left-most) (omega (arith, linked .left-most)) first)
+      (bounded-encoded K _ (c .right) (at + length l) (v ++ after) (linked .right-most) (omega (arith, linked .right-most)) second)
+      (number-encoded (c .value) (at + length l + length r) after fits third ∙ ap (parsed (c .value)) end)
 
--- And the other way round: the numbers that are read are allowed.
-module _ (R K : ℕ) (bytes : List ℕ) where
-  pub fields-allowed : (left j at : ℕ) (vs : List ℕ) (end : ℕ) → readFields R K bytes left j at ≡ Fields.fields vs end
-      → (i : ℕ) → i < left → Allowed R K (j + i) (getD vs i 0)
-  fields-allowed zero j at vs end e i below = absurd (omega arith)
-  fields-allowed (suc left) j at vs end e zero below =
-      let f = fields-first R K bytes left j at vs end e in
-      let here : j + 0 ≡ j = omega arith in
-      rw (here, f .list) (bounded-value (isValue R j) K refusal.LinkRange (readAt bytes at) (f .value) (f .next) (f .here) .allowed)
-  fields-allowed (suc left) j at vs end e (suc i) below =
-      let f = fields-first R K bytes left j at vs end e in
-      let next : j + suc i ≡ suc j + i = omega arith in
-      rw (next, f .list) (fields-allowed left (suc j) (f .next) (f .others) end (f .rest) i (omega arith))
+  module _ {A : Type 0} (code : A → List ℕ) (read : ℕ → Parsed A) (P : A → Type 0)
+      (decodes : (x : A) (at : ℕ) (after : List ℕ) → P x → drop at bytes ≡ code x ++ after → read at ≡ parsed x (at + length (code x))) where
+    each-encoded : {xs : List A} → Each P xs → (at : ℕ) (after : List ℕ) → drop at bytes ≡ flatMap code xs ++ after
+        → readEach read (length xs) at ≡ parsed xs (at + length (flatMap code xs))
+    unfolding readEach flatMap
+    each-encoded Each.none at after e = let here : at ≡ at + 0 = omega arith in ap (parsed []) here
+    each-encoded (Each.more {x = x} {xs = xs} h hs) at after e =
+        let first : drop at bytes ≡ code x ++ (flatMap code xs ++ after) = e ∙ append-assoc (code x) (flatMap code xs) after in
+        let rest = each-encoded hs (at + length (code x)) after (behind bytes at (code x) (flatMap code xs ++ after) first) in
+        let end : at + length (code x) + length (flatMap code xs) ≡ at + length (code x ++ flatMap code xs) =
+        omega (arith, length-append (code x) (flatMap code xs)) in
+        then-parsed _ (decodes x at (flatMap code xs ++ after) h first)
+        ∙ (then-parsed (λ l next. parsed (x ∷ l) next) rest ∙ ap (parsed (x ∷ xs)) end)
+
+-- The numbers of an image that has bytes: links within it, values of 32 bits.
+pub record Encodable (i : Image) : Type 0 where
+  pub small : length (i .cells) < 2 ^ 32
+  pub registers : Each (λ (x : ℕ). x ≤ length (i .cells)) (i .registers)
+  pub cells : Each (λ (c : ImageCell). Linked (length (i .cells)) c × (c .value < 2 ^ 32)) (i .cells)
+
+pub encodable-links : {i : Image} → Encodable i → LinksWithin i
+encodable-links e = record { registers = e .registers; cells = firsts (e .cells) }
+  where
+    firsts : {A : Type 0} {P Q : A → Type 0} {xs : List A} → Each (λ (x : A). P x × Q x) xs → Each P xs
+    firsts Each.none = Each.none
+    firsts (Each.more h hs) = Each.more (h .0) (firsts hs)
+
+pub image-encoded : (R n : ℕ) (i : Image) (after : List ℕ) → length (i .cells) ≤ n → length (i .registers) ≡ R → Encodable i
+    → readImage R n (imageBytes i ++ after) ≡ parsed i (length (imageBytes i))
+image-encoded R n i after few all e =
+    let K = length (i .cells) in
+    let bytes = imageBytes i ++ after in
+    let count = encode K in
+    let links = flatMap encode (i .registers) in
+    let list = flatMap cellBytes (i .cells) in
+    let first : drop 0 bytes ≡ count ++ (links ++ (list ++ after)) = simp append-assoc in
+    let second = behind bytes 0 count (links ++ (list ++ after)) first in
+    let third = behind bytes (0 + length count) links (list ++ after) second in
+    let registers : readEach (readLink K bytes) R (0 + length count) ≡ parsed (i .registers) (0 + length count + length links) =
+    rw (← all)
+    (each-encoded bytes encode (readLink K bytes) (λ (x : ℕ). x ≤ K)
+    (λ x at rest low h. bounded-encoded bytes K _ x at rest low (omega (arith, e .small)) h) (e .registers) (0 + length count) (list ++ after) second) in
+    let cells = each-encoded bytes cellBytes (readCell K bytes) (λ (c : ImageCell). Linked K c × (c .value < 2 ^ 32))
+    (λ c at rest h there. cell-encoded bytes K c at rest (e .small) (h .0) (h .1) there) (e .cells) (0 + length count + length links) after third in
+    let end : 0 + length count + length links + length list ≡ length (imageBytes i) =
+    omega (arith, length-append (count ++ links) list, length-append count links) in
+    image-parsed R n bytes i (0 + length count) (0 + length count + length links) (length (imageBytes i))
+    (bounded-encoded bytes n _ K 0 (links ++ (list ++ after)) few (e .small) first) registers (cells ∙ ap (parsed (i .cells)) end)

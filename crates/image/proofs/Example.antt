@@ -1,28 +1,29 @@
 -- The worked examples compute.
 use mathlib.Core.Path.{refl}
+use mathlib.Core.List.{flatMap}
 use Rattle.graph.specs.Preorder.{elem, visit, visits, preorder}
 use Rattle.leb128.specs.Leb128.{readGroups, readAt, groups, encode}
 use Rattle.pool.specs.Words.{tabulate}
 use Rattle.pool.specs.Layout.{register, cell}
-use Rattle.image.specs.Image.{placeFrom, encodeAll, readFields, readImage}
+use Rattle.image.specs.Image.{placeFrom, readEach, readImage}
 use Rattle.image.specs.Example.{ImageExample, ReadExample, TruncatedExample, TooManyCellsExample, LinkRangeExample}
 
 pub image-example : ImageExample
-unfolding elem visit visits preorder groups encode tabulate register cell placeFrom encodeAll
+unfolding elem visit visits preorder groups encode tabulate register cell placeFrom flatMap
 image-example = refl
 
 pub read-example : ReadExample
-unfolding readGroups readAt readFields readImage
+unfolding readGroups readAt readEach readImage
 read-example = refl
 
 pub truncated-example : TruncatedExample
-unfolding readGroups readAt readFields readImage
+unfolding readGroups readAt readEach readImage
 truncated-example = refl
 
 pub too-many-cells-example : TooManyCellsExample
-unfolding readGroups readAt readFields readImage
+unfolding readGroups readAt readEach readImage
 too-many-cells-example = refl
 
 pub link-range-example : LinkRangeExample
-unfolding readGroups readAt readFields readImage
+unfolding readGroups readAt readEach readImage
 link-range-example = refl

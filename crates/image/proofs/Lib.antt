@@ -1,10 +1,4 @@
-pub mod Fields
-pub mod Marking
-pub mod Scanning
-pub mod Filling
-pub mod Loading
-pub mod Check
-pub mod Example
+pub mod Reading
+pub mod Images
 pub mod Decoding
-pub mod LoadedPool
-pub mod Accepted
+pub mod Example

@@ -3,29 +3,37 @@ use Prim.Native.Nat.{ℕ}
 use mathlib.Core.Path.{_≡_}
 use mathlib.Core.List.{List, [], _∷_}
 use Rattle.answers.specs.declared.Refusal.the-variants as refusal
-use Rattle.image.specs.Image.{imageOf, Image, readImage}
+use Rattle.image.specs.Image.{Image, imageOf, parsed, fault, readImage}
 
 -- Register 0 holds cell 2, which leads left to itself and right to cell 1 and has the value 300; cell 1 has no links and the value 7.
 abbrev pub two-cells : List ℕ
 two-cells = 2 ∷ 0 ∷ 2 ∷ 0 ∷ 0 ∷ 0 ∷ 0 ∷ 7 ∷ 0 ∷ 2 ∷ 1 ∷ 300 ∷ []
 
--- Cell 2 is visited first, so it is 1 in the image, and cell 1 is 2. 300 takes two bytes: 172, 2 (AC 02).
-abbrev pub two-cells-image : List ℕ
-two-cells-image = 2 ∷ 1 ∷ 0 ∷ 1 ∷ 2 ∷ 172 ∷ 2 ∷ 0 ∷ 0 ∷ 7 ∷ []
+-- Cell 2 is visited first, so it is 1 in the image, and cell 1 is 2.
+abbrev pub two-cells-image : Image
+two-cells-image =
+    record {
+      registers = 1 ∷ 0 ∷ [];
+      cells = record { left = 1; right = 2; value = 300 } ∷ record { left = 0; right = 0; value = 7 } ∷ [];
+    }
+
+-- 300 takes two bytes: 172, 2 (AC 02).
+abbrev pub two-cells-bytes : List ℕ
+two-cells-bytes = 2 ∷ 1 ∷ 0 ∷ 1 ∷ 2 ∷ 172 ∷ 2 ∷ 0 ∷ 0 ∷ 7 ∷ []
 
 abbrev pub ImageExample : Type 0
-ImageExample = imageOf 2 2 two-cells ≡ two-cells-image
+ImageExample = imageOf 2 2 two-cells ≡ two-cells-bytes
 
 -- It is read back; with the last byte missing it is refused, and so is it for a pool of one cell, even if nothing follows K.
 abbrev pub ReadExample : Type 0
-ReadExample = readImage 2 2 two-cells-image ≡ Image.image 2 1 (1 ∷ 0 ∷ 1 ∷ 2 ∷ 300 ∷ 0 ∷ 0 ∷ 7 ∷ []) 10
+ReadExample = readImage 2 2 two-cells-bytes ≡ parsed two-cells-image 10
 
 abbrev pub TruncatedExample : Type 0
-TruncatedExample = readImage 2 2 (2 ∷ 1 ∷ 0 ∷ 1 ∷ 2 ∷ 172 ∷ 2 ∷ 0 ∷ 0 ∷ []) ≡ Image.fault refusal.Truncated
+TruncatedExample = readImage 2 2 (2 ∷ 1 ∷ 0 ∷ 1 ∷ 2 ∷ 172 ∷ 2 ∷ 0 ∷ 0 ∷ []) ≡ fault refusal.Truncated
 
 abbrev pub TooManyCellsExample : Type 0
-TooManyCellsExample = readImage 2 1 (2 ∷ []) ≡ Image.fault refusal.TooManyCells
+TooManyCellsExample = readImage 2 1 (2 ∷ []) ≡ fault refusal.TooManyCells
 
 -- A link of K + 1 is refused, though the pool has room for more cells; the fault that comes first decides.
 abbrev pub LinkRangeExample : Type 0
-LinkRangeExample = readImage 2 9 (2 ∷ 3 ∷ 128 ∷ []) ≡ Image.fault refusal.LinkRange
+LinkRangeExample = readImage 2 9 (2 ∷ 3 ∷ 128 ∷ []) ≡ fault refusal.LinkRange

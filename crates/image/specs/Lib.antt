@@ -1,3 +1,4 @@
 pub mod Image
-pub mod Load
+pub mod Check
+pub mod Steps
 pub mod Example

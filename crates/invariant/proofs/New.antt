@@ -1,6 +1,6 @@
 -- What `new` does on a pool that the invariant holds of: it takes the first free cell, of the pool as it is or as a collection leaves it, or is refused
 -- with 5.
-use Prim.Native.Nat.{ℕ, _*_, _<_, _≤_}
+use Prim.Native.Nat.{ℕ, _<_, _≤_}
 use native.Mathlib.Omega.{arith}
 use mathlib.Core.Path.{_≡_}
 use mathlib.Core.Logic.{⊎-elim}

@@ -5,7 +5,6 @@ use mathlib.Core.Path.{_≡_, refl, sym, subst}
 use mathlib.Core.Logic.{⊎-elim}
 use mathlib.Core.List.{List, []}
 use mathlib.Core.Bool.{Bool, true, false, cond}
-use borrow.Author.Tests.{eq-eqb}
 use Rattle.graph.proofs.Marks.{zero-or-above}
 use Rattle.pool.specs.Layout.{registerCount, register, cell, setCell}
 use Rattle.questions.specs.Questions.{areRegisters}

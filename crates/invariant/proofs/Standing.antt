@@ -6,7 +6,7 @@ use mathlib.Core.Path.{_≡_, refl, sym, ap, _∙_}
 use mathlib.Core.List.{List}
 use mathlib.Core.Bool.{Bool, true, false, cond}
 use lib.ListN.{length}
-use borrow.Author.Tests.{eqb-true, eq-eqb, ne-eqb, lt-ltb}
+use borrow.Author.Tests.{eq-eqb, ne-eqb, lt-ltb}
 use Rattle.pool.specs.Layout.{registerCount, poolLength, cellCountOfLength, cellCount, count, register, setRegister, cell, setCell, state, left, right}
 use Rattle.pool.specs.States.{isUsed, isFree}
 use Rattle.questions.specs.Questions.{areRegisters, holdsLink}

@@ -1,17 +1,15 @@
 -- The words after a cell was taken from the free list, field by field, and that they are a pool as before.
-use Prim.Native.Nat.{ℕ, zero, suc, _<_, _≤_}
+use Prim.Native.Nat.{ℕ, _<_, _≤_}
 use native.Mathlib.Omega.{arith}
 use native.Mathlib.Decide.{ℕ-discrete}
-use mathlib.Core.Path.{_≡_, refl, subst, _∙_, ap}
+use mathlib.Core.Path.{_≡_, subst, _∙_, ap}
 use mathlib.Core.Logic.{⊎-elim}
-use mathlib.Core.List.{List, [], _∷_, List·Memᴰ, List·Memᴰ·cases-cons}
-use mathlib.Core.Bool.{true, cond}
-use lib.ListN.{length, getD}
-use lib.Dec.{eqb}
-use borrow.Author.Tests.{eq-eqb, ne-eqb}
-use Rattle.pool.specs.Layout.{registerCount, poolLength, count, head, register, cell, setCell, state, left}
+use mathlib.Core.List.{List, List·Memᴰ, List·Memᴰ·cases-cons}
+use mathlib.Core.Bool.{true}
+use lib.ListN.{length}
+use Rattle.pool.specs.Layout.{registerCount, count, head, register, cell, state, left}
 use Rattle.pool.specs.States.{isUsed, isFree, usedState}
-use Rattle.pool.proofs.Laws.{length-setCell, length-setHead, length-setRegister, cell-same, cell-other, cell-setHead, cell-setRegister, register-same, register-other, register-setHead, register-setCell, head-same, head-setRegister, count-setCell, count-setHead, count-setRegister}
+use Rattle.pool.proofs.Laws.{length-setCell, length-setHead, length-setRegister, cell-setHead, cell-setRegister, register-same, register-other, register-setHead, register-setCell, head-same, head-setRegister, count-setCell, count-setHead, count-setRegister}
 use Rattle.questions.proofs.WellFormed.{Link, Cell, WellFormed}
 use Rattle.pool.proofs.Node.{written, length-putCell, cell-putCell, cell-putCell-other}
 use Rattle.allocator.specs.Allocation.{take}

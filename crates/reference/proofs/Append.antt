@@ -6,7 +6,6 @@ use mathlib.Core.Path.{_≡_, _∙_}
 use mathlib.Core.Logic.{inl, inr}
 use mathlib.Core.List.{List, [], _∷_}
 use lib.ListN.{length, length-set, length-append, List·getD-append}
-use borrow.Author.Tests.{eq-eqb}
 use lib.Seq.{getD-set-same, getD-set-other, getD-append-seam}
 use Rattle.graph.specs.Compare.{OneToOne}
 use Rattle.pool.specs.Layout.{registerCount, head, register, cell}

@@ -1,147 +1,104 @@
--- The bytes of an image, one number after the other: how long they are, and the turns of the loop that writes them.
-use Prim.Native.Nat.{ℕ, zero, suc, _+_, _-_, _*_, _<_, _≤_}
+-- The bytes of an image, part by part: how long they are, and how they are written one behind the other.
+use Prim.Native.Nat.{ℕ, _+_, _*_, _<_, _≤_}
 use native.Mathlib.Omega.{arith}
+use native.Mathlib.Nat.{mul-suc}
 use native.Mathlib.Numerals.{add-one}
-use native.Mathlib.Decide.{decLe}
 use mathlib.Core.Path.{_≡_, refl, sym, ap, ap₂, _∙_}
-use mathlib.Core.List.{List, [], _∷_, _++_, append-nil, append-assoc}
-use lib.ListN.{length, take, drop, length-append}
-use lib.Seq.{take-at, drop-append-add, drop-drop}
+use mathlib.Core.List.{List, [], _∷_, _++_, append-nil, append-assoc, map, flatMap}
+use lib.ListN.{length, getD, take, drop, length-append, length-map, take-append-drop, drop-of-length-le}
+use lib.Seq.{length-take-le, take-at, drop-append-add, drop-drop, drop-cons}
 use borrow.Author.Tests.{le-leb}
 use Rattle.leb128.specs.Leb128.{encode, writeAt}
 use Rattle.leb128.specs.declared.Written.{Written}
 use Rattle.leb128.specs.declared.Written.the-variants as written
 use Rattle.leb128.proofs.Encoding.{encode-size}
-use Rattle.pool.specs.Words.{tabulate}
+use Rattle.pool.specs.Layout.{register, rootsOf}
+use Rattle.pool.proofs.Every.{length-tabulate}
 use Rattle.reversal.specs.Reached.{reachedCells, reachedCount}
-use Rattle.image.specs.Image.{fieldCount, savedField, encodeAll, imageOf}
+use Rattle.image.specs.declared.ImageCell.{ImageCell}
+use Rattle.image.specs.Image.{numberIn, savedCell, cellBytes, imageOf}
+use Rattle.save.specs.Steps.{registerBytes, orderBytes, Put}
 
-pub encode-append : (us vs : List ℕ) → encodeAll (us ++ vs) ≡ encodeAll us ++ encodeAll vs
-unfolding encodeAll
-encode-append [] vs = refl
-encode-append (u ∷ us) vs = rw (encode-append us vs) (sym (append-assoc (encode u) (encodeAll us) (encodeAll vs)))
+-- The bytes of a list from place p on: the first element's, then those of the others; none at its end.
+module _ {A : Type 0} (code : A → List ℕ) (f : ℕ → A) (l : List ℕ) (p : ℕ) where
+  bytes-more : p < length l
+      → flatMap code (map f (drop p l)) ≡ code (f (getD l p 0)) ++ flatMap code (map f (drop (p + 1) l))
+  unfolding flatMap
+  bytes-more below = rw (add-one p) (ap (λ (m : List ℕ). flatMap code (map f m)) (drop-cons l p 0 below))
 
-module _ (k : ℕ) (f : ℕ → ℕ) where
-  -- The bytes of k and of the first j numbers behind it.
-  abbrev pub start : ℕ → List ℕ
-  start j = encodeAll (k ∷ tabulate j f)
+  bytes-last : length l ≤ p → flatMap code (map f (drop p l)) ≡ []
+  unfolding flatMap
+  bytes-last above = ap (λ (m : List ℕ). flatMap code (map f m)) (drop-of-length-le l {i = p} above)
 
-  pub start-none : start 0 ≡ encode k
-  unfolding encodeAll tabulate
-  start-none = append-nil (encode k)
+-- No element has more than `most` bytes.
+bytes-most : {A : Type 0} (code : A → List ℕ) (most : ℕ) → ((x : A) → length (code x) ≤ most) → (xs : List A)
+    → length (flatMap code xs) ≤ most * length xs
+unfolding flatMap
+bytes-most code most h [] = omega arith
+bytes-most code most h (x ∷ xs) =
+    omega (arith, length-append (code x) (flatMap code xs), h x, bytes-most code most h xs, mul-suc most (length xs))
 
-  pub start-more : (j : ℕ) → start (j + 1) ≡ start j ++ encode (f j)
-  unfolding encodeAll tabulate
-  start-more j =
-      rw (add-one j)
-      (encode-append (k ∷ tabulate j f) (f j ∷ []) ∙ ap (λ (l : List ℕ). start j ++ l) (append-nil (encode (f j))))
+cell-most : (c : ImageCell) → length (cellBytes c) ≤ 15
+cell-most c =
+    let l = encode (c .left) in
+    let r = encode (c .right) in
+    let v = encode (c .value) in
+    omega (arith, length-append (l ++ r) v, length-append l r, encode-size (c .left), encode-size (c .right), encode-size (c .value))
 
-  pub start-grows : (i j : ℕ) → i ≤ j → length (start i) ≤ length (start j)
-  start-grows i zero below = let none : i ≡ 0 = omega arith in rw none (omega arith)
-  start-grows i (suc j) below =
-      elim (decLe i j) [
-        | yes less ↦
-            omega (
-              arith,
-              start-grows i j less,
-              ap (λ (x : ℕ). length (start x)) (add-one j),
-              ap length (start-more j),
-              length-append (start j) (encode (f j)),
-            )
-        | no last ↦ let same : i ≡ suc j = omega arith in rw same (omega arith)
-      ]
+-- Bytes that begin with others, and what follows these.
+pub record Begins (rest first more : List ℕ) : Type 0 where
+  pub split : rest ≡ first ++ more
 
-  -- The size of the first numbers, as the loops sum it.
-  pub record Sizing (size j : ℕ) : Type 0 where
-    pub sum : size ≡ length (start j)
-    pub most : size ≤ 5 * (j + 1)
-
-  pub sizing-first : (size : ℕ) → size ≡ length (encode k) → Sizing size 0
-  sizing-first size e = record { sum = e ∙ ap length (sym start-none); most = omega (arith, encode-size k) }
-
-  pub sizing-more : (size j v add : ℕ) → Sizing size j → v ≡ f j → add ≡ length (encode v) → Sizing (size + add) (j + 1)
-  sizing-more size j v add s e a =
-      let long : add ≡ length (encode (f j)) = a ∙ ap (λ (x : ℕ). length (encode x)) e in
+module _ (R n : ℕ) (w : List ℕ) where
+  -- The registers' bytes begin with the next register's, and the cells' with the next cell's.
+  pub next-register : (j v : ℕ) → j < R → v ≡ numberIn (reachedCells R n w) (getD (rootsOf R w) j 0)
+      → Begins (registerBytes R n w j) (encode v) (registerBytes R n w (j + 1))
+  next-register j v low e =
       record {
-        sum = omega (arith, s .sum, ap length (start-more j), length-append (start j) (encode (f j)));
-        most = omega (arith, s .most, encode-size (f j));
+        split =
+            bytes-more encode (numberIn (reachedCells R n w)) (rootsOf R w) j (omega (arith, length-tabulate R (λ k. register w k)))
+            ∙ ap (λ (x : ℕ). encode x ++ registerBytes R n w (j + 1)) (sym e);
       }
 
-  -- From the output out₀ to out, the bytes of k and the first j numbers are written, up to the place `at`.
-  pub record Output (out₀ out : List ℕ) (at j : ℕ) : Type 0 where
-    pub place : at ≡ length (start j)
-    pub bytes : out ≡ start j ++ drop at out₀
-    pub len : length out ≡ length out₀
+  pub last-register : (j : ℕ) → R ≤ j → registerBytes R n w j ≡ []
+  last-register j high = bytes-last encode (numberIn (reachedCells R n w)) (rootsOf R w) j (omega (arith, length-tabulate R (λ k. register w k)))
 
-  pub output-first-room : (count : ℕ) (out : List ℕ) → length (start count) ≤ length out → 0 + length (encode k) ≤ length out
-  output-first-room count out room = omega (arith, ap length start-none, start-grows 0 count (omega arith))
-
-  pub output-first : (out₀ out : List ℕ) (at : ℕ) → at ≡ 0 + length (encode k)
-      → out ≡ take 0 out₀ ++ encode k ++ drop (0 + length (encode k)) out₀ → length out ≡ length out₀ → Output out₀ out at 0
-  output-first out₀ out at place bytes len =
+  pub next-cell : (p : ℕ) (c : ImageCell) → p < reachedCount R n w → c ≡ savedCell R w (reachedCells R n w) (getD (reachedCells R n w) p 0)
+      → Begins (orderBytes R n w p) (cellBytes c) (orderBytes R n w (p + 1))
+  next-cell p c low e =
       record {
-        place = omega (arith, ap length start-none);
-        bytes = bytes ∙ ap₂ (λ (a b : List ℕ). a ++ b) (sym start-none) (ap (λ (x : ℕ). drop x out₀) (sym place));
-        len = len;
+        split =
+            bytes-more cellBytes (savedCell R w (reachedCells R n w)) (reachedCells R n w) p low
+            ∙ ap (λ (x : ImageCell). cellBytes x ++ orderBytes R n w (p + 1)) (sym e);
       }
 
-  module _ (out₀ out : List ℕ) (at j : ℕ) (o : Output out₀ out at j) where
-    -- Behind that place the output is as it was.
-    behind : (m : ℕ) → drop (at + m) out ≡ drop (at + m) out₀
-    behind m =
-        ap (drop (at + m)) (o .bytes)
-        ∙ (ap (λ (x : ℕ). drop (x + m) (start j ++ drop at out₀)) (o .place)
-        ∙ (drop-append-add (start j) (drop at out₀) m ∙ drop-drop m at out₀))
+  pub last-cell : (p : ℕ) → reachedCount R n w ≤ p → orderBytes R n w p ≡ []
+  last-cell p high = bytes-last cellBytes (savedCell R w (reachedCells R n w)) (reachedCells R n w) p high
 
-    -- It is seen as written to what it is now, or, if that was written before, to what it was then.
-    pub output-again : Output out out at j
-    output-again =
-        let here : at + 0 ≡ at = omega arith in
-        record { place = o .place; bytes = o .bytes ∙ ap (λ (l : List ℕ). start j ++ l) (rw here at (sym (behind 0))); len = refl }
+  pub registers-most : length (registerBytes R n w 0) ≤ 5 * R
+  registers-most =
+      let each = bytes-most encode 5 (λ v. encode-size v .1) (map (numberIn (reachedCells R n w)) (rootsOf R w)) in
+      omega (arith, length-map (rootsOf R w) (numberIn (reachedCells R n w)), length-tabulate R (λ k. register w k))
 
-    -- There is room for the next number.
-    pub output-room : (count v : ℕ) → length (start count) ≤ length out → j < count → v ≡ f j → at + length (encode v) ≤ length out
-    output-room count v room more e =
-        omega (
-          arith,
-          o .place,
-          ap (λ (x : ℕ). length (encode x)) e,
-          ap length (start-more j),
-          length-append (start j) (encode (f j)),
-          start-grows (j + 1) count (omega arith),
-        )
+  pub cells-most : length (orderBytes R n w 0) ≤ 15 * reachedCount R n w
+  cells-most =
+      let each = bytes-most cellBytes 15 cell-most (map (savedCell R w (reachedCells R n w)) (reachedCells R n w)) in
+      omega (arith, length-map (reachedCells R n w) (savedCell R w (reachedCells R n w)))
 
-    pub output-more : (next : List ℕ) (v after : ℕ) → v ≡ f j → after ≡ at + length (encode v)
-        → next ≡ take at out ++ encode v ++ drop (at + length (encode v)) out → length next ≡ length out → Output out₀ next after (j + 1)
-    output-more next v after e place bytes len =
-        record {
-          place = omega (arith, o .place, ap length (start-more j), length-append (start j) (encode (f j)), ap (λ (x : ℕ). length (encode x)) e);
-          bytes =
-              bytes
-              ∙ ap₂ (λ (a b : List ℕ). a ++ b) front
-              (behind (length (encode v)) ∙ ap (λ (x : ℕ). drop x out₀) (sym place));
-          len = len ∙ o .len;
-        }
-      where
-        front : take at out ++ encode v ≡ start (j + 1)
-        front =
-            rw (start-more j)
-            (ap₂ (λ (a b : List ℕ). a ++ b) (ap (take at) (o .bytes) ∙ take-at (start j) (drop at out₀) at (sym (o .place))) (ap encode e))
+-- The whole image, by its parts.
+pub image-parts : (R n : ℕ) (w : List ℕ) (k : ℕ) → k ≡ reachedCount R n w
+    → encode k ++ registerBytes R n w 0 ++ orderBytes R n w 0 ≡ imageOf R n w
+image-parts R n w k e =
+    let count : k ≡ length (map (savedCell R w (reachedCells R n w)) (reachedCells R n w)) = e ∙ sym (length-map (reachedCells R n w) _) in
+    ap (λ (x : ℕ). encode x ++ registerBytes R n w 0 ++ orderBytes R n w 0) count
 
-  pub output-after : (out₀ out₁ out : List ℕ) (at₁ at i j : ℕ) → Output out₀ out₁ at₁ i → Output out₁ out at j → i ≤ j → Output out₀ out at j
-  output-after out₀ out₁ out at₁ at i j o p later =
-      let m = at - at₁ in
-      let far : at ≡ at₁ + m = omega (arith, o .place, p .place, start-grows i j later) in
-      record {
-        place = p .place;
-        bytes = p .bytes ∙ ap (λ (l : List ℕ). start j ++ l) (rw far (behind out₀ out₁ at₁ i o m));
-        len = p .len ∙ o .len;
-      }
-
--- The image of the pool is that of its number of cells and all its numbers.
-pub image-start : (R n : ℕ) (w : List ℕ) (k : ℕ) → k ≡ reachedCount R n w
-    → imageOf R n w ≡ start k (savedField R w (reachedCells R n w)) (fieldCount R k)
-image-start R n w k e = ap (λ (x : ℕ). start x (savedField R w (reachedCells R n w)) (fieldCount R x)) (sym e)
+pub image-length : (R n : ℕ) (w : List ℕ) (k : ℕ) → k ≡ reachedCount R n w
+    → length (imageOf R n w) ≡ length (encode k) + length (registerBytes R n w 0) + length (orderBytes R n w 0)
+image-length R n w k e =
+    let head = encode k in
+    let registers = registerBytes R n w 0 in
+    let cells = orderBytes R n w 0 in
+    sym (ap length (image-parts R n w k e)) ∙ (length-append (head ++ registers) cells ∙ ap (λ (x : ℕ). x + length cells) (length-append head registers))
 
 -- A number that has room is written.
 module _ (out last : List ℕ) (at v : ℕ) (r : Written) (room : at + length (encode v) ≤ length out) where
@@ -150,8 +107,7 @@ module _ (out last : List ℕ) (at v : ℕ) (r : Written) (room : at + length (e
   unfolding writeAt
   wrote e = e ∙ simp (le-leb (at + length (encode v)) (length out) room)
 
-  pub put-next : (next : ℕ) → _≡_ {A = Written × List ℕ} (r, last) (writeAt out at v) → r ≡ written.Next next
-      → (next ≡ at + length (encode v)) × (last ≡ take at out ++ encode v ++ drop (at + length (encode v)) out)
+  pub put-next : (next : ℕ) → _≡_ {A = Written × List ℕ} (r, last) (writeAt out at v) → r ≡ written.Next next → Put (encode v) out at next last
   put-next next e is =
       let place : written.Next next ≡ written.Next (at + length (encode v)) = sym is ∙ ap (λ x. x .0) (wrote e) in
       (cc, ap (λ x. x .1) (wrote e))
@@ -161,11 +117,83 @@ module _ (out last : List ℕ) (at v : ℕ) (r : Written) (room : at + length (e
       let never : written.NoRoom ≡ written.Next (at + length (encode v)) = sym is ∙ ap (λ x. x .0) (wrote e) in
       let z : _≡_ {A = ℕ} 0 1 = cc in omega arith
 
--- The whole size, and the whole output.
-module _ (R n : ℕ) (w : List ℕ) (k : ℕ) (kept : k ≡ reachedCount R n w) where
-  pub sizing-last : (size j : ℕ) → Sizing k (savedField R w (reachedCells R n w)) size j → j ≡ fieldCount R k → size ≡ length (imageOf R n w)
-  sizing-last size j s all = rw (image-start R n w k kept) (rw all at (s .sum))
+-- Nothing is written; some bytes are, and behind them others.
+pub put-nothing : (out : List ℕ) (at : ℕ) → Put [] out at at out
+put-nothing out at =
+    let here : at + 0 ≡ at = omega arith in
+    (sym here, sym (ap₂ (λ (a b : List ℕ). a ++ b) (append-nil (take at out)) (ap (λ (k : ℕ). drop k out) here) ∙ take-append-drop at out))
 
-  pub output-last : (out₀ out : List ℕ) (at j : ℕ) → Output k (savedField R w (reachedCells R n w)) out₀ out at j → j ≡ fieldCount R k
-      → out ≡ imageOf R n w ++ drop (length (imageOf R n w)) out₀
-  output-last out₀ out at j o all = rw (image-start R n w k kept) (rw all at (rw (o .place) at (o .bytes)))
+pub put-append : (a b out : List ℕ) (at next : ℕ) (after : List ℕ) (end : ℕ) (last : List ℕ) → at ≤ length out
+    → Put a out at next after → Put b after next end last → Put (a ++ b) out at end last
+put-append a b out at next after end last inside p q =
+    let front : length (take at out ++ a) ≡ next = omega (arith, length-append (take at out) a, length-take-le at out inside, p .0) in
+    let before : take next after ≡ take at out ++ a =
+    ap (take next) (p .1) ∙ take-at (take at out ++ a) (drop (at + length a) out) next front in
+    let far : at + length a + length b ≡ at + length (a ++ b) = omega (arith, length-append a b) in
+    let behind : drop (next + length b) after ≡ drop (at + length (a ++ b)) out =
+    ap (drop (next + length b)) (p .1)
+    ∙ (ap (λ (k : ℕ). drop (k + length b) (take at out ++ a ++ drop (at + length a) out)) (sym front)
+    ∙ (drop-append-add (take at out ++ a) (drop (at + length a) out) (length b)
+    ∙ (drop-drop (length b) (at + length a) out ∙ ap (λ (k : ℕ). drop k out) far))) in (
+      omega (arith, p .0, q .0, length-append a b),
+      q .1
+          ∙ ap₂ (λ (x y : List ℕ). x ++ y) (ap (λ (l : List ℕ). l ++ b) before ∙ append-assoc (take at out) a b) behind,
+    )
+
+-- The parts of an image, written to the start of the output.
+pub put-image : (R n : ℕ) (w : List ℕ) (k : ℕ) (out : List ℕ) (first : ℕ) (out₁ : List ℕ) (second : ℕ) (out₂ : List ℕ) (end : ℕ) (last : List ℕ)
+    → k ≡ reachedCount R n w → Put (encode k) out 0 first out₁ → Put (registerBytes R n w 0) out₁ first second out₂
+    → Put (orderBytes R n w 0) out₂ second end last → last ≡ imageOf R n w ++ drop (length (imageOf R n w)) out
+put-image R n w k out first out₁ second out₂ end last e p q r =
+    let registers = registerBytes R n w 0 in
+    let cells = orderBytes R n w 0 in
+    let whole = put-append (encode k ++ registers) cells out 0 second out₂ end last (omega arith)
+    (put-append (encode k) registers out 0 first out₁ second out₂ (omega arith) p q) r in
+    let here : 0 + length (imageOf R n w) ≡ length (imageOf R n w) = omega arith in
+    rw here at (rw (image-parts R n w k e) at (whole .1))
+
+-- A loop that writes `whole` from `start` on: what is done is written, and the rest is left.
+pub record Writing (whole out₀ : List ℕ) (start : ℕ) (rest out : List ℕ) (at : ℕ) : Type 0 where
+  pub done : List ℕ
+  pub parts : done ++ rest ≡ whole
+  pub put : Put done out₀ start at out
+  pub len : length out ≡ length out₀
+
+pub writing-first : (whole out : List ℕ) (start : ℕ) → Writing whole out start whole out start
+writing-first whole out start = record { done = []; parts = refl; put = put-nothing out start; len = refl }
+
+module _ (whole out₀ : List ℕ) (start : ℕ) (room : start + length whole ≤ length out₀) (rest out : List ℕ) (at : ℕ)
+    (t : Writing whole out₀ start rest out at) where
+  -- There is room for the next bytes; once they are written, fewer are left; at the end all are written.
+  pub writing-room : (e more : List ℕ) → Begins rest e more → at + length e ≤ length out
+  writing-room e more b =
+      omega (arith, t .put .0, t .len, ap length (t .parts), length-append (t .done) rest, ap length (b .split), length-append e more)
+
+  pub writing-more : (e more : List ℕ) (next : ℕ) (after : List ℕ) → Begins rest e more → Put e out at next after → length after ≡ length out
+      → Writing whole out₀ start more after next
+  writing-more e more next after b p long =
+      record {
+        done = t .done ++ e;
+        parts = append-assoc (t .done) e more ∙ (ap (λ (l : List ℕ). t .done ++ l) (sym (b .split)) ∙ t .parts);
+        put = put-append (t .done) e out₀ start at out next after (omega arith) (t .put) p;
+        len = long ∙ t .len;
+      }
+
+  pub writing-last : rest ≡ [] → Put whole out₀ start at out
+  writing-last none =
+      let all : t .done ≡ whole = sym (append-nil (t .done)) ∙ (ap (λ (l : List ℕ). t .done ++ l) (sym none) ∙ t .parts) in
+      rw all at (t .put)
+
+-- A loop that sums the sizes: the sum, and what is left, make the whole.
+pub record Sizing (whole rest : List ℕ) (size : ℕ) : Type 0 where
+  pub sum : size + length rest ≡ length whole
+
+pub sizing-first : (whole : List ℕ) → Sizing whole whole 0
+sizing-first whole = record { sum = omega arith }
+
+module _ (whole rest : List ℕ) (size : ℕ) (s : Sizing whole rest size) where
+  pub sizing-more : (e more : List ℕ) (add : ℕ) → Begins rest e more → add ≡ length e → Sizing whole more (size + add)
+  sizing-more e more add b a = record { sum = omega (arith, s .sum, ap length (b .split), length-append e more) }
+
+  pub sizing-last : rest ≡ [] → size ≡ length whole
+  sizing-last none = omega (arith, s .sum, ap length none)

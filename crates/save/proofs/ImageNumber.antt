@@ -1,47 +1,41 @@
--- The numbers of an image, read from the pool and the scratch.
-use Prim.Native.Nat.{ℕ, zero, suc, _+_, _*_, _<_, _≤_}
+-- What an image holds for a register and for a cell, read from the pool and the scratch.
+use Prim.Native.Nat.{ℕ, _+_, _<_, _≤_}
 use native.Mathlib.Omega.{arith}
-use native.Mathlib.Numerals.{add-one}
 use mathlib.Core.Path.{_≡_, sym, ap, _∙_}
-use mathlib.Core.List.{List, List·Memᴰ}
+use mathlib.Core.List.{List}
 use lib.ListN.{length, getD}
 use borrow.Author.Tests.{eq-eqb, ne-eqb}
 use Rattle.graph.proofs.Lists.{getD-member}
-use Rattle.graph.proofs.Theorems.{preorder-reached, preorder-length}
-use Rattle.pool.specs.Layout.{register, cell, graphOf, rootsOf}
-use Rattle.questions.proofs.WellFormed.{Link, WellFormed, well-formed-read}
-use Rattle.questions.proofs.PoolGraph.{Used, link-bound, used-links, reached-used, pool-within}
+use Rattle.pool.specs.Layout.{register, cell, rootsOf}
+use Rattle.pool.proofs.Every.{getD-tabulate}
+use Rattle.questions.proofs.WellFormed.{Link}
+use Rattle.questions.proofs.PoolGraph.{Used, link-bound, used-links}
 use Rattle.reversal.specs.Reached.{reachedCells, reachedCount}
-use Rattle.image.specs.Image.{numberIn, savedField}
-use Rattle.save.specs.Steps.{Savable, numberAt, Ordered}
-use Rattle.save.proofs.Numbering.{place-none}
-use Rattle.save.proofs.SavedFields.{field-register, field-value, field-link}
+use Rattle.image.specs.declared.ImageCell.{ImageCell}
+use Rattle.image.specs.Image.{numberIn, savedCell}
+use Rattle.numbering.specs.Steps.{Savable, Ordered}
+use Rattle.numbering.proofs.Numbering.{place-none}
+use Rattle.numbering.proofs.Ordering.{well, order-used}
+use Rattle.save.specs.Steps.{numberAt}
 
 module _ (R n : ℕ) (w s : List ℕ) (savable : Savable R n w (length s)) where
-  well : WellFormed R n w
-  well = well-formed-read R n w (savable .well-formed)
-
-  -- What is reached is a used cell, so nil is not.
-  pub order-used : (x : ℕ) → List·Memᴰ x (reachedCells R n w) → Used R n w x
-  order-used x m = reached-used well (preorder-reached n (graphOf R w) (rootsOf R w) (pool-within well) x .0 m)
-
-  pub few-kept : reachedCount R n w ≤ n
-  few-kept = preorder-length n (graphOf R w) (rootsOf R w) (pool-within well)
-
   pub register-bound : (j : ℕ) → j < R → register w j ≤ n
-  register-bound j low = link-bound (well .registers j low)
+  register-bound j low = link-bound (well R n w s savable .registers j low)
 
   module _ (ordered : Ordered R n w s) where
     link-numbered : (x : ℕ) → Link R n w x → numberAt s x ≡ numberIn (reachedCells R n w) x
     link-numbered x (Link.nil e) =
-        simp (eq-eqb x 0 e) (sym (place-none 1 (reachedCells R n w) x (λ m. omega (arith, order-used x m .positive))))
+        simp (eq-eqb x 0 e) (sym (place-none 1 (reachedCells R n w) x (λ m. omega (arith, order-used R n w s savable x m .positive))))
     link-numbered x (Link.used low high used) = simp (ne-eqb x 0 (λ e. omega arith)) (ordered .numbers x low high)
 
-    pub saved-register : (j v : ℕ) → j < R → v ≡ numberAt s (register w j) → v ≡ savedField R w (reachedCells R n w) j
-    saved-register j v low e = e ∙ (link-numbered (register w j) (well .registers j low) ∙ sym (field-register R w (reachedCells R n w) j low))
+    pub register-saved : (j v : ℕ) → j < R → v ≡ numberAt s (register w j) → v ≡ numberIn (reachedCells R n w) (getD (rootsOf R w) j 0)
+    register-saved j v low e =
+        e
+        ∙ (link-numbered (register w j) (well R n w s savable .registers j low)
+        ∙ ap (numberIn (reachedCells R n w)) (sym (getD-tabulate R (λ k. register w k) j 0 low)))
 
     module _ (p : ℕ) (below : p < reachedCount R n w) where
-      -- The image's cell p.
+      -- The p-th cell of the order.
       abbrev cellHere : ℕ
       cellHere = getD s (n + p) 0
 
@@ -49,27 +43,18 @@ module _ (R n : ℕ) (w s : List ℕ) (savable : Savable R n w (length s)) where
       cell-order = ordered .cells p below
 
       pub cell-used : Used R n w cellHere
-      cell-used = rw cell-order (order-used _ (getD-member (reachedCells R n w) p below))
+      cell-used = rw cell-order (order-used R n w s savable _ (getD-member (reachedCells R n w) p below))
 
-      pub saved-value : (v f : ℕ) → f ≡ 2 → v ≡ cell R w cellHere 3 → v ≡ savedField R w (reachedCells R n w) (R + 3 * p + f)
-      saved-value v f last e =
-          rw last (e ∙ (ap (λ (x : ℕ). cell R w x 3) cell-order ∙ sym (field-value R w (reachedCells R n w) p)))
+      pub left-bound : cell R w cellHere 1 ≤ n
+      left-bound = link-bound (used-links (well R n w s savable) cell-used .0)
 
-      link-of : (f : ℕ) → f < 2 → Link R n w (cell R w cellHere (f + 1))
-      link-of zero h = used-links well cell-used .0
-      link-of (suc zero) h = used-links well cell-used .1
-      link-of (suc (suc f)) h = absurd (omega arith)
+      pub right-bound : cell R w cellHere 2 ≤ n
+      right-bound = link-bound (used-links (well R n w s savable) cell-used .1)
 
-      module _ (f : ℕ) (low : f < 3) (other : f ≡ 2 → ⊥) where
-        here : Link R n w (cell R w cellHere (f + 1))
-        here = link-of f (omega (arith, other))
-
-        pub link-here-bound : cell R w cellHere (f + 1) ≤ n
-        link-here-bound = link-bound here
-
-        pub saved-link : (v : ℕ) → v ≡ numberAt s (cell R w cellHere (f + 1)) → v ≡ savedField R w (reachedCells R n w) (R + 3 * p + f)
-        saved-link v e =
-            e
-            ∙ (link-numbered _ here
-            ∙ (ap (λ (x : ℕ). numberIn (reachedCells R n w) (cell R w x (f + 1))) cell-order
-            ∙ (rw (add-one f) (sym (field-link R w (reachedCells R n w) p f (omega (arith, other)))))))
+      pub cell-saved : (l r v : ℕ) → l ≡ numberAt s (cell R w cellHere 1) → r ≡ numberAt s (cell R w cellHere 2) → v ≡ cell R w cellHere 3
+          → _≡_ {A = ImageCell} (record { left = l; right = r; value = v }) (savedCell R w (reachedCells R n w) (getD (reachedCells R n w) p 0))
+      cell-saved l r v el er ev =
+          let links = used-links (well R n w s savable) cell-used in
+          let left-number : l ≡ numberIn (reachedCells R n w) (cell R w cellHere 1) = el ∙ link-numbered _ (links .0) in
+          let right-number : r ≡ numberIn (reachedCells R n w) (cell R w cellHere 2) = er ∙ link-numbered _ (links .1) in
+          rw (left-number, right-number, ev) (ap (savedCell R w (reachedCells R n w)) cell-order)

@@ -1,11 +1,7 @@
-pub mod Numbering
-pub mod Walking
-pub mod Turns
-pub mod Listing
+pub mod Saving
+pub mod Determined
 pub mod ImageNumber
 pub mod ImageBytes
-pub mod Saving
-pub mod SavedFields
+pub mod SavedImage
 pub mod Renumbering
 pub mod RoundTrip
-pub mod Determined

@@ -1,5 +1,5 @@
 -- The graph of a loaded save: it is paired one-to-one with the saved graph, so its cells are visited in the order of their numbers.
-use Prim.Native.Nat.{ℕ, suc, _+_, _-_, _*_, _<_, _≤_}
+use Prim.Native.Nat.{ℕ, zero, suc, _-_, _<_, _≤_}
 use native.Mathlib.Omega.{arith}
 use mathlib.Core.Path.{_≡_, sym, ap, _∙_}
 use mathlib.Core.Logic.{⊎-elim}
@@ -13,47 +13,52 @@ use Rattle.graph.proofs.Reached.{reach-above}
 use Rattle.graph.proofs.Theorems.{preorder-reached, preorder-distinct}
 use Rattle.graph.proofs.Pairing.{paired-least, preorder-paired, length-paired, pairing-kept}
 use Rattle.pool.specs.Words.{tabulate}
-use Rattle.pool.specs.Layout.{register, cell, left, right, value, graphOf, rootsOf}
+use Rattle.pool.specs.Layout.{poolLength, register, cell, left, right, value, graphOf, rootsOf}
 use Rattle.pool.proofs.Every.{length-tabulate, getD-tabulate, tabulate-list}
 use Rattle.questions.proofs.WellFormed.{WellFormed}
 use Rattle.questions.proofs.PoolGraph.{pool-within}
 use Rattle.reversal.specs.Reached.{reachedCells, reachedCount}
-use Rattle.image.specs.Image.{numberIn, fieldCount}
-use Rattle.image.specs.Load.{loadedWords}
-use Rattle.save.proofs.Numbering.{place-none, number-member, number-placed, number-at}
-use Rattle.image.proofs.Decoding.{Allowed}
-use Rattle.save.proofs.SavedFields.{field, field-register, field-value, field-link, saved-allowed, savedFields, saved-at}
-use Rattle.image.proofs.LoadedPool.{loaded-register, loaded-cell, loaded-well-formed}
+use Rattle.image.specs.declared.ImageCell.{ImageCell}
+use Rattle.image.specs.Image.{numberIn, savedCell, savedImage}
+use Rattle.image.proofs.Images.{LinksWithin}
+use Rattle.load.specs.Load.{loadedWords}
+use Rattle.load.proofs.Putting.{imageField}
+use Rattle.load.proofs.LoadedPool.{loaded-register, loaded-cell, loaded-well-formed}
+use Rattle.numbering.proofs.Numbering.{place-none, number-member, number-placed, number-at}
+use Rattle.save.proofs.SavedImage.{image-registers, image-cells, image-register, image-cell}
 
-module _ (R n : ℕ) (w : List ℕ) (m : ℕ) (few : reachedCount R n w ≤ m) where
+module _ (R n : ℕ) (w : List ℕ) (m : ℕ) (few : reachedCount R n w ≤ m) (words : List ℕ) (exact : length words ≡ poolLength R m) where
   abbrev order : List ℕ
   order = reachedCells R n w
 
   -- The loaded words.
   abbrev pub loaded : List ℕ
-  loaded = loadedWords R m (length order) (savedFields R w order)
+  loaded = loadedWords R m (savedImage R w order) words
+
+  room : length (savedImage R w order .cells) ≤ m
+  room = omega (arith, image-cells R w order)
+
+  loaded-field : (p f : ℕ) → p < length order → f < 3 → cell R loaded (suc p) (suc f) ≡ imageField (savedCell R w order (getD order p 0)) f
+  loaded-field p f below hf =
+      loaded-cell R m (savedImage R w order) room (image-registers R w order) words exact p f (omega (arith, image-cells R w order)) hf
+      ∙ ap (λ (c : ImageCell). imageField c f) (image-cell R w order p below)
 
   pub renumbered-register : (k : ℕ) → k < R → register loaded k ≡ numberIn order (register w k)
   renumbered-register k low =
-      loaded-register R m (length order) (savedFields R w order) few k low ∙ (saved-at R w order k (omega arith) ∙ field-register R w order k low)
+      loaded-register R m (savedImage R w order) room (image-registers R w order) words exact k low ∙ image-register R w order k low
 
   pub renumbered-link : (p f : ℕ) → p < length order → f < 2
       → cell R loaded (suc p) (suc f) ≡ numberIn order (cell R w (getD order p 0) (suc f))
-  renumbered-link p f below hf =
-      loaded-cell R m (length order) (savedFields R w order) few p f below (omega arith)
-      ∙ (saved-at R w order (R + 3 * p + f) (omega arith) ∙ field-link R w order p f hf)
+  renumbered-link p zero below hf = loaded-field p 0 below (omega arith)
+  renumbered-link p (suc zero) below hf = loaded-field p 1 below (omega arith)
+  renumbered-link p (suc (suc f)) below hf = absurd (omega arith)
 
   pub renumbered-value : (p : ℕ) → p < length order → value R loaded (suc p) ≡ value R w (getD order p 0)
-  renumbered-value p below =
-      loaded-cell R m (length order) (savedFields R w order) few p 2 below (omega arith)
-      ∙ (saved-at R w order (R + 3 * p + 2) (omega arith) ∙ field-value R w order p)
+  renumbered-value p below = loaded-field p 2 below (omega arith)
 
-  pub fields-allowed : (j : ℕ) → j < fieldCount R (length order) → Allowed R (length order) j (getD (savedFields R w order) j 0)
-  fields-allowed j below = rw (saved-at R w order j below) (saved-allowed R w order j (field R (length order) j below))
-
-  module _ (well : WellFormed R n w) where
+  module _ (well : WellFormed R n w) (links : LinksWithin (savedImage R w order)) where
     loaded-well : WellFormed R m loaded
-    loaded-well = loaded-well-formed R m (length order) (savedFields R w order) few fields-allowed
+    loaded-well = loaded-well-formed R m (savedImage R w order) room (image-registers R w order) words exact links
 
     reached-member : (x : ℕ) → Reach (graphOf R w) (rootsOf R w) x → List·Memᴰ x order
     reached-member x = preorder-reached n (graphOf R w) (rootsOf R w) (pool-within well) x .1

@@ -1,138 +1,164 @@
 -- The proofs of the statements in `specs/RoundTrip`.
-use Prim.Native.Nat.{ℕ, zero, suc, _+_, _*_, _<_, _≤_, _^_}
+use Prim.Native.Nat.{ℕ, zero, suc, _+_, _*_, _<_, _≤_}
 use native.Mathlib.Omega.{arith}
 use mathlib.Core.Path.{_≡_, refl, sym, ap, _∙_}
-use mathlib.Core.List.{List, [], _∷_, _++_}
+use mathlib.Core.List.{List, [], _++_}
 use mathlib.Core.Bool.{Bool, true, false}
 use lib.ListN.{length, getD, drop}
 use lib.Dec.{leb, ltb}
-use lib.Seq.{drop-append-seam}
+use lib.Seq.{drop-append-seam, ext-getD}
 use borrow.Author.Tests.{lt-ltb, le-leb, ltb-true, leb-true}
 use Rattle.graph.specs.Theorems.{Distinct}
 use Rattle.graph.proofs.Theorems.{preorder-distinct, preorder-length}
-use Rattle.leb128.specs.Leb128.{encode}
 use Rattle.pool.specs.Words.{tabulate}
-use Rattle.pool.specs.Layout.{registerCount, cellLimit, cellCountOfLength, cellCount, cell, graphOf, rootsOf}
+use Rattle.pool.specs.Layout.{registerCount, cellLimit, poolLength, cellCountOfLength, cellCount, cell, graphOf, rootsOf}
 use Rattle.questions.specs.Validity.{wellFormed}
+use Rattle.pool.specs.Retain.{freeCells}
 use Rattle.answers.specs.Outcome.{Outcome, answered, status, given}
-use Rattle.pool.proofs.Every.{length-tabulate, getD-tabulate, tabulate-list, tabulate-member}
-use Rattle.pool.proofs.Sizes.{length-sized, cells-sized}
+use Rattle.pool.proofs.Every.{length-tabulate, getD-tabulate, tabulate-member}
+use Rattle.pool.proofs.Sizes.{Sized, length-sized, cells-sized}
 use Rattle.questions.proofs.WellFormed.{WellFormed, well-formed-read, well-formed-made}
 use Rattle.questions.proofs.PoolGraph.{pool-within}
 use Rattle.reversal.specs.Reached.{reachedCells, reachedCount}
-use Rattle.image.specs.declared.Loaded.{Loaded}
-use Rattle.image.specs.Image.{numberIn, fieldCount, savedField, encodeAll, imageOf, Image, readImage}
-use Rattle.image.specs.Load.{scanOf, loadedWords, loadOf}
-use Rattle.image.proofs.Scanning.{image-whole}
-use Rattle.image.proofs.Accepted.{whole-allowed}
+use Rattle.image.specs.Image.{numberIn, Image, savedCell, savedImage, imageBytes, imageOf, parsed, readImage}
+use Rattle.image.proofs.Reading.{each-at}
+use Rattle.image.proofs.Images as images
+use Rattle.image.proofs.Decoding.{Encodable, encodable-links, image-encoded}
+use Rattle.load.specs.declared.Loaded.{Loaded}
+use Rattle.load.specs.Load.{loadedWords, loadOf}
+use Rattle.load.proofs.Putting.{noCell}
+use Rattle.load.proofs.LoadedPool.{loaded-register, loaded-cell, loaded-cells, loaded-free, loaded-well-formed}
 use Rattle.save.specs.Save.{saveImage}
 use Rattle.save.specs.RoundTrip.{Words, Renumbered, Restored, SaveThenLoad, LoadThenSave}
-use Rattle.save.proofs.Numbering.{place-none, number-at}
-use Rattle.image.proofs.Decoding.{Allowed, image-encoded}
-use Rattle.image.proofs.LoadedPool.{loaded-register, loaded-cell, loaded-cells, loaded-free, loaded-well-formed, register-most, link-most}
-use Rattle.save.proofs.SavedFields.{Field, field, field-register, field-value, field-link, savedFields, saved-length, saved-at, saved-small}
+use Rattle.numbering.proofs.Numbering.{place-none, number-at}
+use Rattle.save.proofs.SavedImage.{image-registers, image-cells, image-register, image-cell, image-encodable}
 use Rattle.save.proofs.Renumbering as renumbering
 
--- Save of loaded words whose cells are visited as 1, 2, .. writes the numbers that were loaded.
-module _ (R m K : ℕ) (vs : List ℕ) (few : K ≤ m) (size : length vs ≡ fieldCount R K)
-    (allowed : (j : ℕ) → j < fieldCount R K → Allowed R K j (getD vs j 0))
-    (visited : reachedCells R m (loadedWords R m K vs) ≡ tabulate K suc) where
-  abbrev pool : List ℕ
-  pool = loadedWords R m K vs
+-- Save of loaded words whose cells are visited as 1, 2, .. makes the image that was loaded.
+module _ (R m : ℕ) (i : Image) (few : length (i .cells) ≤ m) (all : length (i .registers) ≡ R) (links : images.LinksWithin i) (words : List ℕ)
+    (exact : length words ≡ poolLength R m) (visited : reachedCells R m (loadedWords R m i words) ≡ tabulate (length (i .cells)) suc) where
+  abbrev K : ℕ
+  K = length (i .cells)
 
-  counted : Distinct (tabulate K suc)
+  abbrev pool : List ℕ
+  pool = loadedWords R m i words
+
+  abbrev order : List ℕ
+  order = tabulate K suc
+
+  counted : Distinct order
   counted =
-      rw visited at (preorder-distinct m (graphOf R pool) (rootsOf R pool) (pool-within (loaded-well-formed R m K vs few allowed)))
+      rw visited at (preorder-distinct m (graphOf R pool) (rootsOf R pool) (pool-within (loaded-well-formed R m i few all words exact links)))
 
   -- Each cell's number is its own.
-  own-number : (x : ℕ) → x ≤ K → numberIn (tabulate K suc) x ≡ x
-  own-number zero h = place-none 1 (tabulate K suc) 0 (λ mem. omega (arith, tabulate-member K suc 0 mem .2))
-  own-number (suc i) h =
-      sym (ap (numberIn (tabulate K suc)) (getD-tabulate K suc i 0 h)) ∙ number-at counted i (omega (arith, length-tabulate K suc))
+  own-number : (x : ℕ) → x ≤ K → numberIn order x ≡ x
+  own-number zero h = place-none 1 order 0 (λ mem. omega (arith, tabulate-member K suc 0 mem .2))
+  own-number (suc p) h = sym (ap (numberIn order) (getD-tabulate K suc p 0 h)) ∙ number-at counted p (omega (arith, length-tabulate K suc))
 
-  cell-at : (p f : ℕ) → p < K → f < 3 → cell R pool (getD (tabulate K suc) p 0) (suc f) ≡ getD vs (R + 3 * p + f) 0
-  cell-at p f below hf = ap (λ (x : ℕ). cell R pool x (suc f)) (getD-tabulate K suc p 0 below) ∙ loaded-cell R m K vs few p f below hf
+  same-registers : savedImage R pool order .registers ≡ i .registers
+  same-registers =
+      ext-getD 0 (savedImage R pool order .registers) (i .registers) (image-registers R pool order ∙ sym all) λ k below.
+      let low : k < R = omega (arith, image-registers R pool order) in
+      let here = loaded-register R m i few all words exact k low in
+      image-register R pool order k low ∙ (ap (numberIn order) here ∙ own-number _ (each-at (links .registers) k 0 (omega arith)))
 
-  number-same : (j : ℕ) → Field R K j → getD vs j 0 ≡ savedField R pool (tabulate K suc) j
-  number-same j (Field.of-register k low) =
-      sym (field-register R pool (tabulate K suc) k low
-      ∙ (ap (numberIn (tabulate K suc)) (loaded-register R m K vs few k low) ∙ own-number _ (register-most R m K vs few allowed k low)))
-  number-same j (Field.of-value p below) = sym (field-value R pool (tabulate K suc) p ∙ cell-at p 2 below (omega arith))
-  number-same j (Field.of-link p f below hf) =
-      sym (field-link R pool (tabulate K suc) p f hf
-      ∙ (ap (numberIn (tabulate K suc)) (cell-at p f below (omega arith)) ∙ own-number _ (link-most R m K vs few allowed p f below hf)))
+  same-cell : (p : ℕ) → p < K → savedCell R pool order (suc p) ≡ getD (i .cells) p noCell
+  same-cell p below =
+      let c = each-at (links .cells) p noCell below in
+      let field = loaded-cell R m i few all words exact p in
+      let l : numberIn order (cell R pool (suc p) 1) ≡ getD (i .cells) p noCell .left =
+      ap (numberIn order) (field 0 below (omega arith)) ∙ own-number _ (c .left-most) in
+      let r : numberIn order (cell R pool (suc p) 2) ≡ getD (i .cells) p noCell .right =
+      ap (numberIn order) (field 1 below (omega arith)) ∙ own-number _ (c .right-most) in
+      let v : cell R pool (suc p) 3 ≡ getD (i .cells) p noCell .value = field 2 below (omega arith) in
+      λ j. record { left = l j; right = r j; value = v j }
 
-  pub saved-again : imageOf R m pool ≡ encodeAll (K ∷ vs)
+  same-cells : savedImage R pool order .cells ≡ i .cells
+  same-cells =
+      let long : length (savedImage R pool order .cells) ≡ K = image-cells R pool order ∙ length-tabulate K suc in
+      ext-getD noCell (savedImage R pool order .cells) (i .cells) long λ p below.
+      let low : p < K = omega arith in
+      image-cell R pool order p (omega (arith, length-tabulate K suc))
+      ∙ (ap (savedCell R pool order) (getD-tabulate K suc p 0 low) ∙ same-cell p low)
+
+  pub saved-again : imageOf R m pool ≡ imageBytes i
   saved-again =
-      let long : length (tabulate K suc) ≡ K = length-tabulate K suc in
-      let same : tabulate (fieldCount R K) (savedField R pool (tabulate K suc)) ≡ vs =
-      sym (tabulate-list (fieldCount R K) (savedField R pool (tabulate K suc)) vs size (λ j below. number-same j (field R K j below))) in
-      rw (visited, long) (ap (λ (l : List ℕ). encodeAll (K ∷ l)) same)
+      let same : savedImage R pool order ≡ i = λ j. record { registers = same-registers j; cells = same-cells j } in
+      ap (λ (l : List ℕ). imageBytes (savedImage R pool l)) visited ∙ ap imageBytes same
 
 pub load-then-save : LoadThenSave
-load-then-save m bytes K start vs end some most e visited s out long =
-    let i = image-whole registerCount m bytes K start end (ap scanOf e) in
-    let same : i .numbers ≡ vs = cc in
-    let few = i .few in
-    let allowed : (j : ℕ) → j < fieldCount registerCount K → Allowed registerCount K j (getD vs j 0) = λ j below. rw same at (whole-allowed i j below) in
-    let cells = loaded-cells registerCount m K vs few some most in
-    let whole = well-formed-made registerCount m _ (loaded-well-formed registerCount m K vs few allowed) in
+load-then-save words bytes i end some e visited s out long =
+    let m = cellCountOfLength registerCount (length words) in
+    let sized = length-sized registerCount (length words) some in
+    let read = images.image-read registerCount m bytes i end e in
+    let few = images.image-few registerCount m bytes i end read in
+    let all = images.image-registers registerCount m bytes i end read in
+    let links = images.image-links registerCount m bytes i end read in
+    let cells = loaded-cells registerCount m i few all words (sized .exact) (sized .least) (sized .most) in
+    let whole = well-formed-made registerCount m _ (loaded-well-formed registerCount m i few all words (sized .exact) links) in
     rw (cells, lt-ltb 0 m some, le-leb (2 * m) (length s) long, whole)
-    (ap (λ (x : List ℕ). saveImage x s out) (saved-again registerCount m K vs few (ap length (sym same) ∙ i .size) allowed visited))
+    (ap (λ (x : List ℕ). saveImage x s out) (saved-again registerCount m i few all links words (sized .exact) visited))
 
--- The image of the pool w of n cells, loaded into a pool of m cells.
-module _ (n : ℕ) (w : List ℕ) (m : ℕ) (few : reachedCount registerCount n w ≤ m) (most : n ≤ cellLimit) (well : WellFormed registerCount n w)
+-- The image of the pool w of n cells, loaded into words of a pool.
+module _ (n : ℕ) (w words : List ℕ) (some : 0 < cellCountOfLength registerCount (length words))
+    (few : reachedCount registerCount n w ≤ cellCountOfLength registerCount (length words)) (most : n ≤ cellLimit) (well : WellFormed registerCount n w)
     (word : Words w) where
-  abbrev K : ℕ
-  K = reachedCount registerCount n w
+  abbrev m : ℕ
+  m = cellCountOfLength registerCount (length words)
 
-  abbrev fields : List ℕ
-  fields = savedFields registerCount w (reachedCells registerCount n w)
+  abbrev image : Image
+  image = savedImage registerCount w (reachedCells registerCount n w)
 
-  small : K < 2 ^ 32
-  small = omega (arith, preorder-length n (graphOf registerCount w) (rootsOf registerCount w) (pool-within well))
+  sized : Sized registerCount (length words) m
+  sized = length-sized registerCount (length words) some
 
-  size : length fields ≡ fieldCount registerCount K
-  size = saved-length registerCount w (reachedCells registerCount n w)
+  all : length (image .registers) ≡ registerCount
+  all = image-registers registerCount w (reachedCells registerCount n w)
 
-  image-read : (behind : List ℕ)
-      → readImage registerCount m (imageOf registerCount n w ++ behind) ≡ Image.image K (length (encode K)) fields (length (imageOf registerCount n w))
-  image-read behind =
-      image-encoded registerCount m K fields behind few small size
-      (λ j below.
-      let within : j < fieldCount registerCount K = rw size at below in
-      rw (saved-at registerCount w (reachedCells registerCount n w) j within)
-      (saved-small registerCount w (reachedCells registerCount n w) word small j (field registerCount K j within)))
-      (λ j below. renumbering.fields-allowed registerCount n w m few j (rw size at below))
+  room : length (image .cells) ≤ m
+  room = omega (arith, image-cells registerCount w (reachedCells registerCount n w))
 
-  renumbered : Renumbered n w m (loadedWords registerCount m K fields)
+  encodable : Encodable image
+  encodable =
+      image-encodable registerCount w (reachedCells registerCount n w) word
+      (omega (arith, preorder-length n (graphOf registerCount w) (rootsOf registerCount w) (pool-within well)))
+
+  image-read : (behind : List ℕ) → readImage registerCount m (imageOf registerCount n w ++ behind) ≡ parsed image (length (imageOf registerCount n w))
+  image-read behind = image-encoded registerCount m image behind room all encodable
+
+  renumbered : Renumbered n w m (loadedWords registerCount m image words)
   renumbered =
       record {
-        registers = renumbering.renumbered-register registerCount n w m few;
-        lefts = λ i below. renumbering.renumbered-link registerCount n w m few i 0 below (omega arith);
-        rights = λ i below. renumbering.renumbered-link registerCount n w m few i 1 below (omega arith);
-        values = renumbering.renumbered-value registerCount n w m few;
-        order = renumbering.renumbered-order registerCount n w m few well;
+        registers = renumbering.renumbered-register registerCount n w m few words (sized .exact);
+        lefts = λ i below. renumbering.renumbered-link registerCount n w m few words (sized .exact) i 0 below (omega arith);
+        rights = λ i below. renumbering.renumbered-link registerCount n w m few words (sized .exact) i 1 below (omega arith);
+        values = renumbering.renumbered-value registerCount n w m few words (sized .exact);
+        order = renumbering.renumbered-order registerCount n w m few words (sized .exact) well (encodable-links encodable);
       }
 
-  restored : (out : List ℕ) → length (imageOf registerCount n w) ≤ length out → 1 ≤ m → m ≤ cellLimit → (loaded : Loaded × List ℕ)
-      → loaded ≡ (record { verdict = 0; end = length (imageOf registerCount n w) }, loadedWords registerCount m K fields)
+  restored : (out : List ℕ) → length (imageOf registerCount n w) ≤ length out → (loaded : Loaded × List ℕ)
+      → loaded ≡ (record { verdict = 0; end = length (imageOf registerCount n w) }, loadedWords registerCount m image words)
       → let bytes = imageOf registerCount n w ++ drop (length (imageOf registerCount n w)) out in
       Restored n w out (length (imageOf registerCount n w)) bytes m (loaded .0 .verdict) (drop (loaded .0 .end) bytes) (loaded .1)
-  restored out fits low high loaded is =
-      let allowed = renumbering.fields-allowed registerCount n w m few in
+  restored out fits loaded is =
+      let number = image-cells registerCount w (reachedCells registerCount n w) in
+      let visited : reachedCells registerCount m (loadedWords registerCount m image words) ≡ tabulate (length (image .cells)) suc =
+      renumbered .order ∙ ap (λ (k : ℕ). tabulate k suc) (sym number) in
       rw is
       (record {
         accepted = refl;
         part = drop-append-seam (imageOf registerCount n w) (drop (length (imageOf registerCount n w)) out);
-        cells = loaded-cells registerCount m K fields few low high;
-        well-formed = well-formed-made registerCount m _ (loaded-well-formed registerCount m K fields few allowed);
+        cells = loaded-cells registerCount m image room all words (sized .exact) (sized .least) (sized .most);
+        well-formed =
+            well-formed-made registerCount m _
+            (loaded-well-formed registerCount m image room all words (sized .exact) (encodable-links encodable));
         renumbered = renumbered;
-        kept = ap length (renumbered .order) ∙ length-tabulate K suc;
-        free = loaded-free registerCount m K fields few low;
+        kept = ap length (renumbered .order) ∙ length-tabulate (reachedCount registerCount n w) suc;
+        free =
+            loaded-free registerCount m image room all words (sized .exact) (sized .least) ∙ ap (λ (k : ℕ). freeCells (λ i. leb i k) m 1) number;
         again =
             λ s long.
-            load-then-save m (imageOf registerCount n w ++ []) K _ fields _ low high (image-read []) (renumbered .order) s out long
+            load-then-save words (imageOf registerCount n w ++ []) image _ some (image-read []) visited s out long
             ∙ rw (le-leb (length (imageOf registerCount n w)) (length out) fits);
       })
 
@@ -158,7 +184,7 @@ save-then-load w scratch out size cleared bytes words word saved target few =
     let written : bytes ≡ image ++ drop (length image) out = sym (ap (λ (x : Outcome × List ℕ × List ℕ). x .2) made) in
     let well = well-formed-read registerCount n w whole in
     let most = cells-sized registerCount w (ltb-true 0 n some) .0 .most in
-    let sized = length-sized registerCount (length words) target in
     rw (long, written)
-    (restored n w m few most well word out (leb-true (length image) (length out) room) (sized .least) (sized .most)
-    (loadOf words (image ++ drop (length image) out)) (simp (lt-ltb 0 m target, image-read n w m few most well word (drop (length image) out))))
+    (restored n w words target few most well word out (leb-true (length image) (length out) room)
+    (loadOf words (image ++ drop (length image) out))
+    (simp (lt-ltb 0 m target, image-read n w words target few most well word (drop (length image) out))))

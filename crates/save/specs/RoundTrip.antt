@@ -6,13 +6,13 @@ use mathlib.Core.Bool.{true}
 use lib.ListN.{length, getD, drop, replicate}
 use lib.Dec.{leb}
 use Rattle.pool.specs.Words.{tabulate}
-use Rattle.pool.specs.Layout.{registerCount, cellLimit, cellCountOfLength, cellCount, register, left, right, value}
+use Rattle.pool.specs.Layout.{registerCount, cellCountOfLength, cellCount, register, left, right, value}
 use Rattle.questions.specs.Validity.{wellFormed}
 use Rattle.pool.specs.Retain.{freeList, freeCells}
 use Rattle.answers.specs.Outcome.{answered}
 use Rattle.reversal.specs.Reached.{reachedCells, reachedCount}
-use Rattle.image.specs.Image.{numberIn, encodeAll, Image, readImage}
-use Rattle.image.specs.Load.{loadedWords, loadOf}
+use Rattle.image.specs.Image.{numberIn, Image, imageBytes, parsed, readImage}
+use Rattle.load.specs.Load.{loadedWords, loadOf}
 use Rattle.save.specs.Save.{saveImage, saveOf}
 
 -- Every element of the list is a 32-bit word.
@@ -62,8 +62,9 @@ SaveThenLoad =
 -- Load, then save: of an image whose cells are numbered in the order of the visits, save of the loaded words writes the same numbers.
 abbrev pub LoadThenSave : Type 0
 LoadThenSave =
-    (m : ℕ) (bytes : List ℕ) (K start : ℕ) (vs : List ℕ) (end : ℕ) → 0 < m → m ≤ cellLimit
-    → readImage registerCount m bytes ≡ Image.image K start vs end
-    → let v = loadedWords registerCount m K vs in
-    reachedCells registerCount m v ≡ tabulate K suc
-    → (s out : List ℕ) → 2 * m ≤ length s → saveOf v s out ≡ saveImage (encodeAll (K ∷ vs)) s out
+    (words bytes : List ℕ) (i : Image) (end : ℕ)
+    → let m = cellCountOfLength registerCount (length words) in
+    0 < m → readImage registerCount m bytes ≡ parsed i end
+    → let v = loadedWords registerCount m i words in
+    reachedCells registerCount m v ≡ tabulate (length (i .cells)) suc
+    → (s out : List ℕ) → 2 * m ≤ length s → saveOf v s out ≡ saveImage (imageBytes i) s out

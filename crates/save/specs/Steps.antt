@@ -1,48 +1,26 @@
--- The steps of save: what the scratch holds between them. The first n words hold each cell's number, the next n the cell of each number.
-use Prim.Native.Nat.{ℕ, _+_, _-_, _*_, _<_, _≤_}
+-- The steps of save: the number of a link in the scratch, the parts of an image's bytes, and bytes that are written.
+use Prim.Native.Nat.{ℕ, _+_, _-_}
 use mathlib.Core.Path.{_≡_}
-use mathlib.Core.List.{List}
-use mathlib.Core.Bool.{Bool, true, cond, not, _&&_}
-use lib.ListN.{length, getD, replicate}
+use mathlib.Core.List.{List, _++_, map, flatMap}
+use mathlib.Core.Bool.{cond}
+use lib.ListN.{length, getD, take, drop}
 use lib.Dec.{eqb}
-use Rattle.pool.specs.Layout.{cellLimit, poolLength}
-use Rattle.questions.specs.Validity.{wellFormed}
-use Rattle.reversal.specs.Reached.{reachedCells, reachedCount}
-use Rattle.image.specs.Image.{numberIn}
+use Rattle.leb128.specs.Leb128.{encode}
+use Rattle.pool.specs.Layout.{rootsOf}
+use Rattle.reversal.specs.Reached.{reachedCells}
+use Rattle.image.specs.Image.{numberIn, savedCell, cellBytes}
 
--- A well-formed pool of n cells, with scratch of s words.
-pub record Savable (R n : ℕ) (w : List ℕ) (s : ℕ) : Type 0 where
-  pub most : n ≤ cellLimit
-  pub room : poolLength R n ≤ length w
-  pub scratch : 2 * n ≤ s
-  pub well-formed : wellFormed R n w ≡ true
-
--- The number of the link x, which is nil's or that of a cell; and whether it is a cell without one.
+-- The number of the link x, nil's or that of a cell.
 abbrev pub numberAt : List ℕ → ℕ → ℕ
 numberAt s x = cond (eqb x 0) 0 (getD s (x - 1) 0)
 
-abbrev pub isNew : List ℕ → ℕ → Bool
-isNew s x = not (eqb x 0) && eqb (getD s (x - 1) 0) 0
+-- The bytes of the registers from register j on, and those of the reached cells from place p of the order on.
+abbrev pub registerBytes : ℕ → ℕ → List ℕ → ℕ → List ℕ
+registerBytes R n w j = flatMap encode (map (numberIn (reachedCells R n w)) (drop j (rootsOf R w)))
 
--- No word is set.
-abbrev pub Clear : List ℕ → Type 0
-Clear s = s ≡ replicate (length s) 0
+abbrev pub orderBytes : ℕ → ℕ → List ℕ → ℕ → List ℕ
+orderBytes R n w p = flatMap cellBytes (map (savedCell R w (reachedCells R n w)) (drop p (reachedCells R n w)))
 
--- The scratch holds the number of each cell, 0 where a cell is not reached.
-abbrev pub Numbered : ℕ → ℕ → List ℕ → List ℕ → Type 0
-Numbered R n w s = (x : ℕ) → 0 < x → x ≤ n → getD s (x - 1) 0 ≡ numberIn (reachedCells R n w) x
-
--- No word of the first n is above n.
-abbrev pub NumbersWithin : ℕ → List ℕ → Type 0
-NumbersWithin n s = (x : ℕ) → x < n → getD s x 0 ≤ n
-
--- From the scratch s to t, the cell of each number is put behind the numbers: of a number that only one cell has.
-pub record Listed (n : ℕ) (s t : List ℕ) : Type 0 where
-  pub numbers : (x : ℕ) → x < n → getD t x 0 ≡ getD s x 0
-  pub cells : (x : ℕ) → x < n → 0 < getD s x 0 → ((y : ℕ) → y < n → getD s y 0 ≡ getD s x 0 → y ≡ x)
-      → getD t (n + (getD s x 0 - 1)) 0 ≡ x + 1
-
--- The scratch holds the number of each cell and, behind them, the order.
-pub record Ordered (R n : ℕ) (w s : List ℕ) : Type 0 where
-  pub numbers : Numbered R n w s
-  pub cells : (p : ℕ) → p < reachedCount R n w → getD s (n + p) 0 ≡ getD (reachedCells R n w) p 0
+-- From the output out to after, these bytes were written at a place, and `next` is the place behind them.
+abbrev pub Put : (bytes out : List ℕ) (at next : ℕ) (after : List ℕ) → Type 0
+Put bytes out at next after = (next ≡ at + length bytes) × (after ≡ take at out ++ bytes ++ drop (at + length bytes) out)

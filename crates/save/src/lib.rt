@@ -1,83 +1,26 @@
 // The image of a pool, written to lent bytes.
 use answers::Refusal;
+use image::ImageCell;
 use leb128::Written;
 use pool::Pool;
 use questions::Admitted;
 ghost use mathlib.Core.Path.{_≡_};
 ghost use mathlib.Core.List.{_++_};
 ghost use Prim.Native.Nat.{_+_, _*_, _<_, _≤_};
-ghost use lib.ListN.{length, take, drop};
+ghost use lib.ListN.{length, getD, drop};
 ghost use Rattle.leb128.specs.Leb128.{encode};
-ghost use Rattle.pool.specs.Layout.{registerCount, cellLimit, poolLength};
+ghost use Rattle.pool.specs.Layout.{registerCount, cellLimit, poolLength, rootsOf};
 ghost use Rattle.reversal.specs.Reached.{reachedCells, reachedCount};
-ghost use Rattle.image.specs.Image.{savedField, imageOf};
+ghost use Rattle.image.specs.Image.{numberIn, savedCell, cellBytes, imageOf};
 ghost use Rattle.save.specs.Save.{savedOutcome, saveImage, saveIn, saveOf};
-ghost use Rattle.save.specs.Steps.{numberAt, isNew, Savable, Clear, Numbered, NumbersWithin, Listed, Ordered};
+ghost use Rattle.numbering.specs.Steps.{Savable, Ordered};
+ghost use Rattle.save.specs.Steps.{numberAt, registerBytes, orderBytes, Put};
 
 // What `save` answers.
 pub enum Saved {
     // So many bytes were written.
     Bytes(usize),
     Refused(Refusal),
-}
-
-// Is the link a cell that has no number yet?
-fn unnumbered(scratch: &[u32], x: u32) -> bool
-    requires { ⌜ x ≤ length (now scratch) ⌝ }
-    ensures { λ r. ⌜ r ≡ isNew (now (scratch .entry)) x ⌝ }
-{
-    if x == 0 {
-        return false;
-    }
-    scratch[x as usize - 1] == 0
-}
-
-// Numbers the cells that the registers reach, in depth-first preorder, left before right. The words behind the numbers are a stack of right
-// links. Gives the number of cells.
-fn number_cells(words: &[u32], scratch: &mut [u32], n: u32) -> u32
-    requires { ⌜ Savable registerCount n (now words) (length (now scratch)) × Clear (now scratch) ⌝ }
-    ensures { λ r. ⌜ (r ≡ reachedCount registerCount n (now (words .entry))) × Numbered registerCount n (now (words .entry)) (now (scratch .exit)) ⌝ }
-{
-    let base = n as usize;
-    let mut hand = 0;
-    let mut depth = 0;
-    let mut count = 0;
-    let mut root = 0;
-    loop {
-        if unnumbered(scratch, hand) {
-            count += 1;
-            scratch[hand as usize - 1] = count;
-            scratch[base + depth] = pool::read_cell(words, hand, Pool::RIGHT);
-            depth += 1;
-            hand = pool::read_cell(words, hand, Pool::LEFT);
-        } else if 0 < depth {
-            depth -= 1;
-            hand = scratch[base + depth];
-        } else if root < Pool::REGISTERS {
-            hand = pool::read_register(words, root);
-            root += 1;
-        } else {
-            return count;
-        }
-    }
-}
-
-// Puts the cell of each number behind the numbers.
-fn list_cells(scratch: &mut [u32], n: u32)
-    requires { ⌜ (2 * n ≤ length (now scratch)) × NumbersWithin n (now scratch) ⌝ }
-    ensures { λ _. ⌜ Listed n (now (scratch .entry)) (now (scratch .exit)) ⌝ }
-{
-    let base = n as usize;
-    let mut i = n;
-    while 0 < i {
-        let number = scratch[i as usize - 1];
-        if number == 0 {
-            i -= 1;
-        } else {
-            scratch[base + (number as usize - 1)] = i;
-            i -= 1;
-        }
-    }
 }
 
 // The number of a link.
@@ -91,16 +34,62 @@ fn link_number(scratch: &[u32], x: u32) -> u32
     scratch[x as usize - 1]
 }
 
-// Number f of the three of the image's cell p, from 0: its left link, its right link, its value.
-fn cell_number(words: &[u32], scratch: &[u32], n: u32, p: u32, f: usize) -> u32
-    requires { ⌜ Savable registerCount n (now words) (length (now scratch)) × Ordered registerCount n (now words) (now scratch) × (p < reachedCount registerCount n (now words)) × (f < 3) ⌝ }
-    ensures { λ r. ⌜ r ≡ savedField registerCount (now (words .entry)) (reachedCells registerCount n (now (words .entry))) (registerCount + 3 * p + f) ⌝ }
+// What an image holds for register j.
+fn saved_register(words: &[u32], scratch: &[u32], n: u32, j: u32) -> u32
+    requires { ⌜ Savable registerCount n (now words) (length (now scratch)) × Ordered registerCount n (now words) (now scratch) × (j < registerCount) ⌝ }
+    ensures { λ r. ⌜ r ≡ numberIn (reachedCells registerCount n (now (words .entry))) (getD (rootsOf registerCount (now (words .entry))) j 0) ⌝ }
+{
+    link_number(scratch, pool::read_register(words, j))
+}
+
+// What an image holds for the p-th cell of the order.
+fn saved_cell(words: &[u32], scratch: &[u32], n: u32, p: u32) -> ImageCell
+    requires { ⌜ Savable registerCount n (now words) (length (now scratch)) × Ordered registerCount n (now words) (now scratch) × (p < reachedCount registerCount n (now words)) ⌝ }
+    ensures { λ r. ⌜ r ≡ savedCell registerCount (now (words .entry)) (reachedCells registerCount n (now (words .entry))) (getD (reachedCells registerCount n (now (words .entry))) p 0) ⌝ }
 {
     let cell = scratch[n as usize + p as usize];
-    if f == 2 {
-        return pool::read_cell(words, cell, Pool::VALUE);
+    let left = link_number(scratch, pool::read_cell(words, cell, Pool::LEFT));
+    let right = link_number(scratch, pool::read_cell(words, cell, Pool::RIGHT));
+    let value = pool::read_cell(words, cell, Pool::VALUE);
+    ImageCell { left, right, value }
+}
+
+// The number of bytes of a cell.
+fn cell_size(cell: ImageCell) -> usize
+    ensures { λ r. ⌜ r ≡ length (cellBytes cell) ⌝ }
+{
+    let left = cell.left;
+    let right = cell.right;
+    let value = cell.value;
+    leb128::number_size(left) + leb128::number_size(right) + leb128::number_size(value)
+}
+
+// The number of bytes of the registers.
+fn registers_size(words: &[u32], scratch: &[u32], n: u32) -> usize
+    requires { ⌜ Savable registerCount n (now words) (length (now scratch)) × Ordered registerCount n (now words) (now scratch) ⌝ }
+    ensures { λ r. ⌜ r ≡ length (registerBytes registerCount n (now (words .entry)) 0) ⌝ }
+{
+    let mut size = 0;
+    let mut j = 0;
+    while j < Pool::REGISTERS {
+        size += leb128::number_size(saved_register(words, scratch, n, j));
+        j += 1;
     }
-    link_number(scratch, pool::read_cell(words, cell, f + 1))
+    size
+}
+
+// The number of bytes of the k cells.
+fn cells_size(words: &[u32], scratch: &[u32], n: u32, k: u32) -> usize
+    requires { ⌜ Savable registerCount n (now words) (length (now scratch)) × Ordered registerCount n (now words) (now scratch) × (k ≡ reachedCount registerCount n (now words)) ⌝ }
+    ensures { λ r. ⌜ r ≡ length (orderBytes registerCount n (now (words .entry)) 0) ⌝ }
+{
+    let mut size = 0;
+    let mut p = 0;
+    while p < k {
+        size += cell_size(saved_cell(words, scratch, n, p));
+        p += 1;
+    }
+    size
 }
 
 // The number of bytes of the image of k cells.
@@ -108,28 +97,13 @@ fn image_size(words: &[u32], scratch: &[u32], n: u32, k: u32) -> usize
     requires { ⌜ Savable registerCount n (now words) (length (now scratch)) × Ordered registerCount n (now words) (now scratch) × (k ≡ reachedCount registerCount n (now words)) ⌝ }
     ensures { λ r. ⌜ r ≡ length (imageOf registerCount n (now (words .entry))) ⌝ }
 {
-    let mut size = leb128::number_size(k);
-    let mut j = 0;
-    while j < Pool::REGISTERS {
-        size += leb128::number_size(link_number(scratch, pool::read_register(words, j)));
-        j += 1;
-    }
-    let mut p = 0;
-    while p < k {
-        let mut f = 0;
-        while f < 3 {
-            size += leb128::number_size(cell_number(words, scratch, n, p, f));
-            f += 1;
-        }
-        p += 1;
-    }
-    size
+    leb128::number_size(k) + registers_size(words, scratch, n) + cells_size(words, scratch, n, k)
 }
 
 // Writes a number where there is room for it. Gives the place behind it.
 fn put_number(out: &mut [u8], at: usize, v: u32) -> usize
     requires { ⌜ at + length (encode v) ≤ length (now out) ⌝ }
-    ensures { λ r. ⌜ (r ≡ at + length (encode v)) × (now (out .exit) ≡ take at (now (out .entry)) ++ encode v ++ drop (at + length (encode v)) (now (out .entry))) ⌝ }
+    ensures { λ r. ⌜ Put (encode v) (now (out .entry)) at r (now (out .exit)) ⌝ }
 {
     match leb128::write_number(out, at, v) {
         Written::Next(next) => next,
@@ -137,37 +111,62 @@ fn put_number(out: &mut [u8], at: usize, v: u32) -> usize
     }
 }
 
+// Writes a cell where there is room for it. Gives the place behind it.
+fn put_cell(out: &mut [u8], at: usize, cell: ImageCell) -> usize
+    requires { ⌜ at + length (cellBytes cell) ≤ length (now out) ⌝ }
+    ensures { λ r. ⌜ Put (cellBytes cell) (now (out .entry)) at r (now (out .exit)) ⌝ }
+{
+    let left = cell.left;
+    let right = cell.right;
+    let value = cell.value;
+    let behind_left = put_number(out, at, left);
+    let behind_right = put_number(out, behind_left, right);
+    put_number(out, behind_right, value)
+}
+
+// Writes the registers where there is room for them. Gives the place behind them.
+fn write_registers(words: &[u32], scratch: &[u32], n: u32, out: &mut [u8], start: usize) -> usize
+    requires { ⌜ Savable registerCount n (now words) (length (now scratch)) × Ordered registerCount n (now words) (now scratch) × (start + length (registerBytes registerCount n (now words) 0) ≤ length (now out)) ⌝ }
+    ensures { λ r. ⌜ Put (registerBytes registerCount n (now (words .entry)) 0) (now (out .entry)) start r (now (out .exit)) ⌝ }
+{
+    let mut at = start;
+    let mut j = 0;
+    while j < Pool::REGISTERS {
+        at = put_number(out, at, saved_register(words, scratch, n, j));
+        j += 1;
+    }
+    at
+}
+
+// Writes the k cells where there is room for them. Gives the place behind them.
+fn write_cells(
+    words: &[u32],
+    scratch: &[u32],
+    n: u32,
+    k: u32,
+    out: &mut [u8],
+    start: usize,
+) -> usize
+    requires { ⌜ Savable registerCount n (now words) (length (now scratch)) × Ordered registerCount n (now words) (now scratch) × (k ≡ reachedCount registerCount n (now words)) × (start + length (orderBytes registerCount n (now words) 0) ≤ length (now out)) ⌝ }
+    ensures { λ r. ⌜ Put (orderBytes registerCount n (now (words .entry)) 0) (now (out .entry)) start r (now (out .exit)) ⌝ }
+{
+    let mut at = start;
+    let mut p = 0;
+    while p < k {
+        at = put_cell(out, at, saved_cell(words, scratch, n, p));
+        p += 1;
+    }
+    at
+}
+
 // Writes the image of k cells to the start of the output.
 fn write_image(words: &[u32], scratch: &[u32], n: u32, k: u32, out: &mut [u8])
     requires { ⌜ Savable registerCount n (now words) (length (now scratch)) × Ordered registerCount n (now words) (now scratch) × (k ≡ reachedCount registerCount n (now words)) × (length (imageOf registerCount n (now words)) ≤ length (now out)) ⌝ }
     ensures { λ _. ⌜ now (out .exit) ≡ imageOf registerCount n (now (words .entry)) ++ drop (length (imageOf registerCount n (now (words .entry)))) (now (out .entry)) ⌝ }
 {
-    let mut at = put_number(out, 0, k);
-    let mut j = 0;
-    while j < Pool::REGISTERS {
-        at = put_number(out, at, link_number(scratch, pool::read_register(words, j)));
-        j += 1;
-    }
-    let mut p = 0;
-    while p < k {
-        let mut f = 0;
-        while f < 3 {
-            at = put_number(out, at, cell_number(words, scratch, n, p, f));
-            f += 1;
-        }
-        p += 1;
-    }
-}
-
-// Fills the scratch with the number of each cell and the cell of each number. Gives the number of cells.
-fn order_cells(words: &[u32], scratch: &mut [u32], n: u32) -> u32
-    requires { ⌜ Savable registerCount n (now words) (length (now scratch)) ⌝ }
-    ensures { λ r. ⌜ (r ≡ reachedCount registerCount n (now (words .entry))) × Ordered registerCount n (now (words .entry)) (now (scratch .exit)) ⌝ }
-{
-    pool::clear(scratch);
-    let k = number_cells(words, scratch, n);
-    list_cells(scratch, n);
-    k
+    let registers = put_number(out, 0, k);
+    let cells = write_registers(words, scratch, n, out, registers);
+    write_cells(words, scratch, n, k, out, cells);
 }
 
 // Saves a well-formed pool of n cells.
@@ -175,7 +174,7 @@ fn save_pool(words: &[u32], scratch: &mut [u32], out: &mut [u8], n: u32) -> Save
     requires { ⌜ Savable registerCount n (now words) (length (now scratch)) ⌝ }
     ensures { λ r. ⌜ (savedOutcome r, now (scratch .exit), now (out .exit)) ≡ saveImage (imageOf registerCount n (now (words .entry))) (now (scratch .entry)) (now (out .entry)) ⌝ }
 {
-    let k = order_cells(words, scratch, n);
+    let k = numbering::order_cells(words, scratch, n);
     let size = image_size(words, scratch, n, k);
     if out.len() < size {
         pool::clear(scratch);

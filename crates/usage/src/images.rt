@@ -1,4 +1,4 @@
-// Two images stand behind each other, and three bytes behind them. `image::load` hands back the part of the bytes behind the image that it read: the next
+// Two images stand behind each other, and three bytes behind them. `load::load` hands back the part of the bytes behind the image that it read: the next
 // load reads that part, and no offset is counted.
 // An image of one cell is 1 + 16 + 3 numbers, here of a byte each: 27 of 47 bytes are behind it. An image of two cells is 1 + 16 + 6 numbers, of which 300
 // takes two bytes: 3 of 27 bytes are behind it. Three bytes 0 are K and two registers; the next number is missing: refused 6, with the empty part, and the
@@ -48,13 +48,13 @@ fn show_value(words: &[u32], a: u32) {
 // Loads the first image, the second from the part behind the first, and what is behind that, which is no image.
 fn load_each(words: &mut [u32], bytes: &[u8]) {
     let mut verdict = 0;
-    let behind_first = image::load(words, bytes, &mut verdict);
+    let behind_first = load::load(words, bytes, &mut verdict);
     show(verdict, behind_first.len());
     show_value(words, 0);
-    let behind_second = image::load(words, behind_first, &mut verdict);
+    let behind_second = load::load(words, behind_first, &mut verdict);
     show(verdict, behind_second.len());
     show_value(words, 1);
-    let none = image::load(words, behind_second, &mut verdict);
+    let none = load::load(words, behind_second, &mut verdict);
     show(verdict, none.len());
     show_value(words, 1);
 }

@@ -28,8 +28,7 @@ use Rattle.batch.proofs.Whole.{runs-one-after-the-other}
 use Rattle.invariant.proofs.Theorems.{reached-pools}
 use Rattle.reference.proofs.Theorems.{equivalence, equivalence-at-limit, never-malformed}
 use Rattle.reference.proofs.RunEquivalence.{run-equivalence}
-use Rattle.image.proofs.Check.{check-is-load}
-use Rattle.image.proofs.Accepted.{load-is-well-formed}
+use Rattle.load.proofs.Theorems.{check-is-load, load-is-well-formed}
 use Rattle.save.proofs.RoundTrip.{load-then-save, save-then-load}
 use Rattle.script.specs.declared.Line.the-variants as line
 use Rattle.script.specs.Reader.{newReader}
@@ -37,7 +36,7 @@ use Rattle.script.proofs.Scanning.{parts-read}
 use Rattle.replies.proofs.Decimals.{decimals-read-back, fewest-digits}
 use Rattle.interpreter.specs.Work.{initial}
 use Rattle.interpreter.proofs.Whole.{starts-whole, parts-join, last-line-ends}
-use Rattle.worked_examples.specs.Instances.{three, threeCollected, two, graph, roots, Swapped, image, numbers, words, scratch, output, calls, list, lent, out, padded, lines, progress, largest}
+use Rattle.worked_examples.specs.Instances.{three, threeCollected, two, graph, roots, Swapped, image, twoCells, words, scratch, output, calls, list, lent, out, padded, lines, progress, largest}
 use Rattle.worked_examples.proofs.Instances.{pool-instance, reversal-instance, graph-instance, number-instance, image-instance, batch-instance, script-instance}
 
 pub applied : Unit {0}
@@ -90,7 +89,7 @@ applied =
     let t = check-is-load 2 image words (i .size) in
     let t = load-is-well-formed words image (i .accepted) in
     let t = save-then-load three scratch output 24 (replicate 6 0) (image ++ 9 ∷ 9 ∷ []) words (i .words32) (i .saved) (i .target) (i .fit) in
-    let t = load-then-save 2 image 2 1 numbers 24 (i .some) (i .most) (i .read) (i .ordered) scratch output (i .room) in
+    let t = load-then-save words image twoCells 24 (i .target) (i .read) (i .ordered) scratch output (i .room) in
     let t = runs-one-after-the-other list calls (freshWords registerCount 3 lent) out (b .program) (b .room) in
     let t = run-equivalence 3 2 lent list out calls (p .some) (p .most) (b .exact) (b .program) (b .room) in
     let t = never-malformed 3 lent calls (p .some) (p .most) (b .exact) (answered (1 ∷ 3 ∷ [])) (b .answer) in

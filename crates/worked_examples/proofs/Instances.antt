@@ -2,7 +2,7 @@
 use Prim.Native.Nat.{ℕ, zero, suc, _<_, _≤_}
 use native.Mathlib.Omega.{arith}
 use mathlib.Core.Path.{_≡_, refl}
-use mathlib.Core.List.{List, [], _∷_, List·Memᴰ, List·Memᴰ·head, List·Memᴰ·tail}
+use mathlib.Core.List.{List, [], _∷_, List·Memᴰ, List·Memᴰ·head, List·Memᴰ·tail, flatMap}
 use mathlib.Core.Bool.{true}
 use lib.ListN.{length, getD, replicate, getD-replicate, length-replicate}
 use lib.Dec.{ltb}
@@ -28,7 +28,8 @@ use Rattle.stack_algorithm.specs.Stack.{run, runs}
 use Rattle.batch.specs.Program.{programOf, programOfCalls}
 use Rattle.batch.specs.Run.{runFrom, afterAll}
 use Rattle.reference.specs.Equivalence.{poolAnswers}
-use Rattle.image.specs.Image.{placeFrom, encodeAll, readFields, readImage}
+use Rattle.image.specs.Image.{placeFrom, readEach, readImage}
+use Rattle.load.specs.Load.{putEach}
 use Rattle.script.specs.Lines.{all, command}
 use Rattle.script.specs.Reader.{spaceOf, letterOf, digitOf, feedOf, endOf, begunOf}
 use Rattle.replies.specs.Replies.{digits, decimal}
@@ -179,7 +180,7 @@ number-instance =
     record { largest = omega arith; same = refl; bytes = below 256 (omega arith) (0x80 ∷ 0x00 ∷ []) refl; read = refl; fewer = omega arith }
 
 pub image-instance : Image-instance
-unfolding all elem visit visits preorder visitsOf groups encode readGroups readAt tabulate every cellCountOfLength count setCount cellCount register cell lowestFree retain placeFrom encodeAll readFields readImage
+unfolding all elem visit visits preorder visitsOf groups encode readGroups readAt tabulate every cellCountOfLength count setCount cellCount register setRegister cell setCell lowestFree retain placeFrom flatMap readEach readImage putEach
 image-instance =
     record {
       size = refl;
@@ -190,8 +191,6 @@ image-instance =
       saved-two = refl;
       target = omega arith;
       fit = omega arith;
-      some = omega arith;
-      most = omega arith;
       read = refl;
       ordered = refl;
       room = omega arith;

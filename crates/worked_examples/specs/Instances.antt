@@ -28,8 +28,8 @@ use Rattle.batch.specs.declared.Ran.the-variants as ran
 use Rattle.batch.specs.Program.{programOf, programOfCalls}
 use Rattle.batch.specs.Run.{runOf, afterAll}
 use Rattle.reference.specs.Equivalence.{poolAnswers}
-use Rattle.image.specs.Image.{Image, readImage}
-use Rattle.image.specs.Load.{loadedWords, loadOf}
+use Rattle.image.specs.Image.{Image, parsed, readImage}
+use Rattle.load.specs.Load.{loadedWords, loadOf}
 use Rattle.save.specs.Save.{saveOf}
 use Rattle.save.specs.RoundTrip.{Words}
 use Rattle.script.specs.declared.Line.the-variants as line
@@ -127,12 +127,16 @@ pub record Number-instance : Type 0 where
   pub read : readAt (0x80 ∷ 0x00 ∷ []) 0 ≡ number.Value 0 2
   pub fewer : 0 + length (encode 0) < 2
 
--- An image of two cells, the numbers behind its K, and words to load it into.
+-- The bytes of an image of two cells, what it holds, and words to load it into.
 abbrev pub image : List ℕ
 image = 2 ∷ 1 ∷ (replicate 15 0 ++ (2 ∷ 2 ∷ 0xAC ∷ 0x02 ∷ 1 ∷ 0 ∷ 8 ∷ []))
 
-abbrev pub numbers : List ℕ
-numbers = 1 ∷ (replicate 15 0 ++ (2 ∷ 2 ∷ 300 ∷ 1 ∷ 0 ∷ 8 ∷ []))
+abbrev pub twoCells : Image
+twoCells =
+    record {
+      registers = 1 ∷ replicate 15 0;
+      cells = record { left = 2; right = 2; value = 300 } ∷ record { left = 1; right = 0; value = 8 } ∷ [];
+    }
 
 abbrev pub words : List ℕ
 words = replicate 26 5
@@ -157,11 +161,9 @@ pub record Image-instance : Type 0 where
   pub target : 0 < cellCountOfLength registerCount (length words)
   pub fit : reachedCount registerCount (cellCount registerCount three) three ≤ cellCountOfLength registerCount (length words)
   -- `LoadThenSave`: its cells are numbered in the order of the visits
-  pub some : 0 < 2
-  pub most : 2 ≤ cellLimit
-  pub read : readImage registerCount 2 image ≡ Image.image 2 1 numbers 24
-  pub ordered : reachedCells registerCount 2 (loadedWords registerCount 2 2 numbers) ≡ tabulate 2 suc
-  pub room : 2 * 2 ≤ length scratch
+  pub read : readImage registerCount (cellCountOfLength registerCount (length words)) image ≡ parsed twoCells 24
+  pub ordered : reachedCells registerCount (cellCountOfLength registerCount (length words)) (loadedWords registerCount (cellCountOfLength registerCount (length words)) twoCells words) ≡ tabulate 2 suc
+  pub room : 2 * cellCountOfLength registerCount (length words) ≤ length scratch
 
 -- Two calls, five words each, and room for one word more than their answers.
 abbrev pub calls : List Call

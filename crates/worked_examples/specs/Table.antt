@@ -9,7 +9,7 @@ use Rattle.occupancy.specs.Occupancy.{occupancyOf}
 use Rattle.collector.specs.Collect.{collectOf}
 use Rattle.stack_marker.specs.StackCollect.{stackOf}
 use Rattle.stack_marker.specs.StackExample.{leafPool}
-use Rattle.image.specs.Load.{checkOf}
+use Rattle.image.specs.Check.{checkOf}
 
 -- A case: the bytes of a number; bytes that a pool of one cell refuses as an image; a pool, and what its collection keeps and visits; a pool and a number
 -- of stack words, and what the collection with them keeps and whether they are enough (1) or not (0); and what percent of n cells is kept.

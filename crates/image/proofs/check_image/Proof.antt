@@ -4,7 +4,7 @@ use Rattle.image.proofs.check_image.Statement.{statement}
 use Rattle.image.proofs.check_image.Tie as tie
 use mathlib.Core.Path.{_∙_}
 use borrow.Author.Tests.{le-leb, lt-leb}
-use Rattle.image.proofs.Scanning.{check-whole, check-refused}
+use Rattle.image.proofs.Images.{check-whole, check-refused}
 
 number-requires : tie.Need-number-requires
 number-requires c κs = search needs
@@ -32,14 +32,16 @@ number-requires-3 c κs = search needs
 
 returns-3 : tie.Need-returns-3
 returns-3 c =
-    check-whole _ _ (c .before .before .before .before .if1 .left) (c .before .before .before .if2 .left) _ (c .before .before .scan-image .ensures) _ _ _
+    let at-scan = c .before .before in
+    check-whole _ _ (at-scan .before .before .if1 .left) (at-scan .before .if2 .left) _ (at-scan .scan-image .ensures) _ _
     (c .enum-told .given .1)
 
 returns-4 : tie.Need-returns-4
 returns-4 c =
+    let at-scan = c .before .before .before .before in
     c .number3 .ensures
-    ∙ check-refused _ _ (c .before .before .before .before .before .before .if1 .left) (c .before .before .before .before .before .if2 .left) _
-    (c .before .before .before .before .scan-image .ensures) _ (c .before .before .why .given .1)
+    ∙ check-refused _ _ (at-scan .before .before .if1 .left) (at-scan .before .if2 .left) _ (at-scan .scan-image .ensures) _
+    (c .before .before .why .given .1)
 
 pub check-image-spec : {M : Type 1} → statement M
 check-image-spec =

@@ -1,54 +1,81 @@
--- `image::scan_image` meets its contract: K decides, then the numbers behind it.
+-- `image::scan_image` meets its contract: K, the registers and the cells are read in turn, and the first fault decides.
 use borrow.Author.Needs.{needs}
 use Rattle.image.proofs.scan_image.Statement.{statement}
 use Rattle.image.proofs.scan_image.Tie as tie
-use native.Mathlib.Omega.{arith}
-use mathlib.Core.Path.{_≡_, sym, ap, _∙_}
+use mathlib.Core.Path.{sym, ap, _∙_}
 use Rattle.pool.specs.Layout.{registerCount}
-use Rattle.image.specs.Image.{countAt}
-use Rattle.image.specs.Load.{scanOf}
-use denote.Ref.{now}
-use Rattle.image.proofs.Scanning.{count-few, image-fields, image-refused}
+use Rattle.image.specs.Steps.{fieldParsed}
+use Rattle.image.proofs.Images.{scan-count, scan-registers, scan-cells, scan-whole}
 
--- what is read for K
-count-read : (c : tie.After-bounded) → let a = c .before .before .before .args in c .bounded .result ≡ countAt (a .n) (now (a .bytes))
-count-read c = c .bounded .ensures ∙ rw (c .before .number-at .ensures)
-
-number-at-requires : tie.Need-number-at-requires
-number-at-requires c κs = search needs
-
-bounded-requires : tie.Need-bounded-requires
-bounded-requires c κs = search needs
-
-enum-known-value : tie.Need-enum-known-value
-enum-known-value c = search needs
-
-scan-fields-requires : tie.Need-scan-fields-requires
-scan-fields-requires c κs =
-    omega (
-      arith,
-      count-few _ _ _ _ (sym (count-read (c .before .before .before)) ∙ c .before .value .given .1),
-    )
+read-count-requires : tie.Need-read-count-requires
+read-count-requires c κs = search needs
 
 enum-known-why : tie.Need-enum-known-why
 enum-known-why c = search needs
 
+enum-known-k : tie.Need-enum-known-k
+enum-known-k c = search needs
+
+scan-registers-requires : tie.Need-scan-registers-requires
+scan-registers-requires c κs = search needs
+
+enum-known-why-2 : tie.Need-enum-known-why-2
+enum-known-why-2 c = search needs
+
+enum-known-at : tie.Need-enum-known-at
+enum-known-at c = search needs
+
+scan-cells-requires : tie.Need-scan-cells-requires
+scan-cells-requires c κs = search needs
+
+enum-known-why-3 : tie.Need-enum-known-why-3
+enum-known-why-3 c = search needs
+
+enum-known-end : tie.Need-enum-known-end
+enum-known-end c = search needs
+
 returns : tie.Need-returns
-returns c =
-    c .scan-fields .ensures
-    ∙ sym (ap scanOf (image-fields registerCount _ _ _ _ (sym (count-read (c .before .before .before .before)) ∙ c .before .before .value .given .1)))
+returns c = scan-count registerCount _ _ _ (sym (c .before .before .before .read-count .ensures) ∙ ap fieldParsed (c .before .why .given .1))
 
 returns-2 : tie.Need-returns-2
-returns-2 c = sym (ap scanOf (image-refused registerCount _ _ _ (sym (count-read (c .before .before .before)) ∙ c .before .why .given .1)))
+returns-2 c =
+    let at-registers = c .before .before .before in
+    let at-count = at-registers .before .before .before .before in
+    scan-registers registerCount _ _ _ _ (sym (at-count .read-count .ensures) ∙ ap fieldParsed (at-registers .before .before .k .given .1)) _
+    (sym (c .before .why2 .given .1) ∙ at-registers .scan-registers .ensures)
+
+returns-3 : tie.Need-returns-3
+returns-3 c =
+    let at-cells = c .before .before .before in
+    let at-registers = at-cells .before .before .before .before in
+    let at-count = at-registers .before .before .before .before in
+    scan-cells registerCount _ _ _ _ (sym (at-count .read-count .ensures) ∙ ap fieldParsed (at-registers .before .before .k .given .1)) _
+    (sym (at-cells .before .before .at .given .1) ∙ at-registers .scan-registers .ensures) _
+    (sym (c .before .why3 .given .1) ∙ at-cells .scan-cells .ensures)
+
+returns-4 : tie.Need-returns-4
+returns-4 c =
+    let at-cells = c .before .before .before in
+    let at-registers = at-cells .before .before .before .before in
+    let at-count = at-registers .before .before .before .before in
+    scan-whole registerCount _ _ _ _ (sym (at-count .read-count .ensures) ∙ ap fieldParsed (at-registers .before .before .k .given .1)) _
+    (sym (at-cells .before .before .at .given .1) ∙ at-registers .scan-registers .ensures) _
+    (sym (c .before .end .given .1) ∙ at-cells .scan-cells .ensures)
 
 pub scan-image-spec : {M : Type 1} → statement M
 scan-image-spec =
     tie.close
     (tie.spec
-    number-at-requires
-    bounded-requires
-    enum-known-value
-    scan-fields-requires
+    read-count-requires
     enum-known-why
+    enum-known-k
+    scan-registers-requires
+    enum-known-why-2
+    enum-known-at
+    scan-cells-requires
+    enum-known-why-3
+    enum-known-end
     returns
-    returns-2)
+    returns-2
+    returns-3
+    returns-4)

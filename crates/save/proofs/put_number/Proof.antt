@@ -17,13 +17,17 @@ same-length : tie.Need-same-length
 same-length c = search needs
 
 returns : tie.Need-returns
-returns c = put-next _ _ _ _ _ (c .before .before .before .before .before .before .before .before .pre) _ (c .before .before .before .before .before .write-number .ensures) (c .before .next .given .1)
+returns c =
+    let at-write = c .before .before .before .before .before in
+    put-next _ _ _ _ _ (at-write .before .before .before .pre) _ (at-write .write-number .ensures) (c .before .next .given .1)
 
 same-length-2 : tie.Need-same-length-2
 same-length-2 c = search needs
 
 returns-2 : tie.Need-returns-2
-returns-2 c = absurd (put-none _ _ _ _ _ (c .before .before .before .before .before .before .before .pre) (c .before .before .before .before .write-number .ensures) (c .enum-told .given .1))
+returns-2 c =
+    let at-write = c .before .before .before .before in
+    absurd (put-none _ _ _ _ _ (at-write .before .before .before .pre) (at-write .write-number .ensures) (c .enum-told .given .1))
 
 pub put-number-spec : {M : Type 1} → statement M
 put-number-spec =

@@ -31,9 +31,12 @@ same-length-2 c = search needs
 
 returns : tie.Need-returns
 returns c =
-    let at-n = c .before .before .before .before .before .before .before .before in
-    let a = at-n .before .before .before .before .before .before .args in
-    went-on (at-n .before .before .sized .ensures) (λ n. saveIn n (now (a .words)) (now (a .scratch)) (now (a .out))) (λ k. (refused k, now (a .scratch), now (a .out))) (at-n .n .given .1) (c .before .before .before .before .save-in .ensures)
+    let at-save = c .before .before .before .before in
+    let at-n = at-save .before .before .before .before in
+    let at-sized = at-n .before .before in
+    let a = at-sized .before .before .before .before .args in
+    went-on (at-sized .sized .ensures) (λ n. saveIn n (now (a .words)) (now (a .scratch)) (now (a .out)))
+    (λ k. (refused k, now (a .scratch), now (a .out))) (at-n .n .given .1) (at-save .save-in .ensures)
 
 returns-2 : tie.Need-returns-2
 returns-2 c =

@@ -18,12 +18,14 @@ well-formed-requires c κs = search needs
 
 save-pool-requires : tie.Need-save-pool-requires
 save-pool-requires c κs =
-    let pre = c .before .before .before .before .before .before .before .before .pre in
+    let at-test = c .before .before in
+    let at-room = at-test .before .before in
+    let pre = at-room .before .before .before .before .pre in
     record {
       most = pre .1;
       room = pre .0;
-      scratch = omega (arith, c .before .before .before .before .if1 .left);
-      well-formed = sym (c .before .before .before .well-formed .ensures) ∙ c .before .before .if2 .taken;
+      scratch = omega (arith, at-room .if1 .left);
+      well-formed = sym (at-test .before .well-formed .ensures) ∙ at-test .if2 .taken;
     }
 
 same-length : tie.Need-same-length
@@ -34,9 +36,12 @@ same-length-2 c = search needs
 
 returns-2 : tie.Need-returns-2
 returns-2 c =
-    let a = c .before .before .before .before .before .before .before .before .before .before .before .before .before .args in
-    save-whole (a .n) (now (a .words)) (now (a .scratch)) (now (a .out)) (omega (arith, c .before .before .before .before .before .before .before .before .before .if1 .left)) _ (c .before .before .before .before .before .before .before .before .well-formed .ensures) _ (c .before .before .before .before .before .before .before .if2 .taken)
-    (c .before .before .before .before .save-pool .ensures)
+    let at-save = c .before .before .before .before in
+    let at-test = at-save .before .before .before in
+    let at-room = at-test .before .before in
+    let a = at-room .before .before .before .before .args in
+    save-whole (a .n) (now (a .words)) (now (a .scratch)) (now (a .out)) (omega (arith, at-room .if1 .left)) _ (at-test .before .well-formed .ensures) _
+    (at-test .if2 .taken) (at-save .save-pool .ensures)
 
 returns-3 : tie.Need-returns-3
 returns-3 c =

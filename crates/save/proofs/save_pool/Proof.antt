@@ -8,7 +8,8 @@ use Prim.Native.Nat.{ℕ}
 use lib.ListN.{replicate}
 use Rattle.pool.specs.Layout.{registerCount}
 use Rattle.image.specs.Image.{imageOf}
-use Rattle.save.proofs.Saving.{savable-length, save-short, save-written}
+use Rattle.numbering.proofs.Ordering.{savable-length}
+use Rattle.save.proofs.Saving.{save-short, save-written}
 use denote.Ref.{now}
 
 order-cells-requires : tie.Need-order-cells-requires
@@ -25,17 +26,21 @@ same-length c = search needs
 
 returns : tie.Need-returns
 returns c =
-    let a = c .before .before .before .before .before .before .before .before .before .before .before .before .before .before .args in
-    save-short (imageOf registerCount (a .n) (now (a .words))) (now (a .scratch)) _ _ _ (c .before .before .before .before .before .image-size .ensures)
-    (c .before .before .clear .ensures ∙ ap (λ (k : ℕ). replicate k 0) (c .before .before .before .before .before .before .before .before .before .order-cells .kept .1 .0)) (c .before .before .before .before .if1 .taken)
+    let at-test = c .before .before .before .before in
+    let at-order = at-test .before .before .before .before .before in
+    let a = at-order .before .before .before .before .before .args in
+    save-short (imageOf registerCount (a .n) (now (a .words))) (now (a .scratch)) _ _ _ (at-test .before .image-size .ensures)
+    (c .before .before .clear .ensures ∙ ap (λ (k : ℕ). replicate k 0) (at-order .order-cells .kept .1 .0)) (at-test .if1 .taken)
 
 write-image-requires : tie.Need-write-image-requires
-write-image-requires c κs = (
-  savable-length (c .before .before .before .before .before .before .before .order-cells .kept .1 .0) (c .before .before .before .before .before .before .before .before .before .before .before .before .pre),
-  c .before .before .before .before .before .before .before .order-cells .ensures .1,
-  c .before .before .before .before .before .before .before .order-cells .ensures .0,
-  omega (arith, c .before .before .before .image-size .ensures, c .before .before .if1 .left),
-)
+write-image-requires c κs =
+    let at-test = c .before .before in
+    let at-order = at-test .before .before .before .before .before in (
+      savable-length (at-order .order-cells .kept .1 .0) (at-order .before .before .before .before .before .pre),
+      at-order .order-cells .ensures .1,
+      at-order .order-cells .ensures .0,
+      omega (arith, at-test .before .image-size .ensures, at-test .if1 .left),
+    )
 
 clear-requires-2 : tie.Need-clear-requires-2
 clear-requires-2 c κs = search needs
@@ -48,9 +53,13 @@ same-length-3 c = search needs
 
 returns-2 : tie.Need-returns-2
 returns-2 c =
-    let a = c .before .before .before .before .before .before .before .before .before .before .before .before .before .before .before .before .before .before .before .args in
-    save-written (imageOf registerCount (a .n) (now (a .words))) (now (a .scratch)) _ (now (a .out)) _ (c .before .before .before .before .before .before .before .before .before .before .image-size .ensures)
-    (c .before .before .clear2 .ensures ∙ ap (λ (k : ℕ). replicate k 0) (c .before .before .before .before .before .before .before .before .before .before .before .before .before .before .order-cells .kept .1 .0)) _ (c .before .before .before .before .before .before .before .before .before .if1 .left) (c .before .before .before .before .before .before .write-image .ensures)
+    let at-write = c .before .before .before .before .before .before in
+    let at-test = at-write .before .before .before in
+    let at-order = at-test .before .before .before .before .before in
+    let a = at-order .before .before .before .before .before .args in
+    save-written (imageOf registerCount (a .n) (now (a .words))) (now (a .scratch)) _ (now (a .out)) _ (at-test .before .image-size .ensures)
+    (c .before .before .clear2 .ensures ∙ ap (λ (k : ℕ). replicate k 0) (at-order .order-cells .kept .1 .0)) _ (at-test .if1 .left)
+    (at-write .write-image .ensures)
 
 pub save-pool-spec : {M : Type 1} → statement M
 save-pool-spec =

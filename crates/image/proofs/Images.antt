@@ -1,0 +1,208 @@
+-- The image at the start of the bytes: what is known of one that was read, and what a scan says.
+use Prim.Native.Nat.{ℕ, _≤_}
+use native.Mathlib.Omega.{arith}
+use mathlib.Core.Path.{_≡_, refl, sym, ap, subst, _∙_}
+use mathlib.Core.List.{List}
+use mathlib.Core.Bool.{Bool, true, false, cond}
+use lib.ListN.{length}
+use lib.Dec.{leb}
+use borrow.Author.Tests.{leb-true, le-leb}
+use Rattle.leb128.specs.Leb128.{Bytes, readAt}
+use Rattle.leb128.specs.declared.Number.{Number}
+use Rattle.leb128.specs.declared.Number.the-variants as number
+use Rattle.leb128.proofs.Theorems.{reads-within}
+use Rattle.pool.specs.Layout.{cellLimit, registerCount}
+use Rattle.answers.specs.Outcome.{refusalNumber}
+use Rattle.answers.specs.declared.Refusal.{Refusal}
+use Rattle.image.specs.declared.ImageCell.{ImageCell}
+use Rattle.image.specs.declared.Place.the-variants as place
+use Rattle.image.specs.declared.Scan.{Scan}
+use Rattle.image.specs.declared.Scan.the-variants as scan
+use Rattle.image.specs.Image.{Image, Parsed, parsed, fault, anyNumber, readNumber, atMost, readCount, readLink, readCell, readEach, readImage}
+use Rattle.image.specs.Check.{verdictOf, checkOf}
+use Rattle.image.specs.Steps.{placeOf, scanOf}
+use Rattle.image.proofs.Reading.{then-parsed, then-fault, both-parsed, placed, refused, Each, each-length, each-read, each-end}
+
+-- A number that is not refused is there, and one with a bound is within it.
+number-there : (num : Number) (v next : ℕ) → anyNumber num ≡ parsed v next → num ≡ number.Value v next
+number-there (number.Value u after) v next e = cc
+number-there number.Missing v next e = let z : _≡_ {A = ℕ} 0 1 = cc in absurd (omega arith)
+number-there number.OutOfRange v next e = let z : _≡_ {A = ℕ} 0 1 = cc in absurd (omega arith)
+
+record Bounded (most : ℕ) (read : Parsed ℕ) (v next : ℕ) : Type 0 where
+  there : read ≡ parsed v next
+  within : v ≤ most
+
+bounded : (most : ℕ) (over : Refusal) (read : Parsed ℕ) (v next : ℕ) → atMost most over read ≡ parsed v next → Bounded most read v next
+bounded most over (parsed u after) v next e = go (leb u most) refl e
+  where
+    go : (t : Bool) → leb u most ≡ t → cond t (parsed u after) (fault over) ≡ parsed v next → Bounded most (parsed u after) v next
+    go true h e = let same : u ≡ v = cc in record { there = e; within = omega (arith, leb-true u most h) }
+    go false h e = let z : _≡_ {A = ℕ} 0 1 = cc in absurd (omega arith)
+bounded most over (fault why) v next e = let z : _≡_ {A = ℕ} 0 1 = cc in absurd (omega arith)
+
+pub count-few : (n : ℕ) (bytes : List ℕ) (K next : ℕ) → readCount n bytes ≡ parsed K next → K ≤ n
+count-few n bytes K next e = bounded n _ (readNumber bytes 0) K next e .within
+
+-- The links of a cell are at most K.
+pub record Linked (K : ℕ) (c : ImageCell) : Type 0 where
+  pub left-most : c .left ≤ K
+  pub right-most : c .right ≤ K
+
+module _ (K : ℕ) (bytes : List ℕ) where
+  link-within : (at x next : ℕ) → readLink K bytes at ≡ parsed x next → x ≤ K
+  link-within at x next e = bounded K _ (readNumber bytes at) x next e .within
+
+  cell-linked : (at : ℕ) (c : ImageCell) (next : ℕ) → readCell K bytes at ≡ parsed c next → Linked K c
+  cell-linked at c next e =
+      let l = both-parsed (readLink K bytes at) _ c next e in
+      let r = both-parsed (readLink K bytes (l .next)) _ c next (l .behind) in
+      let v = both-parsed (readNumber bytes (r .next)) _ c next (r .behind) in
+      let low = link-within at (l .item) (l .next) (l .here) in
+      let high = link-within (l .next) (r .item) (r .next) (r .here) in
+      rw (sym (ap cellOf (v .behind))) (record { left-most = low; right-most = high })
+    where
+      cellOf : Parsed ImageCell → ImageCell
+      cellOf (parsed x end) = x
+      cellOf (fault why) = c
+
+  pub cell-parsed : (c : ImageCell) (at right value end : ℕ) → readLink K bytes at ≡ parsed (c .left) right → readLink K bytes right ≡ parsed (c .right) value
+      → readNumber bytes value ≡ parsed (c .value) end → readCell K bytes at ≡ parsed c end
+  cell-parsed c at right value end l r v =
+      then-parsed _ l ∙ (then-parsed _ r ∙ then-parsed (λ x next. parsed (record { left = c .left; right = c .right; value = x }) next) v)
+
+  -- Numbers end within the bytes.
+  module _ (byte : Bytes bytes) where
+    number-end : (at x next : ℕ) → readNumber bytes at ≡ parsed x next → next ≤ length bytes
+    number-end at x next e = reads-within bytes at x next byte (number-there (readAt bytes at) x next e) .inside
+
+    link-end : (at x next : ℕ) → readLink K bytes at ≡ parsed x next → next ≤ length bytes
+    link-end at x next e = number-end at x next (bounded K _ (readNumber bytes at) x next e .there)
+
+    cell-end : (at : ℕ) (c : ImageCell) (next : ℕ) → readCell K bytes at ≡ parsed c next → next ≤ length bytes
+    cell-end at c next e =
+        let l = both-parsed (readLink K bytes at) _ c next e in
+        let r = both-parsed (readLink K bytes (l .next)) _ c next (l .behind) in
+        let v = both-parsed (readNumber bytes (r .next)) _ c next (r .behind) in
+        let last = number-end (r .next) (v .item) (v .next) (v .here) in
+        let same : v .next ≡ next = cc (v .behind) in
+        omega arith
+
+-- The links of an image, those of its registers too, are at most the number of its cells.
+pub record LinksWithin (i : Image) : Type 0 where
+  pub registers : Each (λ (x : ℕ). x ≤ length (i .cells)) (i .registers)
+  pub cells : Each (Linked (length (i .cells))) (i .cells)
+
+-- An image that was read: its number of cells, its registers, its cells.
+pub record ImageRead (R n : ℕ) (bytes : List ℕ) (i : Image) (end : ℕ) : Type 0 where
+  pub start : ℕ
+  pub behind : ℕ
+  pub counted : readCount n bytes ≡ parsed (length (i .cells)) start
+  pub registers : readEach (readLink (length (i .cells)) bytes) R start ≡ parsed (i .registers) behind
+  pub cells : readEach (readCell (length (i .cells)) bytes) (length (i .cells)) behind ≡ parsed (i .cells) end
+
+module _ (R n : ℕ) (bytes : List ℕ) where
+  image-made : (K start : ℕ) (links : List ℕ) (behind : ℕ) (list : List ImageCell) (end : ℕ) → readCount n bytes ≡ parsed K start
+      → readEach (readLink K bytes) R start ≡ parsed links behind → readEach (readCell K bytes) K behind ≡ parsed list end
+      → ImageRead R n bytes (record { registers = links; cells = list }) end
+  image-made K start links behind list end count registers cells =
+      let long : length list ≡ K = each-length (readCell K bytes) K behind list end cells in
+      record { start = start; behind = behind; counted = rw long count; registers = rw long registers; cells = rw long cells }
+
+  pub image-read : (i : Image) (end : ℕ) → readImage R n bytes ≡ parsed i end → ImageRead R n bytes i end
+  unfolding readImage
+  image-read i end e =
+      let count = both-parsed (readCount n bytes) _ i end e in
+      let links = both-parsed (readEach (readLink (count .item) bytes) R (count .next)) _ i end (count .behind) in
+      let list = both-parsed (readEach (readCell (count .item) bytes) (count .item) (links .next)) _ i end (links .behind) in
+      let made = image-made (count .item) (count .next) (links .item) (links .next) (list .item) (list .next) (count .here) (links .here) (list .here) in
+      let last : parsed (record { registers = links .item; cells = list .item }) (list .next) ≡ parsed i end = list .behind in
+      let same : record { registers = links .item; cells = list .item } ≡ i = cc in
+      let ends : list .next ≡ end = cc in
+      subst (λ (x : Image). ImageRead R n bytes x end) same (subst (ImageRead R n bytes (record { registers = links .item; cells = list .item })) ends made)
+
+  pub image-parsed : (i : Image) (start behind end : ℕ) → readCount n bytes ≡ parsed (length (i .cells)) start
+      → readEach (readLink (length (i .cells)) bytes) R start ≡ parsed (i .registers) behind
+      → readEach (readCell (length (i .cells)) bytes) (length (i .cells)) behind ≡ parsed (i .cells) end → readImage R n bytes ≡ parsed i end
+  unfolding readImage
+  image-parsed i start behind end count links list =
+      then-parsed _ count
+      ∙ (then-parsed _ links ∙ then-parsed (λ l next. parsed (record { registers = i .registers; cells = l }) next) list)
+
+  module _ (i : Image) (end : ℕ) (r : ImageRead R n bytes i end) where
+    abbrev K : ℕ
+    K = length (i .cells)
+
+    pub image-few : length (i .cells) ≤ n
+    image-few = count-few n bytes K (r .start) (r .counted)
+
+    pub image-registers : length (i .registers) ≡ R
+    image-registers = each-length (readLink K bytes) R (r .start) (i .registers) (r .behind) (r .registers)
+
+    pub image-links : LinksWithin i
+    image-links =
+        record {
+          registers = each-read (readLink K bytes) (link-within K bytes) R (r .start) (i .registers) (r .behind) (r .registers);
+          cells = each-read (readCell K bytes) (cell-linked K bytes) K (r .behind) (i .cells) end (r .cells);
+        }
+
+    pub image-end : Bytes bytes → end ≤ length bytes
+    image-end byte =
+        let first = number-end K bytes byte 0 K (r .start) (bounded n _ (readNumber bytes 0) K (r .start) (r .counted) .there) in
+        let second = each-end (readLink K bytes) (length bytes) (link-end K bytes byte) R (r .start) (i .registers) (r .behind) first (r .registers) in
+        each-end (readCell K bytes) (length bytes) (cell-end K bytes byte) K (r .behind) (i .cells) end second (r .cells)
+
+-- What a scan says, by the first thing that is refused.
+module _ (R n : ℕ) (bytes : List ℕ) where
+  pub scan-count : (why : Refusal) → readCount n bytes ≡ fault why → scan.Refused why ≡ scanOf (readImage R n bytes)
+  unfolding readImage
+  scan-count why e = sym (ap scanOf (then-fault _ e))
+
+  module _ (K start : ℕ) (count : readCount n bytes ≡ parsed K start) where
+    pub scan-registers : (why : Refusal) → place.Refused why ≡ placeOf (readEach (readLink K bytes) R start) → scan.Refused why ≡ scanOf (readImage R n bytes)
+    unfolding readImage
+    scan-registers why e =
+        let none = refused (readEach (readLink K bytes) R start) why e in sym (ap scanOf (then-parsed _ count ∙ then-fault _ none))
+
+    module _ (at : ℕ) (registers : place.Behind at ≡ placeOf (readEach (readLink K bytes) R start)) where
+      pub scan-cells : (why : Refusal) → place.Refused why ≡ placeOf (readEach (readCell K bytes) K at) → scan.Refused why ≡ scanOf (readImage R n bytes)
+      unfolding readImage
+      scan-cells why e =
+          let links = placed (readEach (readLink K bytes) R start) at registers in
+          let none = refused (readEach (readCell K bytes) K at) why e in
+          sym (ap scanOf (then-parsed _ count ∙ (then-parsed _ (links .here) ∙ then-fault _ none)))
+
+      pub scan-whole : (end : ℕ) → place.Behind end ≡ placeOf (readEach (readCell K bytes) K at) → scan.Whole K end ≡ scanOf (readImage R n bytes)
+      unfolding readImage
+      scan-whole end e =
+          let links = placed (readEach (readLink K bytes) R start) at registers in
+          let list = placed (readEach (readCell K bytes) K at) end e in
+          let long : length (list .item) ≡ K = each-length (readCell K bytes) K at (list .item) end (list .here) in
+          let rest : List ImageCell → ℕ → Parsed Image = λ l behind. parsed (record { registers = links .item; cells = l }) behind in
+          ap (λ (k : ℕ). scan.Whole k end) (sym long)
+          ∙ sym (ap scanOf (then-parsed _ count ∙ (then-parsed _ (links .here) ∙ then-parsed rest (list .here))))
+
+-- From what a scan says to the image.
+pub record Scanned (read : Parsed Image) (K end : ℕ) : Type 0 where
+  pub image : Image
+  pub whole : read ≡ parsed image end
+  pub number : length (image .cells) ≡ K
+
+pub scanned : (read : Parsed Image) (K end : ℕ) → scan.Whole K end ≡ scanOf read → Scanned read K end
+scanned (parsed i after) K end e = let same : after ≡ end = cc in record { image = i; whole = rw same; number = sym (cc) }
+scanned (fault why) K end e = let z : _≡_ {A = ℕ} 0 1 = cc in absurd (omega arith)
+
+pub scanned-fault : (read : Parsed Image) (why : Refusal) → scan.Refused why ≡ scanOf read → read ≡ fault why
+scanned-fault (parsed i end) why e = let z : _≡_ {A = ℕ} 0 1 = cc in absurd (omega arith)
+scanned-fault (fault other) why e = let same : other ≡ why = cc in ap fault same
+
+-- The check's answer by what the scan says.
+module _ (n : ℕ) (bytes : List ℕ) (low : 1 ≤ n) (high : n ≤ cellLimit) (s : Scan) (says : s ≡ scanOf (readImage registerCount n bytes)) where
+  check-by : (read : Parsed Image) → readImage registerCount n bytes ≡ read → verdictOf read ≡ checkOf bytes n
+  check-by read e = simp (le-leb 1 n low, le-leb n cellLimit high, e)
+
+  pub check-whole : (K end : ℕ) → s ≡ scan.Whole K end → 0 ≡ checkOf bytes n
+  check-whole K end e = let i = scanned _ K end (sym e ∙ says) in check-by (parsed (i .image) end) (i .whole)
+
+  pub check-refused : (why : Refusal) → s ≡ scan.Refused why → refusalNumber why ≡ checkOf bytes n
+  check-refused why e = check-by (fault why) (scanned-fault _ why (sym e ∙ says))

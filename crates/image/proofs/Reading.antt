@@ -1,0 +1,143 @@
+-- Reading one thing behind the other: what is known of what was read, and the turns of a loop that reads a list.
+use Prim.Native.Nat.{ℕ, zero, suc, _-_, _<_, _≤_}
+use native.Mathlib.Omega.{arith}
+use mathlib.Core.Path.{_≡_, refl, sym, ap, _∙_}
+use mathlib.Core.List.{List, [], _∷_, map}
+use lib.ListN.{length, getD}
+use Rattle.answers.specs.declared.Refusal.{Refusal}
+use Rattle.image.specs.declared.Place.the-variants as place
+use Rattle.image.specs.Image.{Parsed, parsed, fault, andThen, readEach}
+use Rattle.image.specs.Steps.{placeOf}
+
+-- What follows a thing that was read, and one that is refused.
+module _ {A B : Type 0} {p : Parsed A} (rest : A → ℕ → Parsed B) where
+  pub then-parsed : {x : A} {next : ℕ} → p ≡ parsed x next → andThen p rest ≡ rest x next
+  then-parsed e = ap (λ (q : Parsed A). andThen q rest) e
+
+  pub then-fault : {why : Refusal} → p ≡ fault why → andThen p rest ≡ fault why
+  then-fault e = ap (λ (q : Parsed A). andThen q rest) e
+
+-- Of two things read one behind the other, both were read.
+pub record Both {A B : Type 0} (p : Parsed A) (rest : A → ℕ → Parsed B) (y : B) (end : ℕ) : Type 0 where
+  pub item : A
+  pub next : ℕ
+  pub here : p ≡ parsed item next
+  pub behind : rest item next ≡ parsed y end
+
+pub both-parsed : {A B : Type 0} (p : Parsed A) (rest : A → ℕ → Parsed B) (y : B) (end : ℕ) → andThen p rest ≡ parsed y end → Both p rest y end
+both-parsed (parsed x next) rest y end e = record { item = x; next = next; here = refl; behind = e }
+both-parsed (fault why) rest y end e = let z : _≡_ {A = ℕ} 0 1 = cc in absurd (omega arith)
+
+-- Something whose place is known was read, or refused.
+pub record Placed {A : Type 0} (p : Parsed A) (next : ℕ) : Type 0 where
+  pub item : A
+  pub here : p ≡ parsed item next
+
+pub placed : {A : Type 0} (p : Parsed A) (next : ℕ) → place.Behind next ≡ placeOf p → Placed p next
+placed (parsed x after) next e = let same : after ≡ next = cc in record { item = x; here = rw same }
+placed (fault why) next e = let z : _≡_ {A = ℕ} 0 1 = cc in absurd (omega arith)
+
+pub refused : {A : Type 0} (p : Parsed A) (why : Refusal) → place.Refused why ≡ placeOf p → p ≡ fault why
+refused (parsed x after) why e = let z : _≡_ {A = ℕ} 0 1 = cc in absurd (omega arith)
+refused (fault other) why e = let same : other ≡ why = cc in ap fault same
+
+module _ {A : Type 0} (read : ℕ → Parsed A) where
+  -- The place behind a list does not depend on what was read before.
+  place-cons : (x : A) (p : Parsed (List A)) → placeOf (andThen p λ xs end. parsed (x ∷ xs) end) ≡ placeOf p
+  place-cons x (parsed xs end) = refl
+  place-cons x (fault why) = refl
+
+  -- A loop over the list: what is left to read gives what the whole gives.
+  abbrev pub Scanning : (count start left at : ℕ) → Type 0
+  Scanning count start left at = placeOf (readEach read left at) ≡ placeOf (readEach read count start)
+
+  module _ (count start left at : ℕ) (inv : Scanning count start left at) where
+    pub scan-parsed : (next : ℕ) → 0 < left → place.Behind next ≡ placeOf (read at) → Scanning count start (left - 1) next
+    unfolding readEach
+    scan-parsed next some e = let p = placed (read at) next e in go left some inv p
+      where
+        go : (left : ℕ) → 0 < left → Scanning count start left at → Placed (read at) next → Scanning count start (left - 1) next
+        go zero some inv p = absurd (omega arith)
+        go (suc left) some inv p =
+            let this : suc left - 1 ≡ left = omega arith in
+            rw this (sym (ap placeOf (then-parsed _ (p .here)) ∙ place-cons (p .item) (readEach read left next)) ∙ inv)
+
+    pub scan-fault : (why : Refusal) → 0 < left → place.Refused why ≡ placeOf (read at) → place.Refused why ≡ placeOf (readEach read count start)
+    unfolding readEach
+    scan-fault why some e = go left some inv
+      where
+        go : (left : ℕ) → 0 < left → Scanning count start left at → place.Refused why ≡ placeOf (readEach read count start)
+        go zero some inv = absurd (omega arith)
+        go (suc left) some inv = sym (ap placeOf (then-fault _ (refused (read at) why e))) ∙ inv
+
+    pub scan-last : left ≤ 0 → place.Behind at ≡ placeOf (readEach read count start)
+    unfolding readEach
+    scan-last none = go left none inv
+      where
+        go : (left : ℕ) → left ≤ 0 → Scanning count start left at → place.Behind at ≡ placeOf (readEach read count start)
+        go zero none inv = inv
+        go (suc left) none inv = absurd (omega arith)
+
+-- Every element of a list has a property.
+pub data Each {A : Type 0} (P : A → Type 0) : List A → Type 0 where
+  none : Each P []
+  more : {x : A} {xs : List A} → P x → Each P xs → Each P (x ∷ xs)
+
+pub each-at : {A : Type 0} {P : A → Type 0} {xs : List A} → Each P xs → (i : ℕ) (d : A) → i < length xs → P (getD xs i d)
+each-at Each.none i d below = absurd (omega arith)
+each-at (Each.more h hs) zero d below = h
+each-at (Each.more h hs) (suc i) d below = each-at hs i d (omega arith)
+
+pub each-map : {A B : Type 0} {P : B → Type 0} (f : A → B) (l : List A) → ((x : A) → P (f x)) → Each P (map f l)
+each-map f [] h = Each.none
+each-map f (x ∷ xs) h = Each.more (h x) (each-map f xs h)
+
+-- A list that was read: its length, a property of what is read, and the place behind it.
+module _ {A : Type 0} (read : ℕ → Parsed A) where
+  -- The first element, and the others.
+  pub record First (left at : ℕ) (list : List A) (end : ℕ) : Type 0 where
+    pub item : A
+    pub next : ℕ
+    pub others : List A
+    pub here : read at ≡ parsed item next
+    pub rest : readEach read left next ≡ parsed others end
+    pub whole : list ≡ item ∷ others
+
+  pub each-first : (left at : ℕ) (list : List A) (end : ℕ) → readEach read (suc left) at ≡ parsed list end → First left at list end
+  unfolding readEach
+  each-first left at list end e =
+      let first = both-parsed (read at) _ list end e in
+      let rest = both-parsed (readEach read left (first .next)) _ list end (first .behind) in
+      let last : parsed (first .item ∷ rest .item) (rest .next) ≡ parsed list end = rest .behind in
+      let same : rest .next ≡ end = cc in
+      record {
+        item = first .item;
+        next = first .next;
+        others = rest .item;
+        here = first .here;
+        rest = rw same at (rest .here);
+        whole = cc;
+      }
+
+  pub each-length : (count at : ℕ) (list : List A) (end : ℕ) → readEach read count at ≡ parsed list end → length list ≡ count
+  unfolding readEach
+  each-length zero at list end e = let none : list ≡ [] = cc in ap length none
+  each-length (suc left) at list end e =
+      let f = each-first left at list end e in
+      ap length (f .whole) ∙ ap suc (each-length left (f .next) (f .others) end (f .rest))
+
+  pub each-read : {P : A → Type 0} → ((at : ℕ) (x : A) (next : ℕ) → read at ≡ parsed x next → P x)
+      → (count at : ℕ) (list : List A) (end : ℕ) → readEach read count at ≡ parsed list end → Each P list
+  unfolding readEach
+  each-read h zero at list end e = let empty : list ≡ [] = cc in rw empty Each.none
+  each-read h (suc left) at list end e =
+      let f = each-first left at list end e in
+      rw (f .whole) (Each.more (h at (f .item) (f .next) (f .here)) (each-read h left (f .next) (f .others) end (f .rest)))
+
+  pub each-end : (most : ℕ) → ((at : ℕ) (x : A) (next : ℕ) → read at ≡ parsed x next → next ≤ most)
+      → (count at : ℕ) (list : List A) (end : ℕ) → at ≤ most → readEach read count at ≡ parsed list end → end ≤ most
+  unfolding readEach
+  each-end most h zero at list end within e = let same : at ≡ end = cc in omega arith
+  each-end most h (suc left) at list end within e =
+      let f = each-first left at list end e in
+      each-end most h left (f .next) (f .others) end (h at (f .item) (f .next) (f .here)) (f .rest)

@@ -1,0 +1,6 @@
+pub mod Marking
+pub mod Filling
+pub mod Putting
+pub mod Loading
+pub mod LoadedPool
+pub mod Theorems

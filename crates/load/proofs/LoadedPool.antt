@@ -1,0 +1,72 @@
+-- The words that load leaves, read: registers, links and values of the image, the free list, and that they are well-formed.
+use Prim.Native.Nat.{ℕ, zero, suc, _-_, _<_, _≤_}
+use native.Mathlib.Omega.{arith}
+use mathlib.Core.Path.{_≡_, refl, sym, _∙_}
+use mathlib.Core.List.{List}
+use lib.ListN.{length, getD}
+use lib.Dec.{leb}
+use borrow.Author.Tests.{le-leb, leb-true}
+use Rattle.pool.specs.Layout.{poolLength, cellCountOfLength, cellCount, cellLimit, count, register, cell}
+use Rattle.pool.specs.Retain.{freeList, freeCells, blankWords}
+use Rattle.pool.proofs.Sizes.{sized-length, same-count}
+use Rattle.pool.proofs.Retained.{length-retain, retain-count, retain-register}
+use Rattle.questions.proofs.RetainedPool.{Kept, retained-well-formed}
+use Rattle.pool.proofs.RetainedPool.{retained-same, retained-free-list}
+use Rattle.questions.proofs.WellFormed.{WellFormed}
+use Rattle.image.specs.Image.{Image}
+use Rattle.image.proofs.Reading.{each-at}
+use Rattle.image.proofs.Images.{LinksWithin}
+use Rattle.load.specs.Load.{putImage, loadedWords}
+use Rattle.load.proofs.Putting.{imageField, noCell}
+use Rattle.load.proofs.Loading.{Holds, image-holds}
+
+module _ (R m : ℕ) (i : Image) (few : length (i .cells) ≤ m) (all : length (i .registers) ≡ R) (w : List ℕ) (exact : length w ≡ poolLength R m) where
+  abbrev K : ℕ
+  K = length (i .cells)
+
+  -- The words before the cells beyond K are freed.
+  abbrev held : List ℕ
+  held = putImage R i (blankWords R m w)
+
+  holds : Holds R m i w held
+  holds = image-holds R m i few w all (omega arith)
+
+  room : poolLength R m ≤ length held
+  room = omega (arith, holds .len)
+
+  pub loaded-register : (k : ℕ) → k < R → register (loadedWords R m i w) k ≡ getD (i .registers) k 0
+  loaded-register k low = retain-register R m (λ j. leb j K) held room k low ∙ holds .registers k low
+
+  pub loaded-cell : (p f : ℕ) → p < length (i .cells) → f < 3 → cell R (loadedWords R m i w) (suc p) (suc f) ≡ imageField (getD (i .cells) p noCell) f
+  loaded-cell p f below hf =
+      retained-same R m (λ j. leb j K) held room (suc p) f (omega arith) (omega arith) (omega arith) (le-leb (suc p) K (omega arith))
+      ∙ holds .cells p f below hf
+
+  pub loaded-cells : 1 ≤ m → m ≤ cellLimit → cellCount R (loadedWords R m i w) ≡ m
+  unfolding count
+  loaded-cells low high =
+      let long : length (loadedWords R m i w) ≡ poolLength R m = length-retain R m (λ j. leb j K) held ∙ (holds .len ∙ exact) in
+      let cells : cellCountOfLength R (length (loadedWords R m i w)) ≡ m = rw long (sized-length R m low high) in
+      let first : count (loadedWords R m i w) ≡ m = retain-count R m (λ j. leb j K) held room ∙ holds .number in
+      same-count R (loadedWords R m i w) (first ∙ sym cells) ∙ cells
+
+  pub loaded-free : 1 ≤ m → freeList R m (loadedWords R m i w) ≡ freeCells (λ j. leb j (length (i .cells))) m 1
+  loaded-free some = retained-free-list R m (λ j. leb j K) held some room
+
+  -- Where the links are within the image they lead to nothing but kept cells.
+  pub loaded-well-formed : LinksWithin i → WellFormed R m (loadedWords R m i w)
+  loaded-well-formed links =
+      retained-well-formed R m (λ j. leb j K) held room
+      (λ k low. rw (holds .registers k low) (kept _ (each-at (links .registers) k 0 (omega arith)))) (λ j low high e. link j low (leb-true j K e))
+    where
+      kept : (x : ℕ) → x ≤ K → Kept m (λ j. leb j K) x
+      kept zero h = Kept.nil refl
+      kept (suc x) h = Kept.kept (omega arith) (omega arith) (le-leb (suc x) K h)
+
+      link : (j : ℕ) → 0 < j → j ≤ K → Kept m (λ l. leb l K) (cell R held j 1) × Kept m (λ l. leb l K) (cell R held j 2)
+      link zero low inside = absurd (omega arith)
+      link (suc p) low inside =
+          let c = each-at (links .cells) p noCell inside in (
+            rw (holds .cells p 0 inside (omega arith)) (kept _ (c .left-most)),
+            rw (holds .cells p 1 inside (omega arith)) (kept _ (c .right-most)),
+          )

@@ -1,0 +1,223 @@
+-- The words that load leaves: two lists of words that hold the same image are the same pool once its cells are retained.
+use Prim.Native.Nat.{ℕ, zero, suc, _+_, _-_, _/_, _%_, _<_, _≤_}
+use native.Mathlib.Omega.{arith}
+use native.Mathlib.Decide.{decLe, decLt, ℕ-discrete}
+use mathlib.Core.Path.{_≡_, refl, sym, ap, ap₂, _∙_}
+use mathlib.Core.List.{List, _++_}
+use mathlib.Core.Bool.{Bool, true, false, cond}
+use lib.ListN.{length, getD, take, drop, set, replicate, length-set, length-append, length-drop, length-replicate}
+use lib.Seq.{take-all, getD-set-same, getD-set-other, getD-append-add, getD-drop}
+use lib.Dec.{leb, ltb}
+use borrow.Author.Tests.{lt-ltb, le-leb, lt-leb, leb-true}
+use Rattle.leb128.specs.Leb128.{Bytes}
+use Rattle.pool.specs.Layout.{registerCount, firstRegister, firstCell, poolLength, cellCountOfLength, cellAt, register, setRegister, cell, state, setCount}
+use Rattle.pool.specs.Retain.{blankWords, retain, markedCell, sweepOf}
+use Rattle.answers.specs.Outcome.{refusalNumber}
+use Rattle.answers.specs.declared.Refusal.{Refusal}
+use Rattle.pool.proofs.Sizes.{Sized, length-sized}
+use Rattle.pool.proofs.Retained.{Elsewhere, retain-cong}
+use Rattle.pool.proofs.FreshPool.{blank-length}
+use Rattle.image.specs.declared.Scan.{Scan}
+use Rattle.image.specs.declared.Scan.the-variants as scan
+use Rattle.image.specs.Image.{Image, Parsed, parsed, fault, readCount, readLink, readCell, readEach, readImage}
+use Rattle.image.specs.Steps.{scanOf}
+use Rattle.image.proofs.Images.{image-read, image-few, image-registers, image-end, scanned, scanned-fault}
+use Rattle.load.specs.declared.Loaded.{Loaded}
+use Rattle.load.specs.Load.{putFields, putEach, putImage, loadedWords, loadImage, loadOf}
+use Rattle.load.specs.Steps.{WhereRead, sweepState, markStates}
+use Rattle.load.proofs.Putting.{imageField, noCell, cells-length, cells-at, cells-elsewhere, registers-length, registers-at, registers-elsewhere}
+use Rattle.load.proofs.Marking.{length-marks, marks-elsewhere, marks-state}
+
+-- The words v hold an image for a pool of n cells: N, the registers, and the fields of its cells. Behind the cells they are the words w.
+pub record Holds (R n : ℕ) (i : Image) (w v : List ℕ) : Type 0 where
+  pub len : length v ≡ length w
+  pub number : getD v 0 0 ≡ n
+  pub registers : (k : ℕ) → k < R → register v k ≡ getD (i .registers) k 0
+  pub cells : (p f : ℕ) → p < length (i .cells) → f < 3 → cell R v (suc p) (suc f) ≡ imageField (getD (i .cells) p noCell) f
+  pub behind : (k : ℕ) → poolLength R n ≤ k → getD v k 0 ≡ getD w k 0
+
+module _ (R n : ℕ) (i : Image) (few : length (i .cells) ≤ n) (w : List ℕ) where
+  -- Two such lists are the same pool.
+  pub retain-same : (u v : List ℕ) → Holds R n i w u → Holds R n i w v → (keep : ℕ → Bool)
+      → ((j : ℕ) → 0 < j → j ≤ n → keep j ≡ leb j (length (i .cells)))
+      → retain R n keep u ≡ retain R n (λ j. leb j (length (i .cells))) v
+  unfolding register
+  retain-same u v hu hv keep same =
+      retain-cong R n keep (λ j. leb j (length (i .cells))) u v (hu .len ∙ sym (hv .len)) same stay
+      (λ j f low high hf kept. field j f low (omega arith) (leb-true j (length (i .cells)) (sym (same j low high) ∙ kept)))
+    where
+      stay : (k : ℕ) → (k ≡ 1 → ⊥) → Elsewhere R n k → getD u k 0 ≡ getD v k 0
+      stay k other away = go (ℕ-discrete k 0) (decLt k (firstCell R)) (decLe (poolLength R n) k)
+        where
+          go : Dec (k ≡ 0) → Dec (k < firstCell R) → Dec (poolLength R n ≤ k) → getD u k 0 ≡ getD v k 0
+          go (yes first) low high = rw first (hu .number ∙ sym (hv .number))
+          go (no later) (yes low) high =
+              let place : k ≡ firstRegister + (k - firstRegister) = omega (arith, other, later) in
+              rw place (hu .registers (k - firstRegister) (omega arith) ∙ sym (hv .registers (k - firstRegister) (omega arith)))
+          go (no later) (no low) (yes high) = hu .behind k high ∙ sym (hv .behind k high)
+          go (no later) (no low) (no high) =
+              absurd (away (suc ((k - firstCell R) / 4)) ((k - firstCell R) % 4) (omega arith) (omega arith) (omega arith) (omega arith))
+
+      field : (j f : ℕ) → 0 < j → f < 3 → j ≤ length (i .cells) → cell R u j (suc f) ≡ cell R v j (suc f)
+      field zero f low hf inside = absurd (omega arith)
+      field (suc p) f low hf inside = hu .cells p f inside hf ∙ sym (hv .cells p f inside hf)
+
+  -- What stands where once the image is put into words v.
+  module _ (all : length (i .registers) ≡ R) (v : List ℕ) (room : poolLength R n ≤ length v) where
+    pub put-length : length (putImage R i v) ≡ length v
+    put-length = cells-length R 1 (i .cells) _ ∙ registers-length 0 (i .registers) v
+
+    put-elsewhere : (k : ℕ) → Elsewhere R n k → ((j : ℕ) → j < R → k ≡ firstRegister + j → ⊥) → getD (putImage R i v) k 0 ≡ getD v k 0
+    put-elsewhere k away apart =
+        cells-elsewhere R 1 (i .cells) _ n k (omega arith) (omega arith) away
+        ∙ registers-elsewhere 0 (i .registers) v k (λ j below. apart j (omega arith))
+
+    put-register : (k : ℕ) → k < R → register (putImage R i v) k ≡ getD (i .registers) k 0
+    unfolding register
+    put-register k low =
+        let this : 0 + k ≡ k = omega arith in
+        cells-elsewhere R 1 (i .cells) _ n (firstRegister + k) (omega arith) (omega arith) (λ j f hj top hf e. omega arith)
+        ∙ (rw this at (registers-at 0 (i .registers) v k (omega arith) (omega arith)))
+
+    put-field : (p f : ℕ) → p < length (i .cells) → f < 3 → cell R (putImage R i v) (suc p) (suc f) ≡ imageField (getD (i .cells) p noCell) f
+    put-field p f below hf =
+        let this : 1 + p ≡ suc p = omega arith in
+        let long = registers-length 0 (i .registers) v in
+        rw this at (cells-at R 1 (i .cells) (putEach setRegister 0 (i .registers) v) p f (omega arith) below hf (omega arith))
+
+    put-behind : (k : ℕ) → poolLength R n ≤ k → getD (putImage R i v) k 0 ≡ getD v k 0
+    put-behind k high = put-elsewhere k (λ j f hj top hf e. omega arith) (λ j low e. omega arith)
+
+  module _ (all : length (i .registers) ≡ R) (room : poolLength R n ≤ length w) where
+    -- The words of the definition hold the image.
+    pub image-holds : Holds R n i w (putImage R i (blankWords R n w))
+    unfolding setCount
+    image-holds =
+        let long = blank-length R n w room in
+        let enough : poolLength R n ≤ length (blankWords R n w) = omega arith in
+        record {
+          len = put-length all (blankWords R n w) enough ∙ long;
+          number =
+              put-elsewhere all (blankWords R n w) enough 0 (λ j f hj top hf e. omega arith) (λ j low e. omega arith)
+              ∙ getD-set-same (replicate (poolLength R n) 0 ++ drop (poolLength R n) w) 0 n 0
+              (simp (length-append, length-replicate, length-drop (poolLength R n) w) (omega arith));
+          registers = put-register all (blankWords R n w) enough;
+          cells = put-field all (blankWords R n w) enough;
+          behind = λ k high.
+              put-behind all (blankWords R n w) enough k high
+              ∙ (getD-set-other (replicate (poolLength R n) 0 ++ drop (poolLength R n) w) 0 k n 0 (λ e. omega arith) ∙ blank-behind k high);
+        }
+      where
+        blank-behind : (k : ℕ) → poolLength R n ≤ k → getD (replicate (poolLength R n) 0 ++ drop (poolLength R n) w) k 0 ≡ getD w k 0
+        blank-behind k high =
+            let m = poolLength R n in
+            let zeros : List ℕ = replicate m 0 in
+            let place : k ≡ length zeros + (k - m) = omega (arith, length-replicate {A = ℕ} m 0) in
+            let back : m + (k - m) ≡ k = omega arith in
+            ap (λ (x : ℕ). getD (zeros ++ drop m w) x 0) place
+            ∙ (getD-append-add zeros (drop m w) (k - m) 0 ∙ (getD-drop m w (k - m) 0 ∙ ap (λ (x : ℕ). getD w x 0) back))
+
+    -- So do the words that load has written before the sweep, and the cells of the image are marked.
+    abbrev written : List ℕ
+    written = markStates R (length (i .cells)) n (set (putImage R i w) 0 n)
+
+    written-elsewhere : (p : ℕ) → 0 < p → ((j : ℕ) → j < n → p ≡ cellAt R (suc j) 0 → ⊥) → getD written p 0 ≡ getD (putImage R i w) p 0
+    written-elsewhere p some away = marks-elsewhere R (length (i .cells)) n _ p away ∙ getD-set-other (putImage R i w) 0 p n 0 (λ e. omega arith)
+
+    written-holds : Holds R n i w written
+    unfolding register cell
+    written-holds =
+        let long = put-length all w room in
+        record {
+          len = length-marks R (length (i .cells)) n _ ∙ (length-set (putImage R i w) 0 n ∙ long);
+          number = marks-elsewhere R (length (i .cells)) n _ 0 (λ j below e. omega arith) ∙ getD-set-same (putImage R i w) 0 n 0 (omega arith);
+          registers = λ k low. written-elsewhere (firstRegister + k) (omega arith) (λ j below e. omega arith) ∙ put-register all w room k low;
+          cells = λ p f below hf.
+              written-elsewhere (cellAt R (suc p) (suc f)) (omega arith) (λ j less e. omega arith) ∙ put-field all w room p f below hf;
+          behind = λ k high. written-elsewhere k (omega arith) (λ j below e. omega arith) ∙ put-behind all w room k high;
+        }
+
+    written-marked : (j : ℕ) → 0 < j → j ≤ n → markedCell R written j ≡ leb j (length (i .cells))
+    written-marked j low high =
+        let long = put-length all w room in
+        go (decLe j (length (i .cells)))
+        (marks-state R (length (i .cells)) n (set (putImage R i w) 0 n) j low high (omega (arith, length-set (putImage R i w) 0 n)))
+      where
+        go : Dec (j ≤ length (i .cells)) → state R written j ≡ sweepState (length (i .cells)) j → markedCell R written j ≡ leb j (length (i .cells))
+        go (yes inside) e = simp (e, le-leb j (length (i .cells)) inside)
+        go (no outside) e = simp (e, lt-leb j (length (i .cells)) (omega arith))
+
+    pub written-loaded : retain R n (markedCell R written) written ≡ loadedWords R n i w
+    written-loaded = retain-same written _ written-holds image-holds (markedCell R written) written-marked
+
+-- The image is put where its parts are: nothing is said where K is refused.
+module _ (R n : ℕ) (bytes : List ℕ) where
+  pub fill-none : (why : Refusal) → readCount n bytes ≡ fault why → (i : Image) (end : ℕ) → readImage R n bytes ≡ parsed i end → ⊥
+  fill-none why none i end e =
+      let r = image-read R n bytes i end e in
+      let never : fault why ≡ parsed (length (i .cells)) (r .start) = sym none ∙ r .counted in
+      let z : _≡_ {A = ℕ} 0 1 = cc in omega arith
+
+  pub fill-made : (K start at : ℕ) (w w₁ w₂ : List ℕ) → readCount n bytes ≡ parsed K start
+      → WhereRead (readEach (readLink K bytes) R start) (λ links end. (w₁ ≡ putEach setRegister 0 links w) × (at ≡ end))
+      → WhereRead (readEach (readCell K bytes) K at) (λ list end. w₂ ≡ putEach (putFields R) 1 list w₁)
+      → WhereRead (readImage R n bytes) (λ i end. w₂ ≡ putImage R i w)
+  fill-made K start at w w₁ w₂ count links list i end e =
+      let r = image-read R n bytes i end e in
+      let same : parsed (length (i .cells)) (r .start) ≡ parsed K start = sym (r .counted) ∙ count in
+      let number : length (i .cells) ≡ K = cc in
+      let place : r .start ≡ start = cc in
+      let first = links (i .registers) (r .behind) (rw (number, place) at (r .registers)) in
+      let here : r .behind ≡ at = sym (first .1) in
+      let second = list (i .cells) end (rw (number, here) at (r .cells)) in
+      second ∙ ap (putEach (putFields R) 1 (i .cells)) (first .0)
+
+-- What load answers: no pool; a refused image; a whole one.
+module _ (w bytes : List ℕ) (n : ℕ) (cells : n ≡ cellCountOfLength registerCount (length w)) where
+  pub load-no-pool : (v : ℕ) → n ≡ 0 → v ≡ 1 → _≡_ {A = Loaded × List ℕ} (record { verdict = v; end = length bytes }, w) (loadOf w bytes)
+  load-no-pool v none e = simp (← cells, none, e)
+
+  module _ (some : n ≡ 0 → ⊥) where
+    pub load-sized : Sized registerCount (length w) n
+    load-sized = rw cells (length-sized registerCount (length w) (omega (arith, some)))
+
+    load-pool : (read : Parsed Image) → readImage registerCount n bytes ≡ read → loadOf w bytes ≡ loadImage registerCount n read (length bytes) w
+    load-pool read e = simp (← cells, lt-ltb 0 n (omega (arith, some)), e)
+
+    module _ (s : Scan) (says : s ≡ scanOf (readImage registerCount n bytes)) where
+      pub load-refused : (why : Refusal) (v : ℕ) → s ≡ scan.Refused why → v ≡ refusalNumber why
+          → _≡_ {A = Loaded × List ℕ} (record { verdict = v; end = length bytes }, w) (loadOf w bytes)
+      load-refused why v e number = sym (load-pool (fault why) (scanned-fault _ why (sym e ∙ says)) ∙ simp (← number))
+
+      pub load-whole : (K end : ℕ) (filled swept : List ℕ) (kept : ℕ) → s ≡ scan.Whole K end
+          → WhereRead (readImage registerCount n bytes) (λ i behind. filled ≡ putImage registerCount i w)
+          → _≡_ {A = ℕ × List ℕ} (kept, swept) (sweepOf registerCount n (markStates registerCount K n (set filled 0 n)))
+          → _≡_ {A = Loaded × List ℕ} (record { verdict = 0; end = end }, swept) (loadOf w bytes)
+      load-whole K end filled swept kept e fill sweep =
+          let i = scanned _ K end (sym e ∙ says) in
+          let r = image-read registerCount n bytes (i .image) end (i .whole) in
+          let put = fill (i .image) end (i .whole) in
+          let room : poolLength registerCount n ≤ length w = omega (arith, load-sized .exact) in
+          let words : swept ≡ loadedWords registerCount n (i .image) w =
+          ap (λ (x : ℕ × List ℕ). x .1)
+          (sweep ∙ ap₂ (λ (k : ℕ) (f : List ℕ). sweepOf registerCount n (markStates registerCount k n (set f 0 n))) (sym (i .number)) put)
+          ∙ written-loaded registerCount n (i .image) (image-few registerCount n bytes (i .image) end r) w
+          (image-registers registerCount n bytes (i .image) end r) room in
+          sym (load-pool _ (i .whole) ∙ ap (λ (l : List ℕ). (record { verdict = 0; end = end }, l)) (sym words))
+
+-- The image ends within the bytes.
+pub load-end : (w bytes : List ℕ) → Bytes bytes → loadOf w bytes .0 .end ≤ length bytes
+load-end w bytes byte = go (ltb 0 n) (readImage registerCount n bytes) refl
+  where
+    n : ℕ
+    n = cellCountOfLength registerCount (length w)
+
+    go : (t : Bool) (read : Parsed Image) → readImage registerCount n bytes ≡ read
+        → (cond t (loadImage registerCount n read (length bytes) w) (record { verdict = 1; end = length bytes }, w)) .0 .end ≤ length bytes
+    go false read e = omega arith
+    go true (fault why) e = omega arith
+    go true (parsed i end) e = image-end registerCount n bytes i end (image-read registerCount n bytes i end e) byte
+
+-- The part of the bytes from there on.
+pub load-part : (bytes : List ℕ) (end at : ℕ) → end ≡ at → take (length bytes - end) (drop end bytes) ≡ drop at bytes
+load-part bytes end at e = take-all (length bytes - end) (drop end bytes) (omega (arith, length-drop end bytes)) ∙ ap (λ (k : ℕ). drop k bytes) e

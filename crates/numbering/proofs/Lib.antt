@@ -1,0 +1,5 @@
+pub mod Numbering
+pub mod Walking
+pub mod Turns
+pub mod Listing
+pub mod Ordering

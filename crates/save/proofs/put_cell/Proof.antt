@@ -1,0 +1,74 @@
+-- `save::put_cell` meets its contract: its numbers are written one behind the other.
+use borrow.Author.Needs.{needs}
+use Rattle.save.proofs.put_cell.Statement.{statement}
+use Rattle.save.proofs.put_cell.Tie as tie
+use native.Mathlib.Omega.{arith}
+use mathlib.Core.List.{_++_}
+use lib.ListN.{length-append}
+use Rattle.leb128.specs.Leb128.{encode}
+use Rattle.save.proofs.ImageBytes.{put-append}
+
+put-number-requires : tie.Need-put-number-requires
+put-number-requires c κs =
+    let cell = c .before .before .args .cell in
+    let left = encode (cell .left) in
+    let right = encode (cell .right) in
+    omega (arith, c .before .before .pre, length-append (left ++ right) (encode (cell .value)), length-append left right)
+
+put-number-requires-2 : tie.Need-put-number-requires-2
+put-number-requires-2 c κs =
+    let at-left = c .before .before .before in
+    let at-start = at-left .before .before .before in
+    let left = encode (at-start .args .cell .left) in
+    let right = encode (at-start .args .cell .right) in
+    omega (
+      arith,
+      at-start .pre,
+      at-left .put-number .ensures .0,
+      at-left .put-number .kept .0,
+      length-append (left ++ right) (encode (at-start .args .cell .value)),
+      length-append left right,
+    )
+
+put-number-requires-3 : tie.Need-put-number-requires-3
+put-number-requires-3 c κs =
+    let at-right = c .before .before .before in
+    let at-left = at-right .before .before .before .before in
+    let at-start = at-left .before .before .before in
+    let left = encode (at-start .args .cell .left) in
+    let right = encode (at-start .args .cell .right) in
+    omega (
+      arith,
+      at-start .pre,
+      at-left .put-number .ensures .0,
+      at-left .put-number .kept .0,
+      at-right .put-number2 .ensures .0,
+      at-right .put-number2 .kept .0,
+      length-append (left ++ right) (encode (at-start .args .cell .value)),
+      length-append left right,
+    )
+
+same-length : tie.Need-same-length
+same-length c = search needs
+
+returns : tie.Need-returns
+returns c =
+    let at-value = c .before .before in
+    let at-right = at-value .before .before .before .before in
+    let at-left = at-right .before .before .before .before in
+    let at-start = at-left .before .before .before in
+    let left = encode (at-start .args .cell .left) in
+    let right = encode (at-start .args .cell .right) in
+    put-append (left ++ right) _ _ _ _ _ _ _ (omega (arith, at-start .pre))
+    (put-append left right _ _ _ _ _ _ (omega (arith, at-start .pre)) (at-left .put-number .ensures) (at-right .put-number2 .ensures))
+    (at-value .put-number3 .ensures)
+
+pub put-cell-spec : {M : Type 1} → statement M
+put-cell-spec =
+    tie.close
+    (tie.spec
+    put-number-requires
+    put-number-requires-2
+    put-number-requires-3
+    same-length
+    returns)
