@@ -7,7 +7,6 @@ use lib.ListN.{length, take, drop, length-append, length-drop, take-append-drop}
 use lib.Seq.{length-take-le, drop-append-seam, drop-drop}
 use borrow.Author.Tests.{le-leb}
 use Rattle.leb128.specs.Leb128.{encode}
-use Rattle.leb128.specs.declared.Number.the-variants as number
 use Rattle.leb128.proofs.Encoding.{encode-size}
 use Rattle.leb128.proofs.Theorems.{round-trip}
 use Rattle.answers.specs.declared.Refusal.{Refusal}

@@ -2,15 +2,15 @@
 use Prim.Native.Nat.{ℕ, zero, suc, _+_, _-_, _/_, _%_, _<_, _≤_}
 use native.Mathlib.Omega.{arith}
 use native.Mathlib.Decide.{decLe, decLt, ℕ-discrete}
-use mathlib.Core.Path.{_≡_, refl, sym, ap, ap₂, _∙_}
+use mathlib.Core.Path.{_≡_, refl, sym, ap, subst, _∙_}
 use mathlib.Core.List.{List, _++_}
 use mathlib.Core.Bool.{Bool, true, false, cond}
 use lib.ListN.{length, getD, take, drop, set, replicate, length-set, length-append, length-drop, length-replicate}
 use lib.Seq.{take-all, getD-set-same, getD-set-other, getD-append-add, getD-drop}
 use lib.Dec.{leb, ltb}
-use borrow.Author.Tests.{lt-ltb, le-leb, lt-leb, leb-true}
+use borrow.Author.Tests.{lt-ltb, leb-true}
 use Rattle.leb128.specs.Leb128.{Bytes}
-use Rattle.pool.specs.Layout.{registerCount, firstRegister, firstCell, poolLength, cellCountOfLength, cellAt, register, setRegister, cell, state, setCount}
+use Rattle.pool.specs.Layout.{registerCount, firstRegister, firstCell, poolLength, cellCountOfLength, cellAt, register, setRegister, cell, setCount}
 use Rattle.pool.specs.Retain.{blankWords, retain, markedCell, sweepOf}
 use Rattle.answers.specs.Outcome.{refusalNumber}
 use Rattle.answers.specs.declared.Refusal.{Refusal}
@@ -24,9 +24,8 @@ use Rattle.image.specs.Steps.{scanOf}
 use Rattle.image.proofs.Images.{image-read, image-few, image-registers, image-end, scanned, scanned-fault}
 use Rattle.load.specs.declared.Loaded.{Loaded}
 use Rattle.load.specs.Load.{putFields, putEach, putImage, loadedWords, loadImage, loadOf}
-use Rattle.load.specs.Steps.{WhereRead, sweepState, markStates}
+use Rattle.load.specs.Steps.{WhereRead, MarkedFirst}
 use Rattle.load.proofs.Putting.{imageField, noCell, cells-length, cells-at, cells-elsewhere, registers-length, registers-at, registers-elsewhere}
-use Rattle.load.proofs.Marking.{length-marks, marks-elsewhere, marks-state}
 
 -- The words v hold an image for a pool of n cells: N, the registers, and the fields of its cells. Behind the cells they are the words w.
 pub record Holds (R n : ℕ) (i : Image) (w v : List ℕ) : Type 0 where
@@ -117,38 +116,26 @@ module _ (R n : ℕ) (i : Image) (few : length (i .cells) ≤ n) (w : List ℕ) 
             ap (λ (x : ℕ). getD (zeros ++ drop m w) x 0) place
             ∙ (getD-append-add zeros (drop m w) (k - m) 0 ∙ (getD-drop m w (k - m) 0 ∙ ap (λ (x : ℕ). getD w x 0) back))
 
-    -- So do the words that load has written before the sweep, and the cells of the image are marked.
-    abbrev written : List ℕ
-    written = markStates R (length (i .cells)) n (set (putImage R i w) 0 n)
+    -- So do the words that load has written before the sweep, in which the cells of the image are marked.
+    module _ (written : List ℕ) (marks : MarkedFirst R (length (i .cells)) n (set (putImage R i w) 0 n) written) where
+      written-elsewhere : (p : ℕ) → 0 < p → ((j : ℕ) → 0 < j → j ≤ n → p ≡ cellAt R j 0 → ⊥) → getD written p 0 ≡ getD (putImage R i w) p 0
+      written-elsewhere p some away = marks .others p away ∙ getD-set-other (putImage R i w) 0 p n 0 (λ e. omega arith)
 
-    written-elsewhere : (p : ℕ) → 0 < p → ((j : ℕ) → j < n → p ≡ cellAt R (suc j) 0 → ⊥) → getD written p 0 ≡ getD (putImage R i w) p 0
-    written-elsewhere p some away = marks-elsewhere R (length (i .cells)) n _ p away ∙ getD-set-other (putImage R i w) 0 p n 0 (λ e. omega arith)
+      written-holds : Holds R n i w written
+      unfolding register cell
+      written-holds =
+          let long = put-length all w room in
+          record {
+            len = marks .len ∙ (length-set (putImage R i w) 0 n ∙ long);
+            number = marks .others 0 (λ j low high e. omega arith) ∙ getD-set-same (putImage R i w) 0 n 0 (omega arith);
+            registers = λ k low. written-elsewhere (firstRegister + k) (omega arith) (λ j some high e. omega arith) ∙ put-register all w room k low;
+            cells = λ p f below hf.
+                written-elsewhere (cellAt R (suc p) (suc f)) (omega arith) (λ j some high e. omega arith) ∙ put-field all w room p f below hf;
+            behind = λ k high. written-elsewhere k (omega arith) (λ j some low e. omega arith) ∙ put-behind all w room k high;
+          }
 
-    written-holds : Holds R n i w written
-    unfolding register cell
-    written-holds =
-        let long = put-length all w room in
-        record {
-          len = length-marks R (length (i .cells)) n _ ∙ (length-set (putImage R i w) 0 n ∙ long);
-          number = marks-elsewhere R (length (i .cells)) n _ 0 (λ j below e. omega arith) ∙ getD-set-same (putImage R i w) 0 n 0 (omega arith);
-          registers = λ k low. written-elsewhere (firstRegister + k) (omega arith) (λ j below e. omega arith) ∙ put-register all w room k low;
-          cells = λ p f below hf.
-              written-elsewhere (cellAt R (suc p) (suc f)) (omega arith) (λ j less e. omega arith) ∙ put-field all w room p f below hf;
-          behind = λ k high. written-elsewhere k (omega arith) (λ j below e. omega arith) ∙ put-behind all w room k high;
-        }
-
-    written-marked : (j : ℕ) → 0 < j → j ≤ n → markedCell R written j ≡ leb j (length (i .cells))
-    written-marked j low high =
-        let long = put-length all w room in
-        go (decLe j (length (i .cells)))
-        (marks-state R (length (i .cells)) n (set (putImage R i w) 0 n) j low high (omega (arith, length-set (putImage R i w) 0 n)))
-      where
-        go : Dec (j ≤ length (i .cells)) → state R written j ≡ sweepState (length (i .cells)) j → markedCell R written j ≡ leb j (length (i .cells))
-        go (yes inside) e = simp (e, le-leb j (length (i .cells)) inside)
-        go (no outside) e = simp (e, lt-leb j (length (i .cells)) (omega arith))
-
-    pub written-loaded : retain R n (markedCell R written) written ≡ loadedWords R n i w
-    written-loaded = retain-same written _ written-holds image-holds (markedCell R written) written-marked
+      pub written-loaded : retain R n (markedCell R written) written ≡ loadedWords R n i w
+      written-loaded = retain-same written _ written-holds image-holds (markedCell R written) (marks .marked)
 
 -- The image is put where its parts are: nothing is said where K is refused.
 module _ (R n : ℕ) (bytes : List ℕ) where
@@ -189,20 +176,22 @@ module _ (w bytes : List ℕ) (n : ℕ) (cells : n ≡ cellCountOfLength registe
           → _≡_ {A = Loaded × List ℕ} (record { verdict = v; end = length bytes }, w) (loadOf w bytes)
       load-refused why v e number = sym (load-pool (fault why) (scanned-fault _ why (sym e ∙ says)) ∙ simp (← number))
 
-      pub load-whole : (K end : ℕ) (filled swept : List ℕ) (kept : ℕ) → s ≡ scan.Whole K end
+      pub load-whole : (K end : ℕ) (filled marked swept : List ℕ) (kept : ℕ) → s ≡ scan.Whole K end
           → WhereRead (readImage registerCount n bytes) (λ i behind. filled ≡ putImage registerCount i w)
-          → _≡_ {A = ℕ × List ℕ} (kept, swept) (sweepOf registerCount n (markStates registerCount K n (set filled 0 n)))
+          → MarkedFirst registerCount K n (set filled 0 n) marked → _≡_ {A = ℕ × List ℕ} (kept, swept) (sweepOf registerCount n marked)
           → _≡_ {A = Loaded × List ℕ} (record { verdict = 0; end = end }, swept) (loadOf w bytes)
-      load-whole K end filled swept kept e fill sweep =
+      load-whole K end filled marked swept kept e fill marks sweep =
           let i = scanned _ K end (sym e ∙ says) in
           let r = image-read registerCount n bytes (i .image) end (i .whole) in
           let put = fill (i .image) end (i .whole) in
           let room : poolLength registerCount n ≤ length w = omega (arith, load-sized .exact) in
+          let first : MarkedFirst registerCount (length (i .image .cells)) n (set (putImage registerCount (i .image) w) 0 n) marked =
+          subst (λ (k : ℕ). MarkedFirst registerCount k n (set (putImage registerCount (i .image) w) 0 n) marked) (sym (i .number))
+          (subst (λ (f : List ℕ). MarkedFirst registerCount K n (set f 0 n) marked) put marks) in
           let words : swept ≡ loadedWords registerCount n (i .image) w =
-          ap (λ (x : ℕ × List ℕ). x .1)
-          (sweep ∙ ap₂ (λ (k : ℕ) (f : List ℕ). sweepOf registerCount n (markStates registerCount k n (set f 0 n))) (sym (i .number)) put)
+          ap (λ (x : ℕ × List ℕ). x .1) sweep
           ∙ written-loaded registerCount n (i .image) (image-few registerCount n bytes (i .image) end r) w
-          (image-registers registerCount n bytes (i .image) end r) room in
+          (image-registers registerCount n bytes (i .image) end r) room marked first in
           sym (load-pool _ (i .whole) ∙ ap (λ (l : List ℕ). (record { verdict = 0; end = end }, l)) (sym words))
 
 -- The image ends within the bytes.

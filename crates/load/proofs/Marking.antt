@@ -1,58 +1,47 @@
--- The states that load writes before the sweep: the turns of its loop, and what the words hold afterwards.
-use Prim.Native.Nat.{ℕ, zero, suc, _-_, _<_, _≤_}
+-- The states that load writes before the sweep: the turns of its loop, from cell n down.
+use Prim.Native.Nat.{ℕ, _-_, _<_, _≤_}
 use native.Mathlib.Omega.{arith}
-use native.Mathlib.Decide.{decLe}
+use native.Mathlib.Decide.{ℕ-discrete}
 use mathlib.Core.Path.{_≡_, refl, _∙_}
 use mathlib.Core.List.{List}
 use lib.ListN.{length, getD}
 use lib.Seq.{getD-set-other}
-use Rattle.pool.specs.Layout.{poolLength, cellAt, setCell, state}
-use Rattle.pool.proofs.Laws.{length-setCell, cell-same, cell-other}
-use Rattle.load.specs.Steps.{sweepState, markStates}
+use lib.Dec.{leb}
+use Rattle.pool.specs.Layout.{cellAt, setCell}
+use Rattle.pool.specs.Retain.{markedCell}
+use Rattle.pool.proofs.Laws.{length-setCell, cell-other}
+use Rattle.load.specs.Steps.{MarkedFirst}
 
-module _ (R k : ℕ) where
-  pub marks-turn : (i s : ℕ) (w w' : List ℕ) → 0 < i → s ≡ sweepState k i → w' ≡ setCell R w i 0 s
-      → markStates R k (i - 1) w' ≡ markStates R k i w
-  unfolding markStates
-  marks-turn zero s w w' some state write = absurd (omega arith)
-  marks-turn (suc i) s w w' some state write = let this : suc i - 1 ≡ i = omega arith in rw (this, write, state)
+-- The cells above i have their states.
+pub record Marking (R k n : ℕ) (w₀ w : List ℕ) (i : ℕ) : Type 0 where
+  pub few : i ≤ n
+  pub len : length w ≡ length w₀
+  pub marked : (j : ℕ) → i < j → j ≤ n → markedCell R w j ≡ leb j k
+  pub others : (p : ℕ) → ((j : ℕ) → 0 < j → j ≤ n → p ≡ cellAt R j 0 → ⊥) → getD w p 0 ≡ getD w₀ p 0
 
-  pub marks-last : (i : ℕ) (w : List ℕ) → i ≤ 0 → w ≡ markStates R k i w
-  unfolding markStates
-  marks-last zero w none = refl
-  marks-last (suc i) w none = absurd (omega arith)
+module _ (R k n : ℕ) (w₀ : List ℕ) where
+  pub marking-first : Marking R k n w₀ w₀ n
+  marking-first = record { few = omega arith; len = refl; marked = λ j low high. absurd (omega arith); others = λ p away. refl }
 
-  -- Words of the same length.
-  pub length-marks : (i : ℕ) (w : List ℕ) → length (markStates R k i w) ≡ length w
-  unfolding markStates
-  length-marks zero w = refl
-  length-marks (suc i) w = length-marks i _ ∙ length-setCell R w (suc i) 0 _
+  module _ (w : List ℕ) (i : ℕ) (m : Marking R k n w₀ w i) where
+    pub marking-turn : (s : ℕ) (w′ : List ℕ) → 0 < i → w′ ≡ setCell R w i 0 s → markedCell R (setCell R w i 0 s) i ≡ leb i k
+        → Marking R k n w₀ w′ (i - 1)
+    unfolding setCell
+    marking-turn s w′ some write here =
+        let few = m .few in
+        rw write
+        (record {
+          few = omega arith;
+          len = length-setCell R w i 0 s ∙ m .len;
+          marked = λ j low high. at j low high (ℕ-discrete j i);
+          others = λ p away. getD-set-other w (cellAt R i 0) p s 0 (away i some few) ∙ m .others p away;
+        })
+      where
+        at : (j : ℕ) → i - 1 < j → j ≤ n → Dec (j ≡ i) → markedCell R (setCell R w i 0 s) j ≡ leb j k
+        at j low high (yes e) = rw e here
+        at j low high (no apart) =
+            rw (cell-other R w i 0 s j 0 some (omega arith) (omega arith) (omega arith) (λ e. apart (omega arith)))
+            (m .marked j (omega (arith, apart)) high)
 
-  -- A word that is none of these states stays.
-  pub marks-elsewhere : (i : ℕ) (w : List ℕ) (p : ℕ) → ((j : ℕ) → j < i → p ≡ cellAt R (suc j) 0 → ⊥)
-      → getD (markStates R k i w) p 0 ≡ getD w p 0
-  unfolding markStates setCell
-  marks-elsewhere zero w p away = refl
-  marks-elsewhere (suc i) w p away =
-      marks-elsewhere i _ p (λ j below. away j (omega arith)) ∙ getD-set-other w (cellAt R (suc i) 0) p _ 0 (away i (omega arith))
-
-  -- The states of cells 1 to i are those for the sweep.
-  pub marks-state : (i : ℕ) (w : List ℕ) (j : ℕ) → 0 < j → j ≤ i → poolLength R i ≤ length w
-      → state R (markStates R k i w) j ≡ sweepState k j
-  unfolding markStates
-  marks-state i w j low high room = go i w high room
-    where
-      stay : (i : ℕ) (w : List ℕ) → i < j → state R (markStates R k i w) j ≡ state R w j
-      stay zero w less = refl
-      stay (suc i) w less =
-          stay i _ (omega arith) ∙ cell-other R w (suc i) 0 _ j 0 (omega arith) (omega arith) low (omega arith) (λ e. omega arith)
-
-      go : (i : ℕ) (w : List ℕ) → j ≤ i → poolLength R i ≤ length w → state R (markStates R k i w) j ≡ sweepState k j
-      go zero w high room = absurd (omega arith)
-      go (suc i) w high room =
-          elim (decLe j i) [
-            | yes less ↦ go i _ less (omega (arith, length-setCell R w (suc i) 0 (sweepState k (suc i))))
-            | no above ↦
-                let this : suc i ≡ j = omega arith in
-                stay i _ (omega arith) ∙ (rw (← this) (cell-same R w (suc i) 0 _ (omega arith) (omega arith) room))
-          ]
+    pub marking-last : i ≤ 0 → MarkedFirst R k n w₀ w
+    marking-last none = record { len = m .len; marked = λ j low high. m .marked j (omega arith) high; others = m .others }

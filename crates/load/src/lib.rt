@@ -9,7 +9,7 @@ ghost use lib.ListN.{length};
 ghost use Rattle.pool.specs.Layout.{registerCount, poolLength, setRegister};
 ghost use Rattle.image.specs.Image.{readLink, readCell, readEach, readImage};
 ghost use Rattle.load.specs.Load.{putFields, putEach, putImage, loadOf, Handed};
-ghost use Rattle.load.specs.Steps.{WhereRead, sweepState, markStates};
+ghost use Rattle.load.specs.Steps.{WhereRead, MarkedFirst};
 
 // What load answers: 0 or the refusal's number, and where the bytes behind the image start.
 pub struct Loaded {
@@ -96,22 +96,20 @@ fn fill(words: &mut [u32], bytes: &[u8], n: u32)
     fill_cells(words, bytes, at, value);
 }
 
-// The state by which the sweep keeps the first k cells and frees the others.
-fn state_of(i: u32, k: u32) -> u32
-    ensures { λ r. ⌜ r ≡ sweepState k i ⌝ }
-{
-    if i <= k { Pool::MARKED } else { Pool::FREE }
-}
-
-// Marks the first k of n cells for the sweep.
+// Marks the first k of n cells for the sweep, and no other.
 fn mark_first(words: &mut [u32], n: u32, k: u32)
     requires { ⌜ poolLength registerCount n ≤ length (now words) ⌝ }
-    ensures { λ _. ⌜ now (words .exit) ≡ markStates registerCount k n (now (words .entry)) ⌝ }
+    ensures { λ _. ⌜ MarkedFirst registerCount k n (now (words .entry)) (now (words .exit)) ⌝ }
 {
     let mut i = n;
     while 0 < i {
-        pool::write_cell(words, i, Pool::STATE, state_of(i, k));
-        i -= 1;
+        if i <= k {
+            pool::write_cell(words, i, Pool::STATE, Pool::MARKED);
+            i -= 1;
+        } else {
+            pool::write_cell(words, i, Pool::STATE, Pool::FREE);
+            i -= 1;
+        }
     }
 }
 

@@ -3,12 +3,11 @@ use borrow.Author.Needs.{needs}
 use Rattle.load.proofs.load_at.Statement.{statement}
 use Rattle.load.proofs.load_at.Tie as tie
 use native.Mathlib.Omega.{arith}
-use mathlib.Core.Path.{ap, _∙_}
+use mathlib.Core.Path.{_∙_}
 use mathlib.Core.List.{[]}
 use lib.ListN.{length, length-set}
 use denote.Ref.{now}
 use Rattle.pool.specs.Layout.{registerCount}
-use Rattle.pool.specs.Retain.{sweepOf}
 use Rattle.pool.proofs.Sizes.{Sized}
 use Rattle.load.proofs.Loading.{load-no-pool, load-sized, load-refused, load-whole}
 
@@ -80,8 +79,8 @@ returns-3 c =
     let at-scan = at-fill .before .before .before .before .before in
     let a = at-scan .before .before .before .before .before .args in
     load-whole (now (a .words)) (now (a .bytes)) _ (at-scan .before .before .cell-count-of-length .ensures) (at-scan .before .if1 .left) _
-    (at-scan .scan-image .ensures) _ _ (at-fill .fill .last .0) _ _ (at-fill .before .before .before .cells .given .1) (at-fill .fill .ensures)
-    (at-sweep .sweep .ensures ∙ ap (sweepOf registerCount _) (at-mark .mark-first .ensures))
+    (at-scan .scan-image .ensures) _ _ (at-fill .fill .last .0) (at-mark .mark-first .last .0) _ _ (at-fill .before .before .before .cells .given .1)
+    (at-fill .fill .ensures) (at-mark .mark-first .ensures) (at-sweep .sweep .ensures)
 
 pub load-at-spec : {M : Type 1} → statement M
 load-at-spec =

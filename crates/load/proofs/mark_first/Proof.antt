@@ -1,30 +1,23 @@
--- `load::mark_first` meets its contract: what is left to mark gives the end; i falls.
-use borrow.Author.Needs.{needs}
+-- `load::mark_first` meets its contract: the cells above i have their states (`Marking`); i falls.
 use Rattle.load.proofs.mark_first.Statement.{statement}
 use Rattle.load.proofs.mark_first.Tie as tie
-use Prim.Native.Nat.{_≤_}
 use native.Mathlib.Omega.{arith}
-use mathlib.Core.Path.{_≡_, refl, _∙_}
-use lib.ListN.{length}
+use borrow.Author.Tests.{le-leb, lt-leb}
 use Rattle.pool.specs.Layout.{registerCount}
-use Rattle.load.specs.Steps.{markStates}
-use Rattle.load.proofs.Marking.{marks-turn, marks-last}
+use Rattle.pool.proofs.Laws.{cell-same}
+use Rattle.load.proofs.Marking.{Marking, marking-first, marking-turn, marking-last}
 
 abbrev Inv-loop : tie.InvT-loop
-Inv-loop words₀ n k i₀ words i =
-    (i ≤ n) × (length words ≡ length words₀) × (markStates registerCount k i words ≡ markStates registerCount k n words₀)
+Inv-loop words₀ n k i₀ words i = Marking registerCount k n words₀ words i
 
 abbrev μ-loop : tie.MeasureT-loop
 μ-loop words₀ n k i₀ words i = i
 
 loop-holds : tie.Need-loop-holds Inv-loop μ-loop
-loop-holds c = (omega arith, refl, refl)
-
-state-of-requires : tie.Need-state-of-requires Inv-loop μ-loop
-state-of-requires c κs = search needs
+loop-holds c = marking-first registerCount _ _ _
 
 write-cell-requires : tie.Need-write-cell-requires Inv-loop μ-loop
-write-cell-requires c κs = omega (arith, c .before .before .before .loop .inv)
+write-cell-requires c κs = let at-loop = c .before .before .before in omega (arith, at-loop .loop .inv .few, at-loop .loop .inv .len, at-loop .before .before .pre)
 
 sub-i : tie.Need-sub-i Inv-loop μ-loop
 sub-i c = omega arith
@@ -34,19 +27,38 @@ loop-less c = omega arith
 
 loop-again : tie.Need-loop-again Inv-loop μ-loop
 loop-again c =
-    let l = c .before .before .before .before .before .before in (
-      omega arith,
-      c .before .before .write-cell .kept .0 ∙ l .loop .inv .1,
-      marks-turn registerCount _ _ _ _ _ (c .before .before .before .before .before .loop-test .taken) (c .before .before .before .state-of .ensures)
-          (c .before .before .write-cell .ensures)
-          ∙ l .loop .inv .2,
-    )
+    let at-write = c .before .before in
+    let at-test = at-write .before .before in
+    let at-loop = at-test .before .before in
+    let some = at-test .before .loop-test .taken in
+    let m = at-loop .loop .inv in
+    marking-turn registerCount _ _ _ _ _ m _ _ some (at-write .write-cell .ensures)
+    (rw (cell-same registerCount (at-loop .loop .words) _ 0 _ some (omega arith) (omega (arith, m .few, m .len, at-loop .before .before .pre)), le-leb _ _ (at-test .if1 .taken)))
+
+write-cell-requires-2 : tie.Need-write-cell-requires-2 Inv-loop μ-loop
+write-cell-requires-2 c κs = let at-loop = c .before .before .before in omega (arith, at-loop .loop .inv .few, at-loop .loop .inv .len, at-loop .before .before .pre)
+
+sub-i-2 : tie.Need-sub-i-2 Inv-loop μ-loop
+sub-i-2 c = omega arith
+
+loop-less-2 : tie.Need-loop-less-2 Inv-loop μ-loop
+loop-less-2 c = omega arith
+
+loop-again-2 : tie.Need-loop-again-2 Inv-loop μ-loop
+loop-again-2 c =
+    let at-write = c .before .before in
+    let at-test = at-write .before .before in
+    let at-loop = at-test .before .before in
+    let some = at-test .before .loop-test .taken in
+    let m = at-loop .loop .inv in
+    marking-turn registerCount _ _ _ _ _ m _ _ some (at-write .write-cell2 .ensures)
+    (rw (cell-same registerCount (at-loop .loop .words) _ 0 _ some (omega arith) (omega (arith, m .few, m .len, at-loop .before .before .pre)), lt-leb _ _ (at-test .if1 .left)))
 
 same-length : tie.Need-same-length Inv-loop μ-loop
-same-length c = c .before .loop .inv .1
+same-length c = c .before .loop .inv .len
 
 returns : tie.Need-returns Inv-loop μ-loop
-returns c = marks-last registerCount _ _ _ (c .loop-test .left) ∙ c .before .loop .inv .2
+returns c = marking-last registerCount _ _ _ _ _ (c .before .loop .inv) (omega arith)
 
 pub mark-first-spec : {M : Type 1} → statement M
 mark-first-spec =
@@ -55,10 +67,13 @@ mark-first-spec =
     Inv-loop
     μ-loop
     loop-holds
-    state-of-requires
     write-cell-requires
     sub-i
     loop-less
     loop-again
+    write-cell-requires-2
+    sub-i-2
+    loop-less-2
+    loop-again-2
     same-length
     returns)
