@@ -13,11 +13,11 @@ abbrev μ-loop : tie.MeasureT-loop
 μ-loop words₀ n visits₀ k₀ words visits k = registerCount - k
 
 loop-holds : tie.Need-loop-holds Inv-loop μ-loop
-loop-holds c = marking-first registerCount _ _ (c .before .pre .0) (c .before .pre .1)
+loop-holds c = marking-first _ _ _ (c .before .pre .0) (c .before .pre .1)
 
 read-register-requires : tie.Need-read-register-requires Inv-loop μ-loop
 read-register-requires c κs =
-    (c .before .loop-test .taken, omega (arith, c .before .before .before .before .pre .1, marking-length registerCount _ _ _ _ _ (c .before .before .loop .inv)))
+    (c .before .loop-test .taken, omega (arith, c .before .before .before .before .pre .1, marking-length _ _ _ _ _ _ (c .before .before .loop .inv)))
 
 visit-requires : tie.Need-visit-requires Inv-loop μ-loop
 visit-requires c κs =
@@ -25,7 +25,7 @@ visit-requires c κs =
     let at-test = at-read-register .before .before in
     let at-turn = at-test .before in
     let at-start = at-turn .before .before in
-    marking-visit registerCount _ _ (at-start .pre .0) (at-start .pre .1) _ _ _ _ _ (at-turn .loop .inv) (at-test .loop-test .taken) (at-read-register .read-register .ensures) (omega (arith, at-start .pre .2)) (omega (arith, at-start .pre .2))
+    marking-visit _ _ _ (at-start .pre .0) (at-start .pre .1) _ _ _ _ _ (at-turn .loop .inv) (at-test .loop-test .taken) (at-read-register .read-register .ensures) (omega (arith, at-start .pre .2)) (omega (arith, at-start .pre .2))
 
 add-k : tie.Need-add-k Inv-loop μ-loop
 add-k c = omega arith
@@ -40,14 +40,14 @@ loop-again c =
     let at-test = at-read-register .before .before in
     let at-turn = at-test .before in
     let at-start = at-turn .before .before in
-    marking-next registerCount _ _ (at-start .pre .0) (at-start .pre .1) _ _ _ _ _ (at-turn .loop .inv) (at-test .loop-test .taken) (at-read-register .read-register .ensures) (omega (arith, at-start .pre .2)) (omega (arith, at-start .pre .2)) _ _ (at-visit .visit .ensures)
+    marking-next _ _ _ (at-start .pre .0) (at-start .pre .1) _ _ _ _ _ (at-turn .loop .inv) (at-test .loop-test .taken) (at-read-register .read-register .ensures) (omega (arith, at-start .pre .2)) (omega (arith, at-start .pre .2)) _ _ (at-visit .visit .ensures)
 
 same-length : tie.Need-same-length Inv-loop μ-loop
-same-length c = marking-length registerCount _ _ _ _ _ (c .before .loop .inv)
+same-length c = marking-length _ _ _ _ _ _ (c .before .loop .inv)
 
 returns : tie.Need-returns Inv-loop μ-loop
 returns c =
-    marking-last registerCount _ _ (c .before .before .before .pre .0) (c .before .before .before .pre .1) _ _ _ (c .before .loop .inv) (c .loop-test .left)
+    marking-last _ _ _ (c .before .before .before .pre .0) (c .before .before .before .pre .1) _ _ _ (c .before .loop .inv) (c .loop-test .left)
 
 pub mark-spec : {M : Type 1} → statement M
 mark-spec =

@@ -14,7 +14,7 @@ abbrev μ-loop : tie.MeasureT-loop
 μ-loop words₀ n visits₀ k₀ words visits k = registerCount - k
 
 loop-holds : tie.Need-loop-holds Inv-loop μ-loop
-loop-holds c = marking-first registerCount _ _ (c .before .pre .0) (c .before .pre .1)
+loop-holds c = marking-first _ _ _ (c .before .pre .0) (c .before .pre .1)
 
 read-register-requires : tie.Need-read-register-requires Inv-loop μ-loop
 read-register-requires c κs = (c .before .loop-test .taken, omega (arith, c .before .before .before .before .pre .1, c .before .before .loop .inv .len))
@@ -22,7 +22,7 @@ read-register-requires c κs = (c .before .loop-test .taken, omega (arith, c .be
 is-unmarked-requires : tie.Need-is-unmarked-requires Inv-loop μ-loop
 is-unmarked-requires c κs =
     let s = c .before .before .before .before .before .before in
-    omega (arith, s .pre .1, c .before .before .before .before .loop .inv .len, marking-bound registerCount _ _ (s .pre .0) (s .pre .1) _ _ _ _ (c .before .before .before .before .loop .inv) (c .before .before .before .loop-test .taken) (c .before .read-register .ensures))
+    omega (arith, s .pre .1, c .before .before .before .before .loop .inv .len, marking-bound _ _ _ (s .pre .0) (s .pre .1) _ _ _ _ (c .before .before .before .before .loop .inv) (c .before .before .before .loop-test .taken) (c .before .read-register .ensures))
 
 mark-from-requires : tie.Need-mark-from-requires Inv-loop μ-loop
 mark-from-requires c κs =
@@ -32,7 +32,7 @@ mark-from-requires c κs =
     let at-loop-test = at-read-register .before .before in
     let at-loop = at-loop-test .before in
     let at-start = at-loop .before .before in (
-      marking-ends registerCount _ _ (at-start .pre .0) (at-start .pre .1) _ _ _ _ (at-loop .loop .inv) (at-loop-test .loop-test .taken) (at-read-register .read-register .ensures) (at-start .pre .2) (sym (at-is-unmarked .is-unmarked .ensures) ∙ at-if1 .if1 .taken),
+      marking-ends _ _ _ (at-start .pre .0) (at-start .pre .1) _ _ _ _ (at-loop .loop .inv) (at-loop-test .loop-test .taken) (at-read-register .read-register .ensures) (at-start .pre .2) (sym (at-is-unmarked .is-unmarked .ensures) ∙ at-if1 .if1 .taken),
       (omega (arith, at-start .pre .1, at-loop .loop .inv .len), at-start .pre .2),
     )
 
@@ -51,7 +51,7 @@ loop-again c =
     let at-loop-test = at-read-register .before .before in
     let at-loop = at-loop-test .before in
     let at-start = at-loop .before .before in
-    marking-run registerCount _ _ (at-start .pre .0) (at-start .pre .1) _ _ _ _ (at-loop .loop .inv) (at-loop-test .loop-test .taken) (at-read-register .read-register .ensures) _ _ (sym (at-is-unmarked .is-unmarked .ensures) ∙ at-if1 .if1 .taken) (at-mark-from .mark-from .ensures)
+    marking-run _ _ _ (at-start .pre .0) (at-start .pre .1) _ _ _ _ (at-loop .loop .inv) (at-loop-test .loop-test .taken) (at-read-register .read-register .ensures) _ _ (sym (at-is-unmarked .is-unmarked .ensures) ∙ at-if1 .if1 .taken) (at-mark-from .mark-from .ensures)
 
 add-k-2 : tie.Need-add-k-2 Inv-loop μ-loop
 add-k-2 c = omega arith
@@ -66,13 +66,13 @@ loop-again-2 c =
     let at-loop-test = at-read-register .before .before in
     let at-loop = at-loop-test .before in
     let at-start = at-loop .before .before in
-    marking-skip registerCount _ _ (at-start .pre .0) (at-start .pre .1) _ _ _ _ (at-loop .loop .inv) (at-loop-test .loop-test .taken) (at-read-register .read-register .ensures) (sym (at-is-unmarked .is-unmarked .ensures) ∙ c .if1 .left)
+    marking-skip _ _ _ (at-start .pre .0) (at-start .pre .1) _ _ _ _ (at-loop .loop .inv) (at-loop-test .loop-test .taken) (at-read-register .read-register .ensures) (sym (at-is-unmarked .is-unmarked .ensures) ∙ c .if1 .left)
 
 same-length : tie.Need-same-length Inv-loop μ-loop
 same-length c = c .before .loop .inv .len
 
 returns : tie.Need-returns Inv-loop μ-loop
-returns c = marking-last registerCount _ _ (c .before .before .before .pre .0) (c .before .before .before .pre .1) _ _ _ (c .before .loop .inv) (c .loop-test .left)
+returns c = marking-last _ _ _ (c .before .before .before .pre .0) (c .before .before .before .pre .1) _ _ _ (c .before .loop .inv) (c .loop-test .left)
 
 pub mark-spec : {M : Type 1} → statement M
 mark-spec =

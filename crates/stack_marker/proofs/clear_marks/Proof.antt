@@ -44,7 +44,7 @@ loop-again c =
     let at-read-cell = at-is-marked .before in
     let at-loop-test = at-read-cell .before .before in
     let at-loop = at-loop-test .before in
-    (omega arith, cleared-marked registerCount _ _ _ _ (at-loop-test .loop-test .taken) (at-read-cell .read-cell .ensures) (sym (at-is-marked .is-marked .ensures) ∙ at-if1 .if1 .taken) (at-unmark-cell .unmark-cell .ensures) ∙ at-loop .loop .inv .1, at-unmark-cell .unmark-cell .kept .0 ∙ at-loop .loop .inv .2)
+    (omega arith, cleared-marked _ _ _ _ _ (at-loop-test .loop-test .taken) (at-read-cell .read-cell .ensures) (sym (at-is-marked .is-marked .ensures) ∙ at-if1 .if1 .taken) (at-unmark-cell .unmark-cell .ensures) ∙ at-loop .loop .inv .1, at-unmark-cell .unmark-cell .kept .0 ∙ at-loop .loop .inv .2)
 
 sub-i-2 : tie.Need-sub-i-2 Inv-loop μ-loop
 sub-i-2 c = omega arith
@@ -58,13 +58,13 @@ loop-again-2 c =
     let at-read-cell = at-is-marked .before in
     let at-loop-test = at-read-cell .before .before in
     let at-loop = at-loop-test .before in
-    (omega arith, cleared-other registerCount _ _ _ (at-loop-test .loop-test .taken) (at-read-cell .read-cell .ensures) (sym (at-is-marked .is-marked .ensures) ∙ c .if1 .left) ∙ at-loop .loop .inv .1, at-loop .loop .inv .2)
+    (omega arith, cleared-other _ _ _ _ (at-loop-test .loop-test .taken) (at-read-cell .read-cell .ensures) (sym (at-is-marked .is-marked .ensures) ∙ c .if1 .left) ∙ at-loop .loop .inv .1, at-loop .loop .inv .2)
 
 same-length : tie.Need-same-length Inv-loop μ-loop
 same-length c = c .before .loop .inv .2
 
 returns : tie.Need-returns Inv-loop μ-loop
-returns c = sym (cleared-none registerCount _ _ (c .loop-test .left)) ∙ c .before .loop .inv .1
+returns c = sym (cleared-none _ _ _ (c .loop-test .left)) ∙ c .before .loop .inv .1
 
 pub clear-marks-spec : {M : Type 1} → statement M
 clear-marks-spec =

@@ -3,7 +3,6 @@ use borrow.Author.Needs.{needs}
 use Rattle.stack_marker.proofs.look.Statement.{statement}
 use Rattle.stack_marker.proofs.look.Tie as tie
 use mathlib.Core.Path.{sym, _∙_}
-use Rattle.pool.specs.Layout.{registerCount}
 use Rattle.stack_marker.proofs.Simulation.{look-made}
 
 link-of-requires : tie.Need-link-of-requires
@@ -23,19 +22,19 @@ is-unmarked-requires-3 c κs = search needs
 
 returns : tie.Need-returns
 returns c =
-    look-made registerCount _ _ _ _ (c .before .before .before .before .before .link-of .ensures) (c .before .before .before .before .link-of2 .ensures) (sym (c .before .before .if1 .taken) ∙ c .before .before .before .is-unmarked .ensures) (sym (c .if2 .taken) ∙ c .before .is-unmarked2 .ensures)
+    look-made _ _ _ _ _ (c .before .before .before .before .before .link-of .ensures) (c .before .before .before .before .link-of2 .ensures) (sym (c .before .before .if1 .taken) ∙ c .before .before .before .is-unmarked .ensures) (sym (c .if2 .taken) ∙ c .before .is-unmarked2 .ensures)
 
 returns-2 : tie.Need-returns-2
 returns-2 c =
-    look-made registerCount _ _ _ _ (c .before .before .before .before .before .link-of .ensures) (c .before .before .before .before .link-of2 .ensures) (sym (c .before .before .if1 .taken) ∙ c .before .before .before .is-unmarked .ensures) (sym (c .if2 .left) ∙ c .before .is-unmarked2 .ensures)
+    look-made _ _ _ _ _ (c .before .before .before .before .before .link-of .ensures) (c .before .before .before .before .link-of2 .ensures) (sym (c .before .before .if1 .taken) ∙ c .before .before .before .is-unmarked .ensures) (sym (c .if2 .left) ∙ c .before .is-unmarked2 .ensures)
 
 returns-3 : tie.Need-returns-3
 returns-3 c =
-    look-made registerCount _ _ _ _ (c .before .before .before .before .before .link-of .ensures) (c .before .before .before .before .link-of2 .ensures) (sym (c .before .before .if1 .left) ∙ c .before .before .before .is-unmarked .ensures) (sym (c .if3 .taken) ∙ c .before .is-unmarked3 .ensures)
+    look-made _ _ _ _ _ (c .before .before .before .before .before .link-of .ensures) (c .before .before .before .before .link-of2 .ensures) (sym (c .before .before .if1 .left) ∙ c .before .before .before .is-unmarked .ensures) (sym (c .if3 .taken) ∙ c .before .is-unmarked3 .ensures)
 
 returns-4 : tie.Need-returns-4
 returns-4 c =
-    look-made registerCount _ _ _ _ (c .before .before .before .before .before .link-of .ensures) (c .before .before .before .before .link-of2 .ensures) (sym (c .before .before .if1 .left) ∙ c .before .before .before .is-unmarked .ensures) (sym (c .if3 .left) ∙ c .before .is-unmarked3 .ensures)
+    look-made _ _ _ _ _ (c .before .before .before .before .before .link-of .ensures) (c .before .before .before .before .link-of2 .ensures) (sym (c .before .before .if1 .left) ∙ c .before .before .before .is-unmarked .ensures) (sym (c .if3 .left) ∙ c .before .is-unmarked3 .ensures)
 
 pub look-spec : {M : Type 1} → statement M
 look-spec =

@@ -3,7 +3,6 @@ use borrow.Author.Needs.{needs}
 use Rattle.stack_marker.proofs.mark.Statement.{statement}
 use Rattle.stack_marker.proofs.mark.Tie as tie
 use native.Mathlib.Omega.{arith}
-use Rattle.pool.specs.Layout.{registerCount}
 use mathlib.Core.Path.{ap, _∙_}
 use Prim.Native.Nat.{ℕ}
 use mathlib.Core.List.{List}
@@ -37,7 +36,7 @@ mark-requires c κs =
     let at-mark-registers = at-if1 .before .before .before .before .before in
     let at-start = at-mark-registers .before .before .before .before .before in
     let same = marked-anew _ _ (at-start .args .stack .now) _ (at-start .pre .0) _ (at-mark-registers .mark-registers .ensures) _ (at-if1 .if1 .left) (at-clear-marks .clear-marks .ensures) in
-    (ap (wellFormed registerCount (at-start .args .n)) same ∙ at-start .pre .0, omega (arith, at-start .pre .1, ap length same), at-start .pre .2)
+    (ap (wellFormed _ (at-start .args .n)) same ∙ at-start .pre .0, omega (arith, at-start .pre .1, ap length same), at-start .pre .2)
 
 same-length-3 : tie.Need-same-length-3
 same-length-3 c = search needs
@@ -53,7 +52,7 @@ returns-2 c =
     let at-mark-registers = at-if1 .before .before .before .before .before in
     let at-start = at-mark-registers .before .before .before .before .before in
     let same = marked-anew _ _ (at-start .args .stack .now) _ (at-start .pre .0) _ (at-mark-registers .mark-registers .ensures) _ (at-if1 .if1 .left) (at-clear-marks .clear-marks .ensures) in
-    (not-enough _ _ (at-start .args .stack .now) _ (at-start .pre .0) _ (at-mark-registers .mark-registers .ensures) (at-if1 .if1 .left), ap (λ (x : ℕ × List ℕ). x .1) (at-mark .mark .ensures) ∙ ap (λ (x : List ℕ). markedOf registerCount (at-start .args .n) x .1) same)
+    (not-enough _ _ (at-start .args .stack .now) _ (at-start .pre .0) _ (at-mark-registers .mark-registers .ensures) (at-if1 .if1 .left), ap (λ (x : ℕ × List ℕ). x .1) (at-mark .mark .ensures) ∙ ap (λ (x : List ℕ). markedOf _ (at-start .args .n) x .1) same)
 
 pub mark-spec : {M : Type 1} → statement M
 mark-spec =

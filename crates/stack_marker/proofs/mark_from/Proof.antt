@@ -16,13 +16,13 @@ abbrev μ-loop : tie.MeasureT-loop
 μ-loop words₀ n stack₀ p hand₀ top₀ words stack hand top = turnsLeft registerCount n words top
 
 loop-holds : tie.Need-loop-holds Inv-loop μ-loop
-loop-holds c = hand-first registerCount _ _ _ (c .before .before .pre .1) _
+loop-holds c = hand-first _ _ _ _ (c .before .before .pre .1) _
 
 look-requires : tie.Need-look-requires Inv-loop μ-loop
 look-requires c κs =
     let at-turn = c .before in
     let at-start = at-turn .before .before .before in
-    hand-cell registerCount _ _ _ (at-start .pre .1) _ _ _ _ _ (at-turn .loop .inv) (at-start .pre .0)
+    hand-cell _ _ _ _ (at-start .pre .1) _ _ _ _ _ (at-turn .loop .inv) (at-start .pre .0)
 
 enum-known-left : tie.Need-enum-known-left Inv-loop μ-loop
 enum-known-left c = search needs
@@ -31,7 +31,7 @@ same-length : tie.Need-same-length Inv-loop μ-loop
 same-length c =
     let at-turn = c .before .before .before .before .before .before in
     let at-start = at-turn .before .before .before in
-    hand-length registerCount _ _ _ (at-start .pre .1) _ _ _ _ _ (at-turn .loop .inv) (at-start .pre .0)
+    hand-length _ _ _ _ (at-start .pre .1) _ _ _ _ _ (at-turn .loop .inv) (at-start .pre .0)
 
 same-length-2 : tie.Need-same-length-2 Inv-loop μ-loop
 same-length-2 c = c .before .before .before .before .before .before .loop .inv .lent
@@ -42,7 +42,7 @@ returns c =
     let at-look = at-left .before .before in
     let at-turn = at-look .before .before in
     let at-start = at-turn .before .before .before in
-    hand-full registerCount _ _ _ (at-start .pre .1) _ _ _ _ _ (at-turn .loop .inv) _ _ (ap linksOf (sym (at-left .left .given .1)) ∙ at-look .look .ensures) (omega (arith, c .if1 .taken))
+    hand-full _ _ _ _ (at-start .pre .1) _ _ _ _ _ (at-turn .loop .inv) _ _ (ap linksOf (sym (at-left .left .given .1)) ∙ at-look .look .ensures) (omega (arith, c .if1 .taken))
 
 mark-cell-requires : tie.Need-mark-cell-requires Inv-loop μ-loop
 mark-cell-requires c κs =
@@ -50,8 +50,8 @@ mark-cell-requires c κs =
     let at-look = at-left .before .before in
     let at-turn = at-look .before .before in
     let at-start = at-turn .before .before .before in
-    let (low, high) = hand-new registerCount _ _ _ (at-start .pre .1) _ _ _ _ _ (at-turn .loop .inv) _ (ap linksOf (sym (at-left .left .given .1)) ∙ at-look .look .ensures) (at-start .pre .0) _ (List·Memᴰ·head refl) in
-    (low, omega (arith, at-start .pre .1, hand-length registerCount _ _ _ (at-start .pre .1) _ _ _ _ _ (at-turn .loop .inv) (at-start .pre .0)))
+    let (low, high) = hand-new _ _ _ _ (at-start .pre .1) _ _ _ _ _ (at-turn .loop .inv) _ (ap linksOf (sym (at-left .left .given .1)) ∙ at-look .look .ensures) (at-start .pre .0) _ (List·Memᴰ·head refl) in
+    (low, omega (arith, at-start .pre .1, hand-length _ _ _ _ (at-start .pre .1) _ _ _ _ _ (at-turn .loop .inv) (at-start .pre .0)))
 
 mark-cell-requires-2 : tie.Need-mark-cell-requires-2 Inv-loop μ-loop
 mark-cell-requires-2 c κs =
@@ -60,8 +60,8 @@ mark-cell-requires-2 c κs =
     let at-look = at-left .before .before in
     let at-turn = at-look .before .before in
     let at-start = at-turn .before .before .before in
-    let (low, high) = hand-new registerCount _ _ _ (at-start .pre .1) _ _ _ _ _ (at-turn .loop .inv) _ (ap linksOf (sym (at-left .left .given .1)) ∙ at-look .look .ensures) (at-start .pre .0) _ (List·Memᴰ·tail (List·Memᴰ·head refl)) in
-    (low, omega (arith, at-start .pre .1, hand-length registerCount _ _ _ (at-start .pre .1) _ _ _ _ _ (at-turn .loop .inv) (at-start .pre .0), at-mark-cell .mark-cell .kept .0))
+    let (low, high) = hand-new _ _ _ _ (at-start .pre .1) _ _ _ _ _ (at-turn .loop .inv) _ (ap linksOf (sym (at-left .left .given .1)) ∙ at-look .look .ensures) (at-start .pre .0) _ (List·Memᴰ·tail (List·Memᴰ·head refl)) in
+    (low, omega (arith, at-start .pre .1, hand-length _ _ _ _ (at-start .pre .1) _ _ _ _ _ (at-turn .loop .inv) (at-start .pre .0), at-mark-cell .mark-cell .kept .0))
 
 mul-stack : tie.Need-mul-stack Inv-loop μ-loop
 mul-stack c = omega arith
@@ -88,7 +88,7 @@ loop-less c =
     let at-look = at-left .before .before in
     let at-turn = at-look .before .before in
     let at-start = at-turn .before .before .before in
-    less-push registerCount _ _ _ (at-start .pre .1) _ _ _ _ _ (at-turn .loop .inv) (at-start .pre .0) _ _ _ _ (ap linksOf (sym (at-left .left .given .1)) ∙ at-look .look .ensures) (at-mark-cell .mark-cell .ensures) (at-mark-cell2 .mark-cell2 .ensures)
+    less-push _ _ _ _ (at-start .pre .1) _ _ _ _ _ (at-turn .loop .inv) (at-start .pre .0) _ _ _ _ (ap linksOf (sym (at-left .left .given .1)) ∙ at-look .look .ensures) (at-mark-cell .mark-cell .ensures) (at-mark-cell2 .mark-cell2 .ensures)
 
 loop-again : tie.Need-loop-again Inv-loop μ-loop
 loop-again c =
@@ -99,7 +99,7 @@ loop-again c =
     let at-look = at-left .before .before in
     let at-turn = at-look .before .before in
     let at-start = at-turn .before .before .before in
-    hand-push registerCount _ _ _ (at-start .pre .1) _ _ _ _ _ (at-turn .loop .inv) _ _ _ _ _ (ap linksOf (sym (at-left .left .given .1)) ∙ at-look .look .ensures) (omega (arith, at-turn .loop .inv .fits, at-turn .loop .inv .lent, at-if1 .if1 .left)) (at-mark-cell .mark-cell .ensures) (at-mark-cell2 .mark-cell2 .ensures) refl
+    hand-push _ _ _ _ (at-start .pre .1) _ _ _ _ _ (at-turn .loop .inv) _ _ _ _ _ (ap linksOf (sym (at-left .left .given .1)) ∙ at-look .look .ensures) (omega (arith, at-turn .loop .inv .fits, at-turn .loop .inv .lent, at-if1 .if1 .left)) (at-mark-cell .mark-cell .ensures) (at-mark-cell2 .mark-cell2 .ensures) refl
 
 enum-known-x : tie.Need-enum-known-x Inv-loop μ-loop
 enum-known-x c = search needs
@@ -110,8 +110,8 @@ mark-cell-requires-3 c κs =
     let at-look = at-x .before .before in
     let at-turn = at-look .before .before in
     let at-start = at-turn .before .before .before in
-    let (low, high) = hand-new registerCount _ _ _ (at-start .pre .1) _ _ _ _ _ (at-turn .loop .inv) _ (ap linksOf (sym (at-x .x .given .1)) ∙ at-look .look .ensures) (at-start .pre .0) _ (List·Memᴰ·head refl) in
-    (low, omega (arith, at-start .pre .1, hand-length registerCount _ _ _ (at-start .pre .1) _ _ _ _ _ (at-turn .loop .inv) (at-start .pre .0)))
+    let (low, high) = hand-new _ _ _ _ (at-start .pre .1) _ _ _ _ _ (at-turn .loop .inv) _ (ap linksOf (sym (at-x .x .given .1)) ∙ at-look .look .ensures) (at-start .pre .0) _ (List·Memᴰ·head refl) in
+    (low, omega (arith, at-start .pre .1, hand-length _ _ _ _ (at-start .pre .1) _ _ _ _ _ (at-turn .loop .inv) (at-start .pre .0)))
 
 loop-less-2 : tie.Need-loop-less-2 Inv-loop μ-loop
 loop-less-2 c =
@@ -120,7 +120,7 @@ loop-less-2 c =
     let at-look = at-x .before .before in
     let at-turn = at-look .before .before in
     let at-start = at-turn .before .before .before in
-    less-go registerCount _ _ _ (at-start .pre .1) _ _ _ _ _ (at-turn .loop .inv) (at-start .pre .0) _ _ (ap linksOf (sym (at-x .x .given .1)) ∙ at-look .look .ensures) (at-mark-cell3 .mark-cell3 .ensures)
+    less-go _ _ _ _ (at-start .pre .1) _ _ _ _ _ (at-turn .loop .inv) (at-start .pre .0) _ _ (ap linksOf (sym (at-x .x .given .1)) ∙ at-look .look .ensures) (at-mark-cell3 .mark-cell3 .ensures)
 
 loop-again-2 : tie.Need-loop-again-2 Inv-loop μ-loop
 loop-again-2 c =
@@ -129,7 +129,7 @@ loop-again-2 c =
     let at-look = at-x .before .before in
     let at-turn = at-look .before .before in
     let at-start = at-turn .before .before .before in
-    hand-go registerCount _ _ _ (at-start .pre .1) _ _ _ _ _ (at-turn .loop .inv) _ _ (ap linksOf (sym (at-x .x .given .1)) ∙ at-look .look .ensures) (at-mark-cell3 .mark-cell3 .ensures)
+    hand-go _ _ _ _ (at-start .pre .1) _ _ _ _ _ (at-turn .loop .inv) _ _ (ap linksOf (sym (at-x .x .given .1)) ∙ at-look .look .ensures) (at-mark-cell3 .mark-cell3 .ensures)
 
 enum-told : tie.Need-enum-told Inv-loop μ-loop
 enum-told c = search needs
@@ -138,7 +138,7 @@ same-length-3 : tie.Need-same-length-3 Inv-loop μ-loop
 same-length-3 c =
     let at-turn = c .before .before .before .before .before in
     let at-start = at-turn .before .before .before in
-    hand-length registerCount _ _ _ (at-start .pre .1) _ _ _ _ _ (at-turn .loop .inv) (at-start .pre .0)
+    hand-length _ _ _ _ (at-start .pre .1) _ _ _ _ _ (at-turn .loop .inv) (at-start .pre .0)
 
 same-length-4 : tie.Need-same-length-4 Inv-loop μ-loop
 same-length-4 c = c .before .before .before .before .before .loop .inv .lent
@@ -149,7 +149,7 @@ returns-2 c =
     let at-look = at-enum-told .before .before in
     let at-turn = at-look .before .before in
     let at-start = at-turn .before .before .before in
-    hand-last registerCount _ _ _ (at-start .pre .1) _ _ _ _ _ (at-turn .loop .inv) (ap linksOf (sym (at-enum-told .enum-told .given .1)) ∙ at-look .look .ensures) (c .if2 .taken)
+    hand-last _ _ _ _ (at-start .pre .1) _ _ _ _ _ (at-turn .loop .inv) (ap linksOf (sym (at-enum-told .enum-told .given .1)) ∙ at-look .look .ensures) (c .if2 .taken)
 
 sub-top : tie.Need-sub-top Inv-loop μ-loop
 sub-top c = omega arith
@@ -173,7 +173,7 @@ loop-again-3 c =
     let at-look = at-enum-told .before .before in
     let at-turn = at-look .before .before in
     let at-start = at-turn .before .before .before in
-    hand-pop registerCount _ _ _ (at-start .pre .1) _ _ _ _ _ (at-turn .loop .inv) (ap linksOf (sym (at-enum-told .enum-told .given .1)) ∙ at-look .look .ensures) (at-if2 .if2 .left)
+    hand-pop _ _ _ _ (at-start .pre .1) _ _ _ _ _ (at-turn .loop .inv) (ap linksOf (sym (at-enum-told .enum-told .given .1)) ∙ at-look .look .ensures) (at-if2 .if2 .left)
 
 pub mark-from-spec : {M : Type 1} → statement M
 mark-from-spec =

@@ -14,14 +14,14 @@ abbrev μ-loop : tie.MeasureT-loop
 μ-loop words₀ n stack₀ k₀ words stack k = registerCount - k
 
 loop-holds : tie.Need-loop-holds Inv-loop μ-loop
-loop-holds c = registers-first registerCount _ _ _
+loop-holds c = registers-first _ _ _ _
 
 read-register-requires : tie.Need-read-register-requires Inv-loop μ-loop
 read-register-requires c κs =
     let at-test = c .before in
     let at-turn = at-test .before in
     let at-start = at-turn .before .before .before in
-    (at-test .loop-test .taken, omega (arith, at-start .pre .1, registers-length registerCount _ _ _ _ _ _ (at-turn .loop .inv)))
+    (at-test .loop-test .taken, omega (arith, at-start .pre .1, registers-length _ _ _ _ _ _ _ (at-turn .loop .inv)))
 
 is-unmarked-requires : tie.Need-is-unmarked-requires Inv-loop μ-loop
 is-unmarked-requires c κs =
@@ -29,7 +29,7 @@ is-unmarked-requires c κs =
     let at-test = at-read-register .before .before in
     let at-turn = at-test .before in
     let at-start = at-turn .before .before .before in
-    omega (arith, at-start .pre .1, registers-length registerCount _ _ _ _ _ _ (at-turn .loop .inv), registers-bound registerCount _ _ (at-start .pre .0) (at-start .pre .1) _ _ _ _ (at-turn .loop .inv) _ (at-test .loop-test .taken) (at-read-register .read-register .ensures))
+    omega (arith, at-start .pre .1, registers-length _ _ _ _ _ _ _ (at-turn .loop .inv), registers-bound _ _ _ (at-start .pre .0) (at-start .pre .1) _ _ _ _ (at-turn .loop .inv) _ (at-test .loop-test .taken) (at-read-register .read-register .ensures))
 
 mark-cell-requires : tie.Need-mark-cell-requires Inv-loop μ-loop
 mark-cell-requires c κs =
@@ -39,7 +39,7 @@ mark-cell-requires c κs =
     let at-test = at-read-register .before .before in
     let at-turn = at-test .before in
     let at-start = at-turn .before .before .before in
-    (registers-cell registerCount _ _ (at-start .pre .0) (at-start .pre .1) _ _ _ _ (at-turn .loop .inv) _ (at-test .loop-test .taken) (at-read-register .read-register .ensures) (sym (at-is-unmarked .is-unmarked .ensures) ∙ at-if1 .if1 .taken), omega (arith, at-start .pre .1, registers-length registerCount _ _ _ _ _ _ (at-turn .loop .inv), registers-bound registerCount _ _ (at-start .pre .0) (at-start .pre .1) _ _ _ _ (at-turn .loop .inv) _ (at-test .loop-test .taken) (at-read-register .read-register .ensures)))
+    (registers-cell _ _ _ (at-start .pre .0) (at-start .pre .1) _ _ _ _ (at-turn .loop .inv) _ (at-test .loop-test .taken) (at-read-register .read-register .ensures) (sym (at-is-unmarked .is-unmarked .ensures) ∙ at-if1 .if1 .taken), omega (arith, at-start .pre .1, registers-length _ _ _ _ _ _ _ (at-turn .loop .inv), registers-bound _ _ _ (at-start .pre .0) (at-start .pre .1) _ _ _ _ (at-turn .loop .inv) _ (at-test .loop-test .taken) (at-read-register .read-register .ensures)))
 
 mark-from-requires : tie.Need-mark-from-requires Inv-loop μ-loop
 mark-from-requires c κs =
@@ -50,7 +50,7 @@ mark-from-requires c κs =
     let at-test = at-read-register .before .before in
     let at-turn = at-test .before in
     let at-start = at-turn .before .before .before in
-    (registers-start registerCount _ _ (at-start .pre .0) (at-start .pre .1) _ _ _ _ (at-turn .loop .inv) _ (at-test .loop-test .taken) (at-read-register .read-register .ensures) (sym (at-is-unmarked .is-unmarked .ensures) ∙ at-if1 .if1 .taken) _ (at-mark-cell .mark-cell .ensures), omega (arith, at-start .pre .1, registers-length registerCount _ _ _ _ _ _ (at-turn .loop .inv), at-mark-cell .mark-cell .kept .0))
+    (registers-start _ _ _ (at-start .pre .0) (at-start .pre .1) _ _ _ _ (at-turn .loop .inv) _ (at-test .loop-test .taken) (at-read-register .read-register .ensures) (sym (at-is-unmarked .is-unmarked .ensures) ∙ at-if1 .if1 .taken) _ (at-mark-cell .mark-cell .ensures), omega (arith, at-start .pre .1, registers-length _ _ _ _ _ _ _ (at-turn .loop .inv), at-mark-cell .mark-cell .kept .0))
 
 add-k : tie.Need-add-k Inv-loop μ-loop
 add-k c = omega arith
@@ -68,7 +68,7 @@ loop-again c =
     let at-test = at-read-register .before .before in
     let at-turn = at-test .before in
     let at-start = at-turn .before .before .before in
-    registers-next registerCount _ _ (at-start .pre .0) (at-start .pre .1) _ _ _ _ (at-turn .loop .inv) _ (at-test .loop-test .taken) (at-read-register .read-register .ensures) (sym (at-is-unmarked .is-unmarked .ensures) ∙ at-if1 .if1 .taken) _ (at-mark-cell .mark-cell .ensures) _ _ (at-mark-from .mark-from .ensures) (c .if2 .taken) _ (at-mark-from .mark-from .kept .1 .1 .0)
+    registers-next _ _ _ (at-start .pre .0) (at-start .pre .1) _ _ _ _ (at-turn .loop .inv) _ (at-test .loop-test .taken) (at-read-register .read-register .ensures) (sym (at-is-unmarked .is-unmarked .ensures) ∙ at-if1 .if1 .taken) _ (at-mark-cell .mark-cell .ensures) _ _ (at-mark-from .mark-from .ensures) (c .if2 .taken) _ (at-mark-from .mark-from .kept .1 .1 .0)
 
 same-length : tie.Need-same-length Inv-loop μ-loop
 same-length c =
@@ -76,7 +76,7 @@ same-length c =
     let at-mark-cell = at-mark-from .before .before .before .before .before in
     let at-loop-test = at-mark-cell .before .before .before .before .before .before .before in
     let at-loop = at-loop-test .before in
-    at-mark-from .mark-from .kept .0 ∙ (at-mark-cell .mark-cell .kept .0 ∙ registers-length registerCount _ _ _ _ _ _ (at-loop .loop .inv))
+    at-mark-from .mark-from .kept .0 ∙ (at-mark-cell .mark-cell .kept .0 ∙ registers-length _ _ _ _ _ _ _ (at-loop .loop .inv))
 
 same-length-2 : tie.Need-same-length-2 Inv-loop μ-loop
 same-length-2 c =
@@ -95,7 +95,7 @@ returns c =
     let at-test = at-read-register .before .before in
     let at-turn = at-test .before in
     let at-start = at-turn .before .before .before in
-    registers-full registerCount _ _ (at-start .pre .0) (at-start .pre .1) _ _ _ _ (at-turn .loop .inv) _ (at-test .loop-test .taken) (at-read-register .read-register .ensures) (sym (at-is-unmarked .is-unmarked .ensures) ∙ at-if1 .if1 .taken) _ (at-mark-cell .mark-cell .ensures) _ _ (at-mark-from .mark-from .ensures) (c .if2 .left)
+    registers-full _ _ _ (at-start .pre .0) (at-start .pre .1) _ _ _ _ (at-turn .loop .inv) _ (at-test .loop-test .taken) (at-read-register .read-register .ensures) (sym (at-is-unmarked .is-unmarked .ensures) ∙ at-if1 .if1 .taken) _ (at-mark-cell .mark-cell .ensures) _ _ (at-mark-from .mark-from .ensures) (c .if2 .left)
 
 add-k-2 : tie.Need-add-k-2 Inv-loop μ-loop
 add-k-2 c = omega arith
@@ -110,10 +110,10 @@ loop-again-2 c =
     let at-test = at-read-register .before .before in
     let at-turn = at-test .before in
     let at-start = at-turn .before .before .before in
-    registers-skip registerCount _ _ (at-start .pre .0) (at-start .pre .1) _ _ _ _ (at-turn .loop .inv) _ (at-test .loop-test .taken) (at-read-register .read-register .ensures) (sym (at-is-unmarked .is-unmarked .ensures) ∙ c .if1 .left)
+    registers-skip _ _ _ (at-start .pre .0) (at-start .pre .1) _ _ _ _ (at-turn .loop .inv) _ (at-test .loop-test .taken) (at-read-register .read-register .ensures) (sym (at-is-unmarked .is-unmarked .ensures) ∙ c .if1 .left)
 
 same-length-3 : tie.Need-same-length-3 Inv-loop μ-loop
-same-length-3 c = registers-length registerCount _ _ _ _ _ _ (c .before .loop .inv)
+same-length-3 c = registers-length _ _ _ _ _ _ _ (c .before .loop .inv)
 
 same-length-4 : tie.Need-same-length-4 Inv-loop μ-loop
 same-length-4 c = c .before .loop .inv .lent
@@ -122,7 +122,7 @@ returns-2 : tie.Need-returns-2 Inv-loop μ-loop
 returns-2 c =
     let at-turn = c .before in
     let at-start = at-turn .before .before .before in
-    registers-last registerCount _ _ (at-start .pre .0) (at-start .pre .1) _ _ _ _ (at-turn .loop .inv) (c .loop-test .left)
+    registers-last _ _ _ (at-start .pre .0) (at-start .pre .1) _ _ _ _ (at-turn .loop .inv) (c .loop-test .left)
 
 pub mark-registers-spec : {M : Type 1} → statement M
 mark-registers-spec =
