@@ -95,7 +95,9 @@ visit-link-of-requires-2 t c κs =
 
 visit-sub-visit-2 : (t : ℕ) → visit-lts.Need-sub-visit-2 (callees t) (visit-at t) visit.Post
 visit-sub-visit-2 t c =
-    let at-if1 = c .before .before .before .before .before .before .before .before .before .before .before .before .before in
+    let at-visit = c .before .before .before .before .before in
+    let at-mark-cell = at-visit .before .before .before .before .before .before in
+    let at-if1 = at-mark-cell .before .before in
     let at-is-unmarked = at-if1 .before in
     let at-start = at-is-unmarked .before .before .before in
     visit-cell registerCount _ _ _ _ _ (at-start .pre .1) (sym (at-is-unmarked .is-unmarked .ensures) ∙ at-if1 .if1 .taken) .2
