@@ -7,3 +7,4 @@ pub mod Rebuilt
 pub mod New
 pub mod Preservation
 pub mod Theorems
+pub mod Memory

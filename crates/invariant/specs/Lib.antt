@@ -1,1 +1,2 @@
 pub mod ReachedPools
+pub mod Memory

@@ -26,6 +26,7 @@ use Rattle.stack_algorithm.proofs.Cases.{stack-cases}
 use Rattle.calls.specs.declared.Call.the-variants as call
 use Rattle.batch.proofs.Whole.{runs-one-after-the-other}
 use Rattle.invariant.proofs.Theorems.{reached-pools}
+use Rattle.invariant.proofs.Memory.{refused-when-full}
 use Rattle.reference.proofs.Theorems.{equivalence, equivalence-at-limit, never-malformed}
 use Rattle.reference.proofs.RunEquivalence.{run-equivalence}
 use Rattle.load.proofs.Theorems.{check-is-load, load-is-well-formed}
@@ -93,6 +94,7 @@ applied =
     let t = runs-one-after-the-other list calls (freshWords registerCount 3 lent) out (b .program) (b .room) in
     let t = run-equivalence 3 2 lent list out calls (p .some) (p .most) (b .exact) (b .program) (b .room) in
     let t = never-malformed 3 lent calls (p .some) (p .most) (b .exact) (answered (1 ∷ 3 ∷ [])) (b .answer) in
+    let t = refused-when-full 3 lent calls 0 0 0 7 (p .some) (p .most) (b .exact) refl in
     let t = fewest-digits padded (s .some) (s .digits) in
     let t = parts-read newReader lines [] 0 .line (line.Run call.Collect) 2 (s .ended) in
     let t = parts-read newReader lines [] 2 .more (progress .reader) (s .more) in
