@@ -4,7 +4,6 @@ use native.Mathlib.Omega.{arith}
 use mathlib.Core.Path.{_≡_, refl, sym, ap, _∙_}
 use mathlib.Core.List.{List}
 use lib.ListN.{length}
-use Rattle.answers.specs.Outcome.{refused}
 use Rattle.pool.specs.Layout.{registerCount}
 use Rattle.pool.proofs.AllKept.{counted-all, all-counted}
 use Rattle.questions.proofs.Admission.{registers-there}

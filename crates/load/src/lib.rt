@@ -17,7 +17,8 @@ pub struct Loaded {
     pub end: usize,
 }
 
-// Writes the register of an image of k cells that stands at `at` to register j. Gives the place behind it.
+// Writes the register of an image of k cells that stands at `at` to register j. Gives the place behind it. Bytes that were scanned have no fault, and
+// nothing is said of others.
 fn fill_register(words: &mut [u32], j: u32, bytes: &[u8], at: usize, k: u32) -> usize
     requires { ⌜ (j < registerCount) × (poolLength registerCount 0 ≤ length (now words)) ⌝ }
     ensures { λ r. ⌜ WhereRead (readLink k (now (bytes .entry)) at) (λ x end. (now (words .exit) ≡ setRegister (now (words .entry)) j x) × (r ≡ end)) ⌝ }
@@ -84,7 +85,7 @@ fn fill_cells(words: &mut [u32], bytes: &[u8], start: usize, k: u32)
     }
 }
 
-// Writes the registers and the cells of the image at the start of the bytes, for a pool of n cells.
+// Writes the registers and the cells of the image at the start of the bytes, which were scanned, for a pool of n cells.
 fn fill(words: &mut [u32], bytes: &[u8], n: u32)
     requires { ⌜ poolLength registerCount n ≤ length (now words) ⌝ }
     ensures { λ _. ⌜ WhereRead (readImage registerCount n (now (bytes .entry))) (λ i end. now (words .exit) ≡ putImage registerCount i (now (words .entry))) ⌝ }

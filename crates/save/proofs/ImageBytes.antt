@@ -38,12 +38,14 @@ bytes-most code most h [] = omega arith
 bytes-most code most h (x ∷ xs) =
     omega (arith, length-append (code x) (flatMap code xs), h x, bytes-most code most h xs, mul-suc most (length xs))
 
+-- A cell is as long as its numbers.
+pub cell-length : (c : ImageCell) → length (cellBytes c) ≡ length (encode (c .left)) + length (encode (c .right)) + length (encode (c .value))
+cell-length c =
+    length-append (encode (c .left) ++ encode (c .right)) (encode (c .value))
+    ∙ ap (λ (k : ℕ). k + length (encode (c .value))) (length-append (encode (c .left)) (encode (c .right)))
+
 cell-most : (c : ImageCell) → length (cellBytes c) ≤ 15
-cell-most c =
-    let l = encode (c .left) in
-    let r = encode (c .right) in
-    let v = encode (c .value) in
-    omega (arith, length-append (l ++ r) v, length-append l r, encode-size (c .left), encode-size (c .right), encode-size (c .value))
+cell-most c = omega (arith, cell-length c, encode-size (c .left), encode-size (c .right), encode-size (c .value))
 
 -- Bytes that begin with others, and what follows these.
 pub record Begins (rest first more : List ℕ) : Type 0 where

@@ -3,10 +3,8 @@ use borrow.Author.Needs.{needs}
 use Rattle.save.proofs.cell_size.Statement.{statement}
 use Rattle.save.proofs.cell_size.Tie as tie
 use native.Mathlib.Omega.{arith}
-use mathlib.Core.List.{_++_}
-use lib.ListN.{length-append}
-use Rattle.leb128.specs.Leb128.{encode}
 use Rattle.leb128.proofs.Encoding.{encode-size}
+use Rattle.save.proofs.ImageBytes.{cell-length}
 
 number-size-requires : tie.Need-number-size-requires
 number-size-requires c κs = search needs
@@ -37,16 +35,12 @@ add-result-2 c =
 
 returns : tie.Need-returns
 returns c =
-    let cell = c .before .before .before .args .cell in
-    let left = encode (cell .left) in
-    let right = encode (cell .right) in
     omega (
       arith,
       c .number-size3 .ensures,
       c .before .number-size2 .ensures,
       c .before .before .number-size .ensures,
-      length-append (left ++ right) (encode (cell .value)),
-      length-append left right,
+      cell-length (c .before .before .before .args .cell),
     )
 
 pub cell-size-spec : {M : Type 1} → statement M

@@ -4,48 +4,32 @@ use Rattle.save.proofs.put_cell.Statement.{statement}
 use Rattle.save.proofs.put_cell.Tie as tie
 use native.Mathlib.Omega.{arith}
 use mathlib.Core.List.{_++_}
-use lib.ListN.{length-append}
 use Rattle.leb128.specs.Leb128.{encode}
-use Rattle.save.proofs.ImageBytes.{put-append}
+use Rattle.save.proofs.ImageBytes.{cell-length, put-append}
 
 put-number-requires : tie.Need-put-number-requires
-put-number-requires c κs =
-    let cell = c .before .before .args .cell in
-    let left = encode (cell .left) in
-    let right = encode (cell .right) in
-    omega (arith, c .before .before .pre, length-append (left ++ right) (encode (cell .value)), length-append left right)
+put-number-requires c κs = let at-start = c .before .before in omega (arith, at-start .pre, cell-length (at-start .args .cell))
 
 put-number-requires-2 : tie.Need-put-number-requires-2
 put-number-requires-2 c κs =
     let at-left = c .before .before .before in
     let at-start = at-left .before .before .before in
-    let left = encode (at-start .args .cell .left) in
-    let right = encode (at-start .args .cell .right) in
-    omega (
-      arith,
-      at-start .pre,
-      at-left .put-number .ensures .0,
-      at-left .put-number .kept .0,
-      length-append (left ++ right) (encode (at-start .args .cell .value)),
-      length-append left right,
-    )
+    omega (arith, at-start .pre, cell-length (at-start .args .cell), at-left .put-number .ensures .0, at-left .put-number .kept .0)
 
 put-number-requires-3 : tie.Need-put-number-requires-3
 put-number-requires-3 c κs =
     let at-right = c .before .before .before in
     let at-left = at-right .before .before .before .before in
     let at-start = at-left .before .before .before in
-    let left = encode (at-start .args .cell .left) in
-    let right = encode (at-start .args .cell .right) in
+    let right = at-right .put-number2 in
     omega (
       arith,
       at-start .pre,
+      cell-length (at-start .args .cell),
       at-left .put-number .ensures .0,
       at-left .put-number .kept .0,
-      at-right .put-number2 .ensures .0,
-      at-right .put-number2 .kept .0,
-      length-append (left ++ right) (encode (at-start .args .cell .value)),
-      length-append left right,
+      right .ensures .0,
+      right .kept .0,
     )
 
 same-length : tie.Need-same-length
