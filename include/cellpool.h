@@ -14,17 +14,75 @@
  * results (cellpool_load's rest apart): these may be uninitialised. A function checks for its refusals in the order in
  * which they are listed with it.
  *
- * The lent blocks need exclusive access during every call, refused or not: a collection changes the words while it runs,
- * also that of a cellpool_new which is then refused with 5, after which every word is as it was.
+ * What the caller sees to
+ *   - Pointers are not null, also where a length is 0, and aligned as C asks for their type: words, stack, scratch and
+ *     lent numbers to 4 bytes, size_t to 8; images may stand anywhere. Lengths are counted in elements.
+ *   - Lent blocks do not overlap, and are used by nobody else during a call.
+ *   - One pool is used by one thread at a time, also in calls that are refused: a collection changes the words while
+ *     it runs, also that of a cellpool_new which is then refused with 5, after which every word is as it was. No
+ *     function keeps a pointer, allocates, or uses global state, so two pools may be used at the same time.
+ *   - An image has no magic number, no version and no checksum: bytes that happen to be an image of another plan, or
+ *     one with a flipped bit in a value, are loaded. Where storage or a link may fail, put a checksum around it.
  *
- * Pointers must be aligned and not null, also where a length is 0; lent blocks must not overlap. Lengths are counted
- * in elements. No function keeps a pointer, allocates, or uses global state; two pools may be used at the same time.
+ * The archive is for x86-64 in ELF only, with the System V calling convention, and position independent. It has the
+ * instructions that every x86-64 processor has, SSE2 among them (today in cellpool_collect_stack alone), no x87, MMX or
+ * AVX, and needs nothing but memset. Each function is in a section of its own, so that the linker may drop what is not
+ * called (--gc-sections).
+ *
+ * Interrupts: the archive uses the red zone, the 128 bytes below the stack pointer that the calling convention gives to a
+ * function that calls no other (today in cellpool_load and cellpool_check_image). An interrupt handler on the same stack
+ * must leave these bytes alone: give it a stack of its own (on x86-64 an entry of the interrupt stack table), or let it
+ * step over them first. It must keep the xmm registers that it uses itself, and not use a pool that is in use.
+ *
+ * Cost and stack. "Linear" is in N; bytes of stack are those below the stack pointer at the call, the return address
+ * included: measured on painted stacks by compare/stack/stack.c, on the longest way through each function, and rounded
+ * up. What memset takes comes on top, where it is not a leaf.
+ *
+ *   function                     cost                                               stack, bytes
+ *   cellpool_fresh               linear                                             96
+ *   cellpool_copy                constant                                           32
+ *   cellpool_clear               constant                                           32
+ *   cellpool_new                 constant where a cell is free; else it collects:   192
+ *                                linear
+ *   cellpool_left                constant                                           32
+ *   cellpool_right               constant                                           32
+ *   cellpool_setleft             constant                                           32
+ *   cellpool_setright            constant                                           32
+ *   cellpool_setvalue            constant                                           32
+ *   cellpool_value               constant                                           32
+ *   cellpool_same                constant                                           32
+ *   cellpool_collect             linear                                             160
+ *   cellpool_collect_tally       linear                                             192
+ *   cellpool_collect_stack       linear, and linear in stack_len                    160
+ *   cellpool_collect_recursive   linear                                             6144
+ *   cellpool_save                linear, and linear in scratch_len                  192
+ *   cellpool_load                linear                                             256
+ *   cellpool_check_image         linear in the cells of the image                   192
+ *   cellpool_occupancy           constant                                           32
  */
 #ifndef CELLPOOL_H
 #define CELLPOOL_H
 
 #include <stddef.h>
 #include <stdint.h>
+
+/*
+ * The version of this interface. Where a signature, an answer, a refusal, a word of a pool or a byte of an image changes
+ * for what was there before, the major number moves: look again at what was built or saved with another one. Where
+ * functions or constants only come beside those that were there, the minor number moves. Everything else (speed, less
+ * stack, comments) moves the patch number. CELLPOOL_VERSION is one number for #if: 10000 * major + 100 * minor + patch.
+ */
+#define CELLPOOL_VERSION_MAJOR 1
+#define CELLPOOL_VERSION_MINOR 0
+#define CELLPOOL_VERSION_PATCH 0
+#define CELLPOOL_VERSION (10000 * CELLPOOL_VERSION_MAJOR + 100 * CELLPOOL_VERSION_MINOR + CELLPOOL_VERSION_PATCH)
+
+/* An answer that is not looked at is a warning, where the compiler knows how. */
+#if defined(__GNUC__)
+#define CELLPOOL_MUST_USE __attribute__((warn_unused_result))
+#else
+#define CELLPOOL_MUST_USE
+#endif
 
 #ifdef __cplusplus
 extern "C" {
@@ -70,69 +128,107 @@ enum {
     CELLPOOL_REFUSED_TOO_LARGE = 11
 };
 
+/* An answer in words, for logs and consoles. */
+static inline const char *cellpool_refusal_text(uint32_t answer) {
+    switch (answer) {
+    case CELLPOOL_OK: return "done";
+    case CELLPOOL_REFUSED_SIZE: return "the size does not fit";
+    case CELLPOOL_REFUSED_REGISTER: return "there is no such register";
+    case CELLPOOL_REFUSED_MALFORMED: return "the pool is malformed";
+    case CELLPOOL_REFUSED_NIL: return "the register is nil";
+    case CELLPOOL_REFUSED_FULL: return "no cell is free";
+    case CELLPOOL_REFUSED_TRUNCATED: return "the image is cut off";
+    case CELLPOOL_REFUSED_OUT_OF_RANGE: return "a number of the image is too large";
+    case CELLPOOL_REFUSED_LINK_RANGE: return "a link of the image leads nowhere";
+    case CELLPOOL_REFUSED_TOO_MANY_CELLS: return "the image has more cells than the pool";
+    case CELLPOOL_REFUSED_NO_ROOM: return "the scratch or the output is too short";
+    case CELLPOOL_REFUSED_TOO_LARGE: return "the pool is too large for the recursive marker";
+    default: return "no answer of this library";
+    }
+}
+
 /* Make the words a pool: N by the length alone, all registers nil, all cells free. *cells becomes N. Refused: 1. */
+CELLPOOL_MUST_USE
 uint32_t cellpool_fresh(uint32_t *words, size_t len, uint32_t *cells);
 
 /* Register r gets the content of register a. Refused: 1, 2, 3. */
+CELLPOOL_MUST_USE
 uint32_t cellpool_copy(uint32_t *words, size_t len, uint32_t r, uint32_t a);
 
 /* Register r becomes nil, whatever it held. Refused: 1, 2. */
+CELLPOOL_MUST_USE
 uint32_t cellpool_clear(uint32_t *words, size_t len, uint32_t r);
 
 /* Register r gets a new cell with the link in register a as its left, that in b as its right, and value v. Where no
    free cell is left it collects first, with the old content of r still a root. *visits becomes the visits of that
    collection, 0 where there was none. Refused with 5 it has collected, and every word is as before: all cells were
    reached. Refused: 1, 2, 3, 5. */
+CELLPOOL_MUST_USE
 uint32_t cellpool_new(uint32_t *words, size_t len, uint32_t r, uint32_t a, uint32_t b, uint32_t v, uint32_t *visits);
 
 /* Register r gets the left (right) link of the cell in register a. Refused: 1, 2, 3 (the register), 4, 3 (the link). */
+CELLPOOL_MUST_USE
 uint32_t cellpool_left(uint32_t *words, size_t len, uint32_t r, uint32_t a);
+CELLPOOL_MUST_USE
 uint32_t cellpool_right(uint32_t *words, size_t len, uint32_t r, uint32_t a);
 
 /* The left (right) link of the cell in register a becomes the content of register b. Refused: 1, 2, 3, 4. */
+CELLPOOL_MUST_USE
 uint32_t cellpool_setleft(uint32_t *words, size_t len, uint32_t a, uint32_t b);
+CELLPOOL_MUST_USE
 uint32_t cellpool_setright(uint32_t *words, size_t len, uint32_t a, uint32_t b);
 
 /* The value of the cell in register a becomes v. Refused: 1, 2, 3, 4. */
+CELLPOOL_MUST_USE
 uint32_t cellpool_setvalue(uint32_t *words, size_t len, uint32_t a, uint32_t v);
 
 /* *value becomes the value of the cell in register a. Refused: 1, 2, 3, 4. */
-uint32_t cellpool_value(uint32_t *words, size_t len, uint32_t a, uint32_t *value);
+CELLPOOL_MUST_USE
+uint32_t cellpool_value(const uint32_t *words, size_t len, uint32_t a, uint32_t *value);
 
 /* *same becomes 1 if registers a and b hold the same cell or are both nil, else 0. Refused: 1, 2, 3. */
-uint32_t cellpool_same(uint32_t *words, size_t len, uint32_t a, uint32_t b, uint32_t *same);
+CELLPOOL_MUST_USE
+uint32_t cellpool_same(const uint32_t *words, size_t len, uint32_t a, uint32_t b, uint32_t *same);
 
 /* Keep the cells that the registers reach, free all others, and chain the free cells in ascending order. Marks by
    link reversal, with no further memory. *kept becomes the cells kept, *visits three times that. Refused: 1, 3. */
+CELLPOOL_MUST_USE
 uint32_t cellpool_collect(uint32_t *words, size_t len, uint32_t *kept, uint32_t *visits);
 
 /* As cellpool_collect; accepted, it also adds 1 to *collections and the visits to *total_visits, each stopping at
    4,294,967,295. Refused: 1, 3. */
+CELLPOOL_MUST_USE
 uint32_t cellpool_collect_tally(uint32_t *words, size_t len, uint32_t *collections, uint32_t *total_visits,
                                 uint32_t *kept, uint32_t *visits);
 
 /* As cellpool_collect, marking with a stack of stack_len lent words, which end 0. Where they are too few, link
    reversal does the work. *enough becomes 1 if they were enough, else 0. Refused: 1, 3. */
+CELLPOOL_MUST_USE
 uint32_t cellpool_collect_stack(uint32_t *words, size_t len, uint32_t *stack, size_t stack_len, uint32_t *kept,
                                 uint32_t *enough);
 
 /* As cellpool_collect, marking recursively: for the test bench and pools of at most 64 cells. Refused: 1, 11, 3. */
+CELLPOOL_MUST_USE
 uint32_t cellpool_collect_recursive(uint32_t *words, size_t len, uint32_t *kept, uint32_t *visits);
 
 /* Write an image of the cells that the registers reach to the front of out. *bytes becomes its length; bytes of out
    behind it stay, and so do the words. scratch has 2 * N words or more; once the pool is found well-formed, all of it
    ends 0, also where the output is then too short. Refused: 1, 10 (the scratch), 3, 10 (the output). */
-uint32_t cellpool_save(uint32_t *words, size_t len, uint32_t *scratch, size_t scratch_len, uint8_t *out,
+CELLPOOL_MUST_USE
+uint32_t cellpool_save(const uint32_t *words, size_t len, uint32_t *scratch, size_t scratch_len, uint8_t *out,
                        size_t out_len, size_t *bytes);
 
 /* Make the words the pool of an image, N by their length alone. *rest becomes the place of the first byte behind the
    image; refused, it becomes bytes_len. Refused: 1, then number by number 6, 7, 9, 8. */
+CELLPOOL_MUST_USE
 uint32_t cellpool_load(uint32_t *words, size_t len, const uint8_t *bytes, size_t bytes_len, size_t *rest);
 
 /* Answer what cellpool_load would for a pool of n cells, and write nothing. Refused: 1, 6, 7, 9, 8. */
+CELLPOOL_MUST_USE
 uint32_t cellpool_check_image(const uint8_t *bytes, size_t bytes_len, uint32_t n);
 
 /* *percent becomes 100 * kept / n, rounded down. Refused: 1. */
+CELLPOOL_MUST_USE
 uint32_t cellpool_occupancy(uint32_t kept, uint32_t n, uint32_t *percent);
 
 #ifdef __cplusplus

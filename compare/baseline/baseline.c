@@ -21,7 +21,9 @@
 
 enum { HEADER = 18, CELL = 4, STATE = 0, LEFT = 1, RIGHT = 2, VALUE = 3 };
 
-static uint32_t *cell(uint32_t *words, uint32_t i) { return words + HEADER + CELL * ((size_t)i - 1); }
+static size_t cell_at(uint32_t i) { return HEADER + CELL * ((size_t)i - 1); }
+static uint32_t *cell(uint32_t *words, uint32_t i) { return words + cell_at(i); }
+static const uint32_t *cell_in(const uint32_t *words, uint32_t i) { return words + cell_at(i); }
 
 /* N by the length, 0 where it is refused. */
 static uint32_t cells_of(size_t len) {
@@ -36,15 +38,15 @@ static uint32_t size_of(const uint32_t *words, size_t len) {
     return n != 0 && words[0] == n ? n : 0;
 }
 
-static int valid_link(uint32_t *words, uint32_t n, uint32_t link) {
-    return link == 0 || (link <= n && cell(words, link)[STATE] == USED);
+static int valid_link(const uint32_t *words, uint32_t n, uint32_t link) {
+    return link == 0 || (link <= n && cell_in(words, link)[STATE] == USED);
 }
 
-static int well_formed(uint32_t *words, uint32_t n) {
+static int well_formed(const uint32_t *words, uint32_t n) {
     for (uint32_t i = 0; i < CELLPOOL_REGISTERS; i++)
         if (!valid_link(words, n, REGISTER(i))) return 0;
     for (uint32_t i = 1; i <= n; i++) {
-        uint32_t *at = cell(words, i);
+        const uint32_t *at = cell_in(words, i);
         if (at[STATE] == USED) {
             if (!valid_link(words, n, at[LEFT]) || !valid_link(words, n, at[RIGHT])) return 0;
         } else if (at[STATE] != FREE) {
@@ -218,32 +220,28 @@ static uint32_t relink(uint32_t *words, size_t len, uint32_t a, uint32_t b, int 
 uint32_t NAME(setleft)(uint32_t *words, size_t len, uint32_t a, uint32_t b) { return relink(words, len, a, b, LEFT); }
 uint32_t NAME(setright)(uint32_t *words, size_t len, uint32_t a, uint32_t b) { return relink(words, len, a, b, RIGHT); }
 
-/* The cell in register a. */
-static uint32_t held(uint32_t *words, size_t len, uint32_t a, uint32_t **at) {
+/* Does register a hold a cell? */
+static uint32_t held(const uint32_t *words, size_t len, uint32_t a) {
     uint32_t n = size_of(words, len);
     if (n == 0) return CELLPOOL_REFUSED_SIZE;
     if (a >= CELLPOOL_REGISTERS) return CELLPOOL_REFUSED_REGISTER;
     if (!valid_link(words, n, REGISTER(a))) return CELLPOOL_REFUSED_MALFORMED;
-    if (REGISTER(a) == 0) return CELLPOOL_REFUSED_NIL;
-    *at = cell(words, REGISTER(a));
-    return CELLPOOL_OK;
+    return REGISTER(a) == 0 ? CELLPOOL_REFUSED_NIL : CELLPOOL_OK;
 }
 
 uint32_t NAME(setvalue)(uint32_t *words, size_t len, uint32_t a, uint32_t v) {
-    uint32_t *at;
-    uint32_t answer = held(words, len, a, &at);
-    if (answer == CELLPOOL_OK) at[VALUE] = v;
+    uint32_t answer = held(words, len, a);
+    if (answer == CELLPOOL_OK) cell(words, REGISTER(a))[VALUE] = v;
     return answer;
 }
 
-uint32_t NAME(value)(uint32_t *words, size_t len, uint32_t a, uint32_t *value) {
-    uint32_t *at;
-    uint32_t answer = held(words, len, a, &at);
-    if (answer == CELLPOOL_OK) *value = at[VALUE];
+uint32_t NAME(value)(const uint32_t *words, size_t len, uint32_t a, uint32_t *value) {
+    uint32_t answer = held(words, len, a);
+    if (answer == CELLPOOL_OK) *value = cell_in(words, REGISTER(a))[VALUE];
     return answer;
 }
 
-uint32_t NAME(same)(uint32_t *words, size_t len, uint32_t a, uint32_t b, uint32_t *same) {
+uint32_t NAME(same)(const uint32_t *words, size_t len, uint32_t a, uint32_t b, uint32_t *same) {
     uint32_t n = size_of(words, len);
     if (n == 0) return CELLPOOL_REFUSED_SIZE;
     if (a >= CELLPOOL_REGISTERS || b >= CELLPOOL_REGISTERS) return CELLPOOL_REFUSED_REGISTER;
@@ -320,7 +318,7 @@ static uint8_t *write_number(uint8_t *out, uint32_t number) {
 }
 
 /* Number the reached cells depth first; order also holds the pending cells, from its end. Answers their count. */
-static uint32_t number_cells(uint32_t *words, uint32_t n, uint32_t *numbers, uint32_t *order) {
+static uint32_t number_cells(const uint32_t *words, uint32_t n, uint32_t *numbers, uint32_t *order) {
     uint32_t count = 0;
     for (uint32_t i = 0; i < CELLPOOL_REGISTERS; i++) {
         uint32_t node = REGISTER(i), pending = n;
@@ -328,9 +326,9 @@ static uint32_t number_cells(uint32_t *words, uint32_t n, uint32_t *numbers, uin
             if (node != 0 && numbers[node - 1] == 0) {
                 numbers[node - 1] = ++count;
                 order[--pending] = node;
-                node = cell(words, node)[LEFT];
+                node = cell_in(words, node)[LEFT];
             } else if (pending < n) {
-                node = cell(words, order[pending++])[RIGHT];
+                node = cell_in(words, order[pending++])[RIGHT];
             } else {
                 break;
             }
@@ -341,8 +339,8 @@ static uint32_t number_cells(uint32_t *words, uint32_t n, uint32_t *numbers, uin
     return count;
 }
 
-uint32_t NAME(save)(uint32_t *words, size_t len, uint32_t *scratch, size_t scratch_len, uint8_t *out, size_t out_len,
-                    size_t *bytes) {
+uint32_t NAME(save)(const uint32_t *words, size_t len, uint32_t *scratch, size_t scratch_len, uint8_t *out,
+                    size_t out_len, size_t *bytes) {
     uint32_t n = size_of(words, len), answer = CELLPOOL_REFUSED_NO_ROOM;
     if (n == 0) return CELLPOOL_REFUSED_SIZE;
     if (scratch_len < 2 * (size_t)n) return CELLPOOL_REFUSED_NO_ROOM;
@@ -354,14 +352,14 @@ uint32_t NAME(save)(uint32_t *words, size_t len, uint32_t *scratch, size_t scrat
 #define RENUMBER(link) ((link) == 0 ? 0 : numbers[(link) - 1])
     for (uint32_t i = 0; i < CELLPOOL_REGISTERS; i++) size += bytes_of(RENUMBER(REGISTER(i)));
     for (uint32_t i = 0; i < k; i++) {
-        uint32_t *at = cell(words, order[i]);
+        const uint32_t *at = cell_in(words, order[i]);
         size += bytes_of(RENUMBER(at[LEFT])) + bytes_of(RENUMBER(at[RIGHT])) + bytes_of(at[VALUE]);
     }
     if (size <= out_len) {
         out = write_number(out, k);
         for (uint32_t i = 0; i < CELLPOOL_REGISTERS; i++) out = write_number(out, RENUMBER(REGISTER(i)));
         for (uint32_t i = 0; i < k; i++) {
-            uint32_t *at = cell(words, order[i]);
+            const uint32_t *at = cell_in(words, order[i]);
             out = write_number(out, RENUMBER(at[LEFT]));
             out = write_number(out, RENUMBER(at[RIGHT]));
             out = write_number(out, at[VALUE]);

@@ -55,8 +55,8 @@ macro_rules! bind {
             fn $setleft(words: *mut u32, len: usize, a: u32, b: u32) -> u32;
             fn $setright(words: *mut u32, len: usize, a: u32, b: u32) -> u32;
             fn $setvalue(words: *mut u32, len: usize, a: u32, v: u32) -> u32;
-            fn $value(words: *mut u32, len: usize, a: u32, value: *mut u32) -> u32;
-            fn $same(words: *mut u32, len: usize, a: u32, b: u32, same: *mut u32) -> u32;
+            fn $value(words: *const u32, len: usize, a: u32, value: *mut u32) -> u32;
+            fn $same(words: *const u32, len: usize, a: u32, b: u32, same: *mut u32) -> u32;
             fn $collect(words: *mut u32, len: usize, kept: *mut u32, visits: *mut u32) -> u32;
             fn $collect_tally(
                 words: *mut u32,
@@ -76,7 +76,7 @@ macro_rules! bind {
             ) -> u32;
             fn $collect_recursive(words: *mut u32, len: usize, kept: *mut u32, visits: *mut u32) -> u32;
             fn $save(
-                words: *mut u32,
+                words: *const u32,
                 len: usize,
                 scratch: *mut u32,
                 scratch_len: usize,
@@ -132,12 +132,12 @@ macro_rules! bind {
             }
 
             fn value(&self, words: &mut [u32], a: u32) -> Result<u32, u32> {
-                results(UNSET, |[value]| unsafe { $value(words.as_mut_ptr(), words.len(), a, value) })
+                results(UNSET, |[value]| unsafe { $value(words.as_ptr(), words.len(), a, value) })
                     .map(|[value]| value)
             }
 
             fn same(&self, words: &mut [u32], a: u32, b: u32) -> Result<u32, u32> {
-                results(UNSET, |[same]| unsafe { $same(words.as_mut_ptr(), words.len(), a, b, same) })
+                results(UNSET, |[same]| unsafe { $same(words.as_ptr(), words.len(), a, b, same) })
                     .map(|[same]| same)
             }
 
@@ -174,7 +174,7 @@ macro_rules! bind {
             fn save(&self, words: &mut [u32], scratch: &mut [u32], out: &mut [u8]) -> Result<usize, u32> {
                 results(UNSET_SIZE, |[bytes]| unsafe {
                     $save(
-                        words.as_mut_ptr(),
+                        words.as_ptr(),
                         words.len(),
                         scratch.as_mut_ptr(),
                         scratch.len(),

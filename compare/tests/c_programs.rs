@@ -1,10 +1,14 @@
-//! The header from C and C++, the example, the fuzz target with pseudo-random inputs, and which lent memory is touched.
+//! The header from C and C++ and what it states of the archive, the example, the fuzz target with pseudo-random inputs,
+//! and which lent memory is touched.
 #![cfg(all(feature = "archive", c_baseline))]
 
 mod common;
 
 use cellpool_compare::random::{rounds, seed};
+use cellpool_compare::refusal;
 use common::c::{archive, cc, compile, file, made, run};
+#[cfg(target_arch = "x86_64")]
+use std::collections::BTreeMap;
 
 #[test]
 fn the_example_ends_as_expected() {
@@ -45,6 +49,87 @@ fn the_plain_c_version_touches_no_other_memory() {
     for part in ["lengths", "results"] {
         assert_eq!(run(&program, &[part]), "0 differences\n");
     }
+}
+
+/// The functions in the header's table of costs, each with its bytes of stack.
+#[cfg(target_arch = "x86_64")]
+fn stated_stack() -> BTreeMap<String, usize> {
+    let header = std::fs::read_to_string(file("../include/cellpool.h")).expect("the header is there");
+    let rows = header.lines().filter_map(|line| line.strip_prefix(" *   cellpool_"));
+    rows.map(|row| {
+        let (first, last) = (row.split(' ').next(), row.split(' ').next_back());
+        let bytes = last.and_then(|text| text.parse().ok()).expect("a row ends in bytes");
+        (format!("cellpool_{}", first.expect("a row begins with a name")), bytes)
+    })
+    .collect()
+}
+
+#[cfg(target_arch = "x86_64")]
+#[test]
+fn no_function_takes_more_stack_than_the_header_states() {
+    let program = compile("stack", &cc(), &["-std=c99", "-O2"], &[file("stack/stack.c"), archive()]);
+    let measured: BTreeMap<String, usize> = run(&program, &[])
+        .lines()
+        .map(|line| line.split_once(' ').expect("a name and a number"))
+        .map(|(name, bytes)| (name.to_string(), bytes.parse().expect("a number")))
+        .collect();
+    let stated = stated_stack();
+    assert_eq!(measured.len(), 19);
+    assert!(measured.keys().eq(stated.keys()), "{measured:?} {stated:?}");
+    for (name, bytes) in measured {
+        assert!(bytes >= 8 && bytes <= stated[&name], "{name} takes {bytes}, stated are {}", stated[&name]);
+    }
+}
+
+#[cfg(target_arch = "x86_64")]
+#[test]
+fn the_archive_has_the_instructions_that_the_header_states() {
+    let Ok(listed) = std::process::Command::new("objdump").arg("-dr").arg(archive()).output() else { return };
+    let text = String::from_utf8_lossy(&listed.stdout);
+    assert!(text.contains("<cellpool_collect>:"), "objdump lists the functions");
+    for register in ["%ymm", "%zmm", "%mm", "%st"] {
+        assert!(!text.contains(register), "the archive uses {register}");
+    }
+    let needed = std::process::Command::new("nm").arg("-u").arg(archive()).output().expect("nm is beside objdump");
+    let needed = String::from_utf8_lossy(&needed.stdout).into_owned();
+    let needed: Vec<&str> = needed.lines().filter_map(|line| line.trim().strip_prefix("U ")).collect();
+    assert_eq!(needed, ["memset"]);
+}
+
+#[test]
+fn every_answer_has_a_text_of_its_own() {
+    let text = "#include \"cellpool.h\"\n\
+        #include <stdio.h>\n\
+        int main(void) {\n\
+            uint32_t answer;\n\
+            for (answer = 0; answer <= 12; answer++) puts(cellpool_refusal_text(answer));\n\
+            return 0;\n\
+        }\n";
+    std::fs::write(made("texts.c"), text).expect("the source is written");
+    let told = run(&compile("texts", &cc(), &["-std=c99", "-O2"], &[made("texts.c")]), &[]);
+    let texts: Vec<&str> = told.lines().collect();
+    assert_eq!(texts.len(), 13);
+    assert_eq!((texts[0], texts[refusal::FULL as usize]), ("done", "no cell is free"));
+    assert_eq!(texts.iter().collect::<std::collections::BTreeSet<_>>().len(), 13, "{told}");
+    assert!(texts.iter().all(|text| (4..=50).contains(&text.len())), "{told}");
+}
+
+#[test]
+fn an_answer_that_is_not_looked_at_is_a_warning() {
+    let text = "#include \"cellpool.h\"\n\
+        int main(void) {\n\
+            uint32_t words[CELLPOOL_WORDS(1)], cells;\n\
+            cellpool_fresh(words, CELLPOOL_WORDS(1), &cells);\n\
+            return 0;\n\
+        }\n";
+    std::fs::write(made("careless.c"), text).expect("the source is written");
+    let compiled = std::process::Command::new(cc())
+        .args(["-std=c99", "-c", "-I"])
+        .args([file("../include"), made("careless.c"), "-o".into(), made("careless.o")])
+        .output()
+        .expect("the compiler starts");
+    let told = String::from_utf8_lossy(&compiled.stderr);
+    assert!(compiled.status.success() && told.contains("cellpool_fresh"), "{told}");
 }
 
 #[cfg(cpp_compiler)]

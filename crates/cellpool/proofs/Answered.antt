@@ -28,10 +28,10 @@ stack-made w stack o x call q v u old₀ old₁ said =
     ap (λ (p : ℕ × ℕ × ℕ). (p .0, w, stack, p .1, p .2)) said ∙ ap (λ (y : Outcome × List ℕ × List ℕ). withStack y old₀ old₁) call
 
 -- the same of save
-pub saving-made : (w scratch out : List ℕ) (o : Outcome) (x : Outcome × List ℕ × List ℕ)
+pub saving-made : (scratch out : List ℕ) (o : Outcome) (x : Outcome × List ℕ × List ℕ)
     → _≡_ {A = Outcome × List ℕ × List ℕ} (o, scratch, out) x → (q v old : ℕ) → q ≡ status o → v ≡ given o 0 old
-    → _≡_ {A = ℕ × List ℕ × List ℕ × List ℕ × ℕ} (q, w, scratch, out, v) (saving w x old)
-saving-made w scratch out o x save q v old said given = rw (said, given) (ap (λ (y : Outcome × List ℕ × List ℕ). saving w y old) save)
+    → _≡_ {A = ℕ × List ℕ × List ℕ × ℕ} (q, scratch, out, v) (saving x old)
+saving-made scratch out o x save q v old said given = rw (said, given) (ap (λ (y : Outcome × List ℕ × List ℕ). saving y old) save)
 
 -- the same of the collection with a tally: accepted, and refused
 module _ (w w' : List ℕ) (t : Tally) (o : Outcome) (call : _≡_ {A = Outcome × List ℕ} (o, w') (collectOf w)) (q old₀ old₁ : ℕ) where

@@ -31,9 +31,9 @@ number o old = (status o, given o 0 old)
 abbrev pub numbers : Outcome → ℕ → ℕ → ℕ × ℕ × ℕ
 numbers o first second = (status o, given o 0 first, given o 1 second)
 
--- Save leaves the pool's words as they are, and scratch and output as its definition says.
-abbrev pub saving : List ℕ → Outcome × List ℕ × List ℕ → ℕ → ℕ × List ℕ × List ℕ × List ℕ × ℕ
-saving w x old = (status (x .0), w, x .1, x .2, given (x .0) 0 old)
+-- Save leaves scratch and output as its definition says; the pool's words are lent for reading only.
+abbrev pub saving : Outcome × List ℕ × List ℕ → ℕ → ℕ × List ℕ × List ℕ × ℕ
+saving x old = (status (x .0), x .1, x .2, given (x .0) 0 old)
 
 -- Load gives the place behind the image, refused too.
 abbrev pub loading : Loaded × List ℕ → ℕ × List ℕ × ℕ

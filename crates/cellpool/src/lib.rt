@@ -134,15 +134,15 @@ pub extern "C" fn cellpool_setvalue(words: &mut [u32], a: u32, v: u32) -> u32
 }
 
 #[no_mangle]
-pub extern "C" fn cellpool_value(words: &mut [u32], a: u32, value: &mut u32) -> u32
-    ensures { λ q. ⌜ (q, now (words .exit), now (value .exit)) ≡ giving (callOf (Call.Value a) (now (words .entry))) (now (value .entry)) ⌝ }
+pub extern "C" fn cellpool_value(words: &[u32], a: u32, value: &mut u32) -> u32
+    ensures { λ q. ⌜ (q, now (words .entry), now (value .exit)) ≡ giving (callOf (Call.Value a) (now (words .entry))) (now (value .entry)) ⌝ }
 {
     store(calls::value(words, a), value)
 }
 
 #[no_mangle]
-pub extern "C" fn cellpool_same(words: &mut [u32], a: u32, b: u32, same: &mut u32) -> u32
-    ensures { λ q. ⌜ (q, now (words .exit), now (same .exit)) ≡ giving (callOf (Call.Same a b) (now (words .entry))) (now (same .entry)) ⌝ }
+pub extern "C" fn cellpool_same(words: &[u32], a: u32, b: u32, same: &mut u32) -> u32
+    ensures { λ q. ⌜ (q, now (words .entry), now (same .exit)) ≡ giving (callOf (Call.Same a b) (now (words .entry))) (now (same .entry)) ⌝ }
 {
     store(calls::same(words, a, b), same)
 }
@@ -206,12 +206,12 @@ pub extern "C" fn cellpool_collect_recursive(
 
 #[no_mangle]
 pub extern "C" fn cellpool_save(
-    words: &mut [u32],
+    words: &[u32],
     scratch: &mut [u32],
     out: &mut [u8],
     bytes: &mut usize,
 ) -> u32
-    ensures { λ q. ⌜ (q, now (words .exit), now (scratch .exit), now (out .exit), now (bytes .exit)) ≡ saving (now (words .entry)) (saveOf (now (words .entry)) (now (scratch .entry)) (now (out .entry))) (now (bytes .entry)) ⌝ }
+    ensures { λ q. ⌜ (q, now (scratch .exit), now (out .exit), now (bytes .exit)) ≡ saving (saveOf (now (words .entry)) (now (scratch .entry)) (now (out .entry))) (now (bytes .entry)) ⌝ }
 {
     match save::save(words, scratch, out) {
         Saved::Bytes(n) => {

@@ -28,9 +28,10 @@ same-length-2 c = search needs
 
 returns-2 : tie.Need-returns-2
 returns-2 c =
-    let at-collect = c .before .before .before .before .before .before .before .before .before .before in
+    let at-after = c .before .before .before in
+    let at-collect = at-after .before .before .before .before .before .before .before in
     let a = at-collect .before .before .before .args in
-    tally-advanced _ _ (record { collections = now (a .collections); visits = now (a .total-visits) }) _ (at-collect .collect .ensures) _ _ _ _ (c .before .before .before .after .ensures) _ _ (c .store-two .ensures)
+    tally-advanced _ _ (record { collections = now (a .collections); visits = now (a .total-visits) }) _ (at-collect .collect .ensures) _ _ _ _ (at-after .after .ensures) _ _ (c .store-two .ensures)
 
 pub cellpool-collect-tally-spec : {M : Type 1} → statement M
 cellpool-collect-tally-spec =

@@ -10,11 +10,8 @@ same-requires c κs = search needs
 store-requires : tie.Need-store-requires
 store-requires c κs = search needs
 
-same-length : tie.Need-same-length
-same-length c = search needs
-
 returns : tie.Need-returns
 returns c = giving-made _ _ _ (c .before .before .same .ensures) _ _ _ (c .store .ensures)
 
 pub cellpool-same-spec : {M : Type 1} → statement M
-cellpool-same-spec = tie.close (tie.spec same-requires store-requires same-length returns)
+cellpool-same-spec = tie.close (tie.spec same-requires store-requires returns)

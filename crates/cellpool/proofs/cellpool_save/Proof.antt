@@ -27,29 +27,28 @@ same-length c = search needs
 same-length-2 : tie.Need-same-length-2
 same-length-2 c = search needs
 
-same-length-3 : tie.Need-same-length-3
-same-length-3 c = search needs
-
 returns : tie.Need-returns
 returns c =
     let was = c .before .n .given .1 in
-    saving-made _ _ _ _ _ (c .before .before .before .before .before .before .before .save .ensures) _ _ _ (sym (ap (λ (s : Saved). status (savedOutcome s)) was))
-    (sym (ap (λ (s : Saved). given (savedOutcome s) 0 (now (c .before .before .before .before .before .before .before .before .before .before .before .before .before .before .args .bytes))) was))
+    let at-save = c .before .before .before .before .before .before .before in
+    let at-entry = at-save .before .before .before .before .before .before in
+    saving-made _ _ _ _ (at-save .save .ensures) _ _ _ (sym (ap (λ (s : Saved). status (savedOutcome s)) was))
+    (sym (ap (λ (s : Saved). given (savedOutcome s) 0 (now (at-entry .args .bytes))) was))
+
+same-length-3 : tie.Need-same-length-3
+same-length-3 c = search needs
 
 same-length-4 : tie.Need-same-length-4
 same-length-4 c = search needs
 
-same-length-5 : tie.Need-same-length-5
-same-length-5 c = search needs
-
-same-length-6 : tie.Need-same-length-6
-same-length-6 c = search needs
-
 returns-2 : tie.Need-returns-2
 returns-2 c =
-    let was = c .before .before .refusal .given .1 in
-    saving-made _ _ _ _ _ (c .before .before .before .before .before .before .before .before .save .ensures) _ _ _ (c .number .ensures ∙ sym (ap (λ (s : Saved). status (savedOutcome s)) was))
-    (sym (ap (λ (s : Saved). given (savedOutcome s) 0 (now (c .before .before .before .before .before .before .before .before .before .before .before .before .before .before .before .args .bytes))) was))
+    let at-refused = c .before .before in
+    let at-save = at-refused .before .before .before .before .before .before in
+    let was = at-refused .refusal .given .1 in
+    let at-entry = at-save .before .before .before .before .before .before in
+    saving-made _ _ _ _ (at-save .save .ensures) _ _ _ (c .number .ensures ∙ sym (ap (λ (s : Saved). status (savedOutcome s)) was))
+    (sym (ap (λ (s : Saved). given (savedOutcome s) 0 (now (at-entry .args .bytes))) was))
 
 pub cellpool-save-spec : {M : Type 1} → statement M
 cellpool-save-spec =
@@ -61,9 +60,7 @@ cellpool-save-spec =
     number-requires
     same-length
     same-length-2
-    same-length-3
     returns
+    same-length-3
     same-length-4
-    same-length-5
-    same-length-6
     returns-2)

@@ -10,11 +10,8 @@ value-requires c κs = search needs
 store-requires : tie.Need-store-requires
 store-requires c κs = search needs
 
-same-length : tie.Need-same-length
-same-length c = search needs
-
 returns : tie.Need-returns
 returns c = giving-made _ _ _ (c .before .before .value .ensures) _ _ _ (c .store .ensures)
 
 pub cellpool-value-spec : {M : Type 1} → statement M
-cellpool-value-spec = tie.close (tie.spec value-requires store-requires same-length returns)
+cellpool-value-spec = tie.close (tie.spec value-requires store-requires returns)
