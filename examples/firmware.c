@@ -1,119 +1,131 @@
 /*
- * A flight plan in a cell pool, as a board's engineer would use it: static memory only, every answer looked at.
+ * A flight plan in a cell pool, as a board keeps it: static memory only, no standard library, every answer looked at.
  *
- * The plan is a list of waypoints. A waypoint is a cell: its value is the waypoint's number, its left link leads to a
- * cell with its height in metres, its right link to the next waypoint.
+ * The plan is a list of waypoints. A waypoint is a cell: its value is the waypoint's number, its left link leads to a cell
+ * with its height in metres, its right link to the next waypoint. The log is a list of the waypoints flown, newest first.
  *
- * Build: cc -std=c99 -Wall -Wextra -I include examples/firmware.c target/staticlib/libcellpool.a -o firmware
+ * What is done about a refusal:
+ *   no cell is free (5)       the pool has collected already: drop the log, which is only good to have, and try once more
+ *   malformed or size (3, 1)  memory was damaged: take the newest stored plan that is good, and try once more
+ *   nil (4)                   the plan has ended
+ *   anything else             an error in this program: tell the caller, and change nothing
+ *
+ * Build, with a main of your own in the place of firmware_main.c:
+ *   cc firmware.c firmware_main.c $(pkg-config --cflags --libs cellpool) -o firmware
  */
-#include "cellpool.h"
+#include "firmware.h"
 
-#include <stdio.h>
+/* Registers: the plan, the log, one for the work of a function, which is nil between calls, and one that stays nil. */
+enum { PLAN, LOG, METRES, NIL };
 
-#define CELLS 24u
-#define WAYPOINTS 10u
-#define HEIGHT(waypoint) (120u + 15u * (waypoint))
+#define LEN CELLPOOL_WORDS(PLAN_CELLS)
 
-/* Registers: the plan, the current waypoint, its height, and one that stays nil. */
-enum { PLAN, WAYPOINT, METRES, NIL };
+uint32_t plan_words[CELLPOOL_WORDS(PLAN_CELLS)];
+plan_slot plan_slots[2];
+uint32_t plan_recoveries, plan_drops;
 
-static uint32_t words[CELLPOOL_WORDS(CELLS)];
-static uint32_t spare[CELLPOOL_WORDS(CELLS)];
-static uint32_t scratch[CELLPOOL_SCRATCH(CELLS)];
-static uint32_t stack[8];
-static uint8_t image[CELLPOOL_IMAGE_BYTES(CELLS)];
+static uint32_t scratch[CELLPOOL_SCRATCH(PLAN_CELLS)];
 
-#define LEN (sizeof words / sizeof words[0])
+/* CRC-32 (IEEE 802.3) of a slot's image. */
+static uint32_t crc_of(const uint8_t *bytes, uint32_t count) {
+    uint32_t crc = 0xFFFFFFFFu, i, bit;
+    for (i = 0; i < count; i++) {
+        crc ^= bytes[i];
+        for (bit = 0; bit < 8; bit++) crc = crc & 1u ? crc >> 1 ^ 0xEDB88320u : crc >> 1;
+    }
+    return ~crc;
+}
 
-static int unexpected;
+/* One try of each function: the first answer that is a refusal, or 0. */
+static uint32_t try_add(uint32_t waypoint, uint32_t metres) {
+    uint32_t visits, answer = cellpool_new(plan_words, LEN, METRES, NIL, NIL, metres, &visits);
+    if (answer == CELLPOOL_OK) answer = cellpool_new(plan_words, LEN, PLAN, METRES, PLAN, waypoint, &visits);
+    return answer;
+}
 
-static void expect(const char *what, uint32_t found, uint32_t expected) {
-    if (found != expected) {
-        printf("%s: %lu, expected %lu\n", what, (unsigned long)found, (unsigned long)expected);
-        unexpected++;
+static uint32_t try_next(uint32_t *waypoint, uint32_t *metres) {
+    uint32_t visits, answer = cellpool_value(plan_words, LEN, PLAN, waypoint);
+    if (answer == CELLPOOL_OK) answer = cellpool_left(plan_words, LEN, METRES, PLAN);
+    if (answer == CELLPOOL_OK) answer = cellpool_value(plan_words, LEN, METRES, metres);
+    /* Go on before the entry is made: it finds room, since nothing reaches the waypoint's two cells any more. */
+    if (answer == CELLPOOL_OK) answer = cellpool_right(plan_words, LEN, PLAN, PLAN);
+    if (answer == CELLPOOL_OK) answer = cellpool_clear(plan_words, LEN, METRES);
+    if (answer == CELLPOOL_OK) answer = cellpool_new(plan_words, LEN, LOG, NIL, LOG, *waypoint, &visits);
+    return answer;
+}
+
+static uint32_t try_store(plan_slot *slot, uint32_t sequence) {
+    size_t bytes = 0;
+    uint32_t answer;
+    slot->sequence = 0; /* not good until all of it is written */
+    answer = cellpool_save(plan_words, LEN, scratch, CELLPOOL_SCRATCH(PLAN_CELLS), slot->image, sizeof slot->image, &bytes);
+    if (answer != CELLPOOL_OK) return answer;
+    slot->bytes = (uint32_t)bytes;
+    slot->crc = crc_of(slot->image, slot->bytes);
+    slot->sequence = sequence;
+    return CELLPOOL_OK;
+}
+
+/* What to do about an answer: PLAN_OK where the try is to be made again, and otherwise what the caller is told. */
+static plan_code remedy(uint32_t answer) {
+    uint32_t is_empty = 0;
+    switch (answer) {
+    case CELLPOOL_REFUSED_FULL:
+        if (cellpool_same(plan_words, LEN, LOG, NIL, &is_empty) != CELLPOOL_OK) return PLAN_FAULT;
+        if (is_empty) return PLAN_FULL;
+        plan_drops++;
+        return cellpool_clear(plan_words, LEN, LOG) == CELLPOOL_OK ? PLAN_OK : PLAN_FAULT;
+    case CELLPOOL_REFUSED_SIZE:
+    case CELLPOOL_REFUSED_MALFORMED: return plan_recover();
+    case CELLPOOL_REFUSED_NIL: return PLAN_END;
+    default: return PLAN_FAULT;
     }
 }
 
-/* Put a waypoint before the plan. */
-static void add(uint32_t *pool, uint32_t waypoint) {
-    uint32_t visits;
-    expect("height", cellpool_new(pool, LEN, METRES, NIL, NIL, HEIGHT(waypoint), &visits), CELLPOOL_OK);
-    expect("waypoint", cellpool_new(pool, LEN, PLAN, METRES, PLAN, waypoint, &visits), CELLPOOL_OK);
-    expect("clear", cellpool_clear(pool, LEN, METRES), CELLPOOL_OK);
+/* After a try: done, or what is to be done about it. Two remedies, a stored plan and then room in it, may be needed. */
+static plan_code settled(uint32_t answer, int *tries) {
+    plan_code code = answer == CELLPOOL_OK ? PLAN_OK : remedy(answer);
+    if (cellpool_clear(plan_words, LEN, METRES) != CELLPOOL_OK) code = PLAN_FAULT;
+    if (answer == CELLPOOL_OK || code != PLAN_OK) *tries = 0;
+    else if (--*tries == 0) code = PLAN_FAULT;
+    return code;
 }
 
-/* Walk the plan, look at every height, and answer how many waypoints there are. */
-static uint32_t walk(uint32_t *pool) {
-    uint32_t count = 0, nil = 0, waypoint = 0, metres = 0;
-    expect("start", cellpool_copy(pool, LEN, WAYPOINT, PLAN), CELLPOOL_OK);
-    while (count <= CELLS) {
-        expect("at the end?", cellpool_same(pool, LEN, WAYPOINT, NIL, &nil), CELLPOOL_OK);
-        if (nil) break;
-        expect("number", cellpool_value(pool, LEN, WAYPOINT, &waypoint), CELLPOOL_OK);
-        expect("to the height", cellpool_left(pool, LEN, METRES, WAYPOINT), CELLPOOL_OK);
-        expect("height", cellpool_value(pool, LEN, METRES, &metres), CELLPOOL_OK);
-        expect("metres", metres, HEIGHT(waypoint));
-        expect("next", cellpool_right(pool, LEN, WAYPOINT, WAYPOINT), CELLPOOL_OK);
-        count++;
-    }
-    expect("clear", cellpool_clear(pool, LEN, METRES), CELLPOOL_OK);
-    return count;
+plan_code plan_begin(void) {
+    uint32_t cells;
+    return cellpool_fresh(plan_words, LEN, &cells) == CELLPOOL_OK ? PLAN_OK : PLAN_FAULT;
 }
 
-int main(void) {
-    uint32_t cells = 0, kept = 0, visits = 0, enough = 0, percent = 0, waypoint, i;
-    size_t bytes = 0, rest = 0;
+plan_code plan_add(uint32_t waypoint, uint32_t metres) {
+    plan_code code = PLAN_OK;
+    int tries = 3;
+    while (tries > 0) code = settled(try_add(waypoint, metres), &tries);
+    return code;
+}
 
-    expect("fresh", cellpool_fresh(words, LEN, &cells), CELLPOOL_OK);
-    expect("cells", cells, CELLS);
-    for (waypoint = WAYPOINTS; waypoint >= 1; waypoint--) add(words, waypoint);
-    expect("waypoints", walk(words), WAYPOINTS);
-    printf("plan of %lu waypoints in %lu cells\n", (unsigned long)WAYPOINTS, (unsigned long)cells);
+plan_code plan_next(uint32_t *waypoint, uint32_t *metres) {
+    plan_code code = PLAN_OK;
+    int tries = 3;
+    while (tries > 0) code = settled(try_next(waypoint, metres), &tries);
+    return code;
+}
 
-    /* Trim: the first two are flown, and everything behind the sixth is dropped. */
-    expect("flown", cellpool_right(words, LEN, PLAN, PLAN), CELLPOOL_OK);
-    expect("flown", cellpool_right(words, LEN, PLAN, PLAN), CELLPOOL_OK);
-    expect("start", cellpool_copy(words, LEN, WAYPOINT, PLAN), CELLPOOL_OK);
-    for (i = 0; i < 3; i++) expect("next", cellpool_right(words, LEN, WAYPOINT, WAYPOINT), CELLPOOL_OK);
-    expect("cut", cellpool_setright(words, LEN, WAYPOINT, NIL), CELLPOOL_OK);
-    expect("clear", cellpool_clear(words, LEN, WAYPOINT), CELLPOOL_OK);
-    expect("collect", cellpool_collect_stack(words, LEN, stack, sizeof stack / sizeof stack[0], &kept, &enough),
-           CELLPOOL_OK);
-    expect("kept", kept, 2 * 4);
-    expect("stack enough", enough, 1);
-    expect("occupancy", cellpool_occupancy(kept, cells, &percent), CELLPOOL_OK);
-    expect("percent", percent, 33);
-    expect("waypoints", walk(words), 4);
-    printf("trimmed to 4 waypoints: %lu cells kept, %lu %% of the pool\n", (unsigned long)kept, (unsigned long)percent);
+plan_code plan_store(void) {
+    int older = plan_slots[0].sequence <= plan_slots[1].sequence ? 0 : 1, tries = 3;
+    plan_code code = PLAN_OK;
+    while (tries > 0) code = settled(try_store(&plan_slots[older], plan_slots[1 - older].sequence + 1), &tries);
+    return code;
+}
 
-    /* A new lead-in: the pool collects by itself where no cell is free. */
-    for (i = 0; i < 3 * CELLS; i++) {
-        expect("try out", cellpool_new(words, LEN, METRES, NIL, NIL, i, &visits), CELLPOOL_OK);
-    }
-    add(words, 2);
-    expect("waypoints", walk(words), 5);
+static int load(const plan_slot *slot) {
+    size_t rest;
+    if (slot->sequence == 0 || slot->bytes > sizeof slot->image || crc_of(slot->image, slot->bytes) != slot->crc) return 0;
+    return cellpool_load(plan_words, LEN, slot->image, slot->bytes, &rest) == CELLPOOL_OK && rest == slot->bytes;
+}
 
-    /* Save, check, and load into the spare pool. */
-    expect("save", cellpool_save(words, LEN, scratch, sizeof scratch / sizeof scratch[0], image, sizeof image, &bytes),
-           CELLPOOL_OK);
-    /* K and 16 registers of a byte each, 5 waypoints of 3 bytes, and 5 heights of 4: theirs take two bytes each. */
-    expect("bytes", (uint32_t)bytes, 17 + 5 * 3 + 5 * 4);
-    expect("check", cellpool_check_image(image, bytes, CELLS), CELLPOOL_OK);
-    expect("cut image", cellpool_check_image(image, bytes - 1, CELLS), CELLPOOL_REFUSED_TRUNCATED);
-    expect("small pool", cellpool_check_image(image, bytes, 9), CELLPOOL_REFUSED_TOO_MANY_CELLS);
-    expect("load", cellpool_load(spare, LEN, image, sizeof image, &rest), CELLPOOL_OK);
-    expect("bytes read", (uint32_t)rest, (uint32_t)bytes);
-    expect("waypoints", walk(spare), 5);
-    expect("collect", cellpool_collect(spare, LEN, &kept, &visits), CELLPOOL_OK);
-    expect("kept", kept, 2 * 5);
-    expect("visits", visits, 3 * kept);
-    printf("saved in %lu bytes and loaded: %lu cells\n", (unsigned long)bytes, (unsigned long)kept);
-
-    /* Damaged memory is refused and left alone. */
-    spare[2 + PLAN] = CELLS + 1;
-    expect("damaged", cellpool_collect(spare, LEN, &kept, &visits), CELLPOOL_REFUSED_MALFORMED);
-    expect("load again", cellpool_load(spare, LEN, image, bytes, &rest), CELLPOOL_OK);
-    expect("waypoints", walk(spare), 5);
-    printf("%s\n", unexpected == 0 ? "all as expected" : "not as expected");
-    return unexpected == 0 ? 0 : 1;
+plan_code plan_recover(void) {
+    int newer = plan_slots[0].sequence > plan_slots[1].sequence ? 0 : 1;
+    plan_recoveries++;
+    if (load(&plan_slots[newer]) || load(&plan_slots[1 - newer])) return PLAN_OK;
+    return plan_begin() == PLAN_OK ? PLAN_LOST : PLAN_FAULT;
 }

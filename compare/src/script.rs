@@ -73,6 +73,11 @@ fn text(answer: Answer) -> String {
 
 /// The replies to a script, a line each, where `pool` makes the calls.
 pub fn replies(pool: &dyn Interface, script: &[u8]) -> String {
+    run(pool, script).0
+}
+
+/// The same, and the words that the script leaves, none where it has no accepted `f`.
+pub fn run(pool: &dyn Interface, script: &[u8]) -> (String, Vec<u32>) {
     let mut lines: Vec<&[u8]> = script.split(|&byte| byte == b'\n').collect();
     // Behind the last line end, and in an empty script, there is no line.
     if lines.last().is_some_and(|line| line.is_empty()) {
@@ -94,7 +99,7 @@ pub fn replies(pool: &dyn Interface, script: &[u8]) -> String {
         replies += &reply;
         replies.push('\n');
     }
-    replies
+    (replies, words)
 }
 
 /// The proved program, where it is built: CELLPOOL_RUNSCRIPT, or where `rt check runscript` puts it.

@@ -1,4 +1,4 @@
-//! The header from C and C++ and what it states of the archive, the example, the fuzz target with pseudo-random inputs,
+//! The header from C and C++ and what it states of the archive, the fuzz target with pseudo-random inputs,
 //! and which lent memory is touched.
 #![cfg(all(feature = "archive", c_baseline))]
 
@@ -9,13 +9,6 @@ use cellpool_compare::refusal;
 use common::c::{archive, cc, compile, file, made, run};
 #[cfg(target_arch = "x86_64")]
 use std::collections::BTreeMap;
-
-#[test]
-fn the_example_ends_as_expected() {
-    let sources = [file("../examples/firmware.c"), archive()];
-    let text = run(&compile("firmware", &cc(), &["-std=c99", "-O2"], &sources), &[]);
-    assert_eq!(text.lines().last(), Some("all as expected"), "{text}");
-}
 
 #[test]
 fn the_fuzz_target_finds_no_fault() {

@@ -261,4 +261,25 @@ mod programs {
             assert!(child.wait().expect("the program ends").success());
         }
     }
+
+    /// An output that takes nothing and an input that gives nothing end the proved program with one line on standard error
+    /// and status 0; arguments are not looked at.
+    #[cfg(target_os = "linux")]
+    #[test]
+    fn on_input_and_output_that_fail() {
+        let Some(program) = program() else { return };
+        let path = Path::new(env!("CARGO_TARGET_TMPDIR")).join("short.txt");
+        std::fs::write(&path, "f 1\ng\n").expect("the script is written");
+        let open = |name: &Path| File::open(name).expect("the file opens");
+        let full = File::options().write(true).open("/dev/full").expect("the file opens");
+        let full = Command::new(&program).stdin(open(&path)).stdout(full).output().expect("the program starts");
+        assert_eq!((full.stderr.as_slice(), full.status.code()), (&b"runscript: cannot write\n"[..], Some(0)));
+        let folder = Command::new(&program).stdin(open(Path::new("/"))).output().expect("the program starts");
+        assert_eq!((folder.stdout.len(), folder.status.code()), (0, Some(0)));
+        assert_eq!(folder.stderr, b"runscript: cannot read\n");
+        let named =
+            Command::new(&program).args(["--help", "x"]).stdin(open(&path)).output().expect("the program starts");
+        assert_eq!((named.stdout.as_slice(), named.status.code()), (&b"ok\nok 0 0\n"[..], Some(0)));
+        assert!(named.stderr.is_empty());
+    }
 }

@@ -1,0 +1,53 @@
+/* A flight plan that a board keeps in a cell pool: see firmware.c. */
+#ifndef FIRMWARE_H
+#define FIRMWARE_H
+
+#include "cellpool.h"
+
+#ifdef __cplusplus
+extern "C" {
+#endif
+
+/* Cells of the pool: a waypoint takes two, an entry of the log one. */
+#define PLAN_CELLS 24u
+
+typedef enum {
+    PLAN_OK,
+    /* The plan has no further waypoint. */
+    PLAN_END,
+    /* There is no room for a further waypoint; the plan is as it was. */
+    PLAN_FULL,
+    /* Memory was damaged and no stored plan was good: the plan is empty. */
+    PLAN_LOST,
+    /* A call was refused for a reason that these functions shut out: an error in the program. */
+    PLAN_FAULT
+} plan_code;
+
+/* A stored plan: an image carries no checksum of its own. */
+typedef struct {
+    uint32_t sequence, bytes, crc;
+    uint8_t image[CELLPOOL_IMAGE_BYTES(PLAN_CELLS)];
+} plan_slot;
+
+/* The board's memory: the pool, and two slots of storage that keeps its content. */
+extern uint32_t plan_words[CELLPOOL_WORDS(PLAN_CELLS)];
+extern plan_slot plan_slots[2];
+/* How often the plan was taken from a slot, and how often the log was dropped to make room. */
+extern uint32_t plan_recoveries, plan_drops;
+
+/* An empty plan and an empty log. */
+plan_code plan_begin(void);
+/* Put a waypoint before the plan. */
+plan_code plan_add(uint32_t waypoint, uint32_t metres);
+/* Take the first waypoint from the plan and enter it in the log. */
+plan_code plan_next(uint32_t *waypoint, uint32_t *metres);
+/* Store plan and log in the older slot. */
+plan_code plan_store(void);
+/* Take plan and log from the newest slot that is good. */
+plan_code plan_recover(void);
+
+#ifdef __cplusplus
+}
+#endif
+
+#endif

@@ -1,0 +1,84 @@
+/*
+ * The board's day, on a desk: what firmware.c does where the pool is full, memory is damaged, and storage is damaged too.
+ * The figures in the comments are counted by hand: a waypoint takes two cells of 24, an entry of the log one.
+ */
+#include "firmware.h"
+
+#include <stdio.h>
+
+static int unexpected;
+
+static void expect(const char *what, unsigned long found, unsigned long expected) {
+    if (found != expected) {
+        printf("%s: %lu, expected %lu\n", what, found, expected);
+        unexpected++;
+    }
+}
+
+/* The cells that the plan and the log reach. */
+static unsigned long live(void) {
+    uint32_t kept = 0, visits;
+    expect("collect", cellpool_collect(plan_words, CELLPOOL_WORDS(PLAN_CELLS), &kept, &visits), CELLPOOL_OK);
+    return kept;
+}
+
+static void fly(uint32_t waypoint) {
+    uint32_t number = 0, metres = 0;
+    expect("next", plan_next(&number, &metres), PLAN_OK);
+    expect("waypoint", number, waypoint);
+    expect("metres", metres, 100 + 10 * waypoint);
+}
+
+int main(void) {
+    uint32_t i, number, metres;
+
+    expect("begin", plan_begin(), PLAN_OK);
+    for (i = 10; i >= 1; i--) expect("add", plan_add(i, 100 + 10 * i), PLAN_OK);
+    expect("cells of ten waypoints", live(), 20);
+    expect("store", plan_store(), PLAN_OK);
+    for (i = 1; i <= 6; i++) fly(i);
+    expect("cells of four waypoints and six entries", live(), 8 + 6);
+    expect("store", plan_store(), PLAN_OK);
+    printf("six of ten waypoints flown, %lu cells live\n", live());
+
+    /* Five more fill the pool, 14 + 10; the sixth drops the log, 4 + 6 waypoints are 20 cells; two more fill it again. */
+    for (i = 6; i >= 2; i--) expect("add", plan_add(i, 100 + 10 * i), PLAN_OK);
+    expect("cells", live(), 24);
+    expect("log dropped", plan_drops, 0);
+    expect("add", plan_add(1, 110), PLAN_OK);
+    expect("log dropped", plan_drops, 1);
+    expect("cells", live(), 20);
+    expect("add", plan_add(0, 100), PLAN_OK);
+    expect("add", plan_add(0, 100), PLAN_OK);
+    expect("cells", live(), 24);
+    expect("add to a full plan", plan_add(0, 100), PLAN_FULL);
+    expect("cells", live(), 24);
+    fly(0);
+    expect("cells of eleven waypoints and one entry", live(), 22 + 1);
+    printf("log dropped %lu time, twelve waypoints in a full pool, one of them flown\n", (unsigned long)plan_drops);
+
+    /* A damaged register: the plan of the last store comes back, with waypoint 7 as its first. */
+    plan_words[2] = PLAN_CELLS + 1;
+    fly(7);
+    expect("recovered", plan_recoveries, 1);
+    expect("cells of three waypoints and seven entries", live(), 6 + 7);
+    printf("damaged memory: recovered, and waypoint 7 flown\n");
+
+    /* Damaged words and a flipped bit in the newer slot: the older one has all ten waypoints. */
+    plan_words[0] = 0;
+    plan_slots[1].image[20] ^= 1u;
+    fly(1);
+    expect("recovered", plan_recoveries, 2);
+    expect("cells of nine waypoints and one entry", live(), 18 + 1);
+    printf("newer slot damaged too: recovered from the older one\n");
+
+    for (i = 2; i <= 10; i++) fly(i);
+    expect("next behind the last", plan_next(&number, &metres), PLAN_END);
+    expect("cells of ten entries", live(), 10);
+    plan_slots[0].bytes = 0xFFFFFFFFu;
+    plan_words[1 + 4] = 99;
+    expect("store of damaged words, no slot good", plan_store(), PLAN_LOST);
+    expect("cells of nothing", live(), 0);
+    printf("%s\n", unexpected == 0 ? "all as expected" : "not as expected");
+    return unexpected == 0 ? 0 : 1;
+}
