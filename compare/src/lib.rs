@@ -6,6 +6,7 @@
 //! * `baseline` is a second implementation with the algorithms of the source documents, and the benchmark's baseline.
 //! * `pool` (feature `archive`) is the library under test behind safe functions.
 //! * `script` says what the program `runscript` prints.
+//! * `picture` draws the tables of docs/PERFORMANCE.md.
 //! * `checks` are the comparisons; the tests run them on every implementation.
 
 pub mod baseline;
@@ -14,6 +15,7 @@ pub mod checks;
 pub mod generate;
 pub mod guard;
 pub mod model;
+pub mod picture;
 #[cfg(feature = "archive")]
 pub mod pool;
 pub mod random;

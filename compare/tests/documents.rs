@@ -1,5 +1,5 @@
 //! The documents name what is there: every file, and every edit that the check must refuse; and each such edit stands in
-//! docs/DEMANDS.md.
+//! docs/DEMANDS.md. The picture of docs/PERFORMANCE.md is that of its tables.
 
 use std::collections::BTreeSet;
 use std::fs;
@@ -105,4 +105,26 @@ fn every_file_that_is_named_exists() {
         }
     }
     assert!(count > 50, "only {count} files are named");
+}
+
+#[test]
+fn the_picture_is_that_of_the_tables() {
+    let read = |name: &str| fs::read_to_string(root().join("docs").join(name)).expect("a document can be read");
+    let (tables, picture) = (read("PERFORMANCE.md"), read("performance.svg"));
+    assert!(
+        cellpool_compare::picture::draw(&tables) == picture,
+        "draw it again: cargo run --release --offline --bin picture < ../docs/PERFORMANCE.md > ../docs/performance.svg"
+    );
+    // Two figures of the tables, by their place in the picture: the first row's, and the last one's.
+    let figures: Vec<&str> =
+        picture.lines().filter(|line| line.starts_with("<text") && line.contains("anchor=\"end\">")).collect();
+    let first = |of: &str| {
+        let row = tables.lines().find(|line| line.starts_with(of)).expect("the row is there");
+        row.trim_matches('|').split('|').map(str::trim).next_back().expect("a row has cells").to_string()
+    };
+    assert!(
+        figures[0].contains(">collect, balanced tree<")
+            && figures[2].contains(&format!(">{}<", first("| balanced tree")))
+    );
+    assert!(figures[figures.len() - 1].contains(&format!(">{}<", first("| `new`, at most 15"))));
 }
