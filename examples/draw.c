@@ -14,8 +14,8 @@
 #define CELLS CELLPOOL_MOST_CELLS
 
 static uint32_t words[CELLPOOL_WORDS(CELLS)];
-/* One byte more than any image in its shortest form has; what does not fit is then not one. */
-static uint8_t bytes[CELLPOOL_IMAGE_BYTES(CELLS) + 1];
+/* Any image fits, also one whose numbers were not written by cellpool_save and take five bytes each. */
+static uint8_t bytes[5u * (1u + CELLPOOL_REGISTERS + 3u * CELLS)];
 
 /* The four words of cell i. */
 static const uint32_t *cell(uint32_t i) { return words + CELLPOOL_WORDS(i - 1); }

@@ -22,9 +22,15 @@ fn cells(line: &str) -> Vec<&str> {
     line.trim_matches('|').split('|').map(str::trim).collect()
 }
 
-/// The tables of a document: the title before each, its heads, its rows.
-fn tables(document: &str) -> Vec<(&str, Vec<&str>, Vec<Vec<&str>>)> {
-    let mut list: Vec<(&str, Vec<&str>, Vec<Vec<&str>>)> = Vec::new();
+/// A table of the document: the title before it, its heads, its rows.
+struct Table<'a> {
+    title: &'a str,
+    heads: Vec<&'a str>,
+    rows: Vec<Vec<&'a str>>,
+}
+
+fn tables(document: &str) -> Vec<Table<'_>> {
+    let mut list: Vec<Table> = Vec::new();
     let mut title = "";
     let mut within = false;
     for line in document.lines() {
@@ -34,10 +40,10 @@ fn tables(document: &str) -> Vec<(&str, Vec<&str>, Vec<Vec<&str>>)> {
         if !line.starts_with('|') {
             within = false;
         } else if !within {
-            list.push((title, cells(line), Vec::new()));
+            list.push(Table { title, heads: cells(line), rows: Vec::new() });
             within = true;
         } else if !line.starts_with("|---") {
-            list.last_mut().expect("a table has begun").2.push(cells(line));
+            list.last_mut().expect("a table has begun").rows.push(cells(line));
         }
     }
     list
@@ -46,7 +52,7 @@ fn tables(document: &str) -> Vec<(&str, Vec<&str>, Vec<Vec<&str>>)> {
 /// The rows to draw: every row that has a ratio to plain Rust or plain C; of the stack those where it has a word for each cell.
 fn rows(document: &str) -> Vec<Row> {
     let mut list = Vec::new();
-    for (title, heads, rows) in tables(document) {
+    for Table { title, heads, rows } in tables(document) {
         let column = |name: &str| heads.iter().position(|head| *head == name);
         let ratio = |row: &[&str], place: Option<usize>| place.and_then(|place| row.get(place)?.parse().ok());
         let (rust, c) = (column("library / plain Rust"), column("library / plain C").or(column("runscript / plain C")));

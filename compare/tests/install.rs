@@ -272,6 +272,17 @@ fn installed_into_an_empty_folder_the_examples_build_and_run() {
     }
     assert!(built >= 2, "no compiler");
     draws(&folder.join("draw.out"), rounds(40));
+    // The longest image: as many cells as there can be, each number in five bytes.
+    let all = MOST_CELLS as u32;
+    let registers = (0..16).map(|_| 1);
+    let numbers = [all].into_iter().chain(registers).chain((1..=all).flat_map(|i| [i, all, i]));
+    let longest: Vec<u8> = numbers
+        .flat_map(|x| [0, 7, 14, 21, 28].map(|place| (x >> place) as u8 & 0x7F | if place < 28 { 0x80 } else { 0 }))
+        .collect();
+    let output = fed(&folder.join("draw.out"), &longest);
+    let (pool, _) = parse(&longest, MOST_CELLS).expect("the model reads it");
+    assert_eq!(text(&output.stdout), graph(&pool, all));
+    assert!(output.stderr.is_empty() && output.status.success());
     let output = fed(&folder.join("draw.out"), b"");
     assert_eq!(text(&output.stderr), "draw: refused with 6: the image is cut off\n");
 }
