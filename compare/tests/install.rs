@@ -54,7 +54,7 @@ fn copy_of_the_sources(name: &str) -> PathBuf {
         }
     }
     copied(archive(), copy.join("lib/libcellpool.a"));
-    fs::write(copy.join("crates/lib.rt"), "").expect("a source is written");
+    fs::write(copy.join("crates/source"), "").expect("a source is written");
     let later = SystemTime::now() + Duration::from_secs(10);
     let archive = File::options().write(true).open(copy.join("lib/libcellpool.a")).expect("the copy opens");
     archive.set_modified(later).expect("the time is set");
@@ -293,7 +293,7 @@ fn an_archive_that_is_older_or_missing_is_not_installed() {
     let prefix = copy.join("prefix");
     let run =
         |library: &str| install(&copy.join("install"), &copy.join(library), &[prefix.to_str().expect("a plain path")]);
-    for source in ["crates/lib.rt", "include/cellpool.h"] {
+    for source in ["crates/source", "include/cellpool.h"] {
         let opened = File::options().write(true).open(copy.join(source)).expect("the source opens");
         let before = opened.metadata().and_then(|data| data.modified()).expect("it has a time");
         opened.set_modified(SystemTime::now() + Duration::from_secs(20)).expect("the time is set");
