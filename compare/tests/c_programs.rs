@@ -89,6 +89,17 @@ fn the_archive_has_the_instructions_that_the_header_states() {
     assert_eq!(needed, ["memset"]);
 }
 
+/// The example of a board calls the library and nothing else.
+#[test]
+fn the_firmware_needs_no_standard_library() {
+    let options = ["-std=c99", "-O2", "-ffreestanding", "-c"];
+    let object = compile("firmware.o", &cc(), &options, &[file("../examples/firmware.c")]);
+    let Ok(needed) = std::process::Command::new("nm").arg("-u").arg(object).output() else { return };
+    let needed = String::from_utf8_lossy(&needed.stdout).into_owned();
+    let needed: Vec<&str> = needed.lines().filter_map(|line| line.trim().strip_prefix("U ")).collect();
+    assert!(needed.len() > 5 && needed.iter().all(|name| name.starts_with("cellpool_")), "{needed:?}");
+}
+
 #[test]
 fn every_answer_has_a_text_of_its_own() {
     let text = "#include \"cellpool.h\"\n\
