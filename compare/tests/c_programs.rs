@@ -77,13 +77,14 @@ fn no_function_takes_more_stack_than_the_header_states() {
 #[cfg(target_arch = "x86_64")]
 #[test]
 fn the_archive_has_the_instructions_that_the_header_states() {
-    let Ok(listed) = std::process::Command::new("objdump").arg("-dr").arg(archive()).output() else { return };
+    let listed =
+        std::process::Command::new("objdump").arg("-dr").arg(archive()).output().expect("objdump is beside ar");
     let text = String::from_utf8_lossy(&listed.stdout);
     assert!(text.contains("<cellpool_collect>:"), "objdump lists the functions");
     for register in ["%ymm", "%zmm", "%mm", "%st"] {
         assert!(!text.contains(register), "the archive uses {register}");
     }
-    let needed = std::process::Command::new("nm").arg("-u").arg(archive()).output().expect("nm is beside objdump");
+    let needed = std::process::Command::new("nm").arg("-u").arg(archive()).output().expect("nm is beside ar");
     let needed = String::from_utf8_lossy(&needed.stdout).into_owned();
     let needed: Vec<&str> = needed.lines().filter_map(|line| line.trim().strip_prefix("U ")).collect();
     assert_eq!(needed, ["memset"]);
@@ -94,7 +95,7 @@ fn the_archive_has_the_instructions_that_the_header_states() {
 fn the_firmware_needs_no_standard_library() {
     let options = ["-std=c99", "-O2", "-ffreestanding", "-c"];
     let object = compile("firmware.o", &cc(), &options, &[file("../examples/firmware.c")]);
-    let Ok(needed) = std::process::Command::new("nm").arg("-u").arg(object).output() else { return };
+    let needed = std::process::Command::new("nm").arg("-u").arg(object).output().expect("nm is beside ar");
     let needed = String::from_utf8_lossy(&needed.stdout).into_owned();
     let needed: Vec<&str> = needed.lines().filter_map(|line| line.trim().strip_prefix("U ")).collect();
     assert!(needed.len() > 5 && needed.iter().all(|name| name.starts_with("cellpool_")), "{needed:?}");
