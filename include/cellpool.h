@@ -55,7 +55,7 @@
  *   cellpool_collect_tally       linear                                             192
  *   cellpool_collect_stack       linear, and linear in stack_len                    160
  *   cellpool_collect_recursive   linear                                             6144
- *   cellpool_save                linear, and linear in scratch_len                  192
+ *   cellpool_save                linear, and linear in scratch_len                  320
  *   cellpool_load                linear                                             256
  *   cellpool_check_image         linear in the cells of the image                   192
  *   cellpool_occupancy           constant                                           32

@@ -1,5 +1,5 @@
 -- What "new" answers and leaves behind the first two questions (01, "The eleven calls" and "Questions, in order"): on the words of a pool of n cells, for
--- registers that there are.
+-- valid registers.
 use Prim.Native.Nat.{ℕ}
 use mathlib.Core.List.{List}
 use mathlib.Core.Bool.{Bool, cond, _&&_}

@@ -1,4 +1,4 @@
-// The allocation of a cell: "new" behind its first two questions. A function takes the number of cells, n, of words that hold them, and registers that there are.
+// The allocation of a cell: "new" behind its first two questions. Functions take the number of cells, n, of a pool, and valid registers.
 use answers::Answer;
 use answers::Refusal;
 use pool::Pool;

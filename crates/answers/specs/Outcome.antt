@@ -54,8 +54,10 @@ answerOutcome (answer.Refused k) = refused (refusalNumber k)
 abbrev pub Determined : (A : Type 0) → (A → Outcome) → Type 0
 Determined A says = (p q : A) → says p ≡ says q → p ≡ q
 
+-- So it is of a refusal.
 abbrev pub RefusalDetermined : Type 0
 RefusalDetermined = (j k : Refusal) → refusalNumber j ≡ refusalNumber k → j ≡ k
 
+-- And of an answer.
 abbrev pub AnswerDetermined : Type 0
 AnswerDetermined = Determined Answer answerOutcome

@@ -24,10 +24,11 @@ tallying x first second = (status (x .0), x .1, x .2 .collections, x .2 .visits,
 abbrev pub withStack : Outcome × List ℕ × List ℕ → ℕ → ℕ → ℕ × List ℕ × List ℕ × ℕ × ℕ
 withStack x first second = (status (x .0), x .1, x .2, given (x .0) 0 first, given (x .0) 1 second)
 
--- An operation that leaves nothing but the number, or the two numbers, that it gives.
+-- An operation that leaves nothing but the number that it gives.
 abbrev pub number : Outcome → ℕ → ℕ × ℕ
 number o old = (status o, given o 0 old)
 
+-- The same of two numbers.
 abbrev pub numbers : Outcome → ℕ → ℕ → ℕ × ℕ × ℕ
 numbers o first second = (status o, given o 0 first, given o 1 second)
 

@@ -66,7 +66,7 @@ pub record MarkedAndSwept (n : ℕ) (w : List ℕ) (kept visits : ℕ) (w' : Lis
   -- "The sweep sets state 3 to 0, frees every other cell and rebuilds the ascending chain."
   pub swept : sweepOf registerCount n marked ≡ (kept, w')
 
--- Visits are counted: what a collection answers and leaves is what marking by reversal and the sweep come to, the visits among it.
+-- Visits are counted: what a collection answers and leaves is the result of marking by reversal and of the sweep, visits included.
 abbrev pub CollectionMarksAndSweeps : Type 0
 CollectionMarksAndSweeps =
     (n : ℕ) (w : List ℕ) → 0 < n → cellCount registerCount w ≡ n → wellFormed registerCount n w ≡ true

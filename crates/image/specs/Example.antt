@@ -21,6 +21,7 @@ two-cells-image =
 abbrev pub two-cells-bytes : List ℕ
 two-cells-bytes = 2 ∷ 1 ∷ 0 ∷ 1 ∷ 2 ∷ 172 ∷ 2 ∷ 0 ∷ 0 ∷ 7 ∷ []
 
+-- The image of the two cells.
 abbrev pub ImageExample : Type 0
 ImageExample = imageOf 2 2 two-cells ≡ two-cells-bytes
 
@@ -28,9 +29,11 @@ ImageExample = imageOf 2 2 two-cells ≡ two-cells-bytes
 abbrev pub ReadExample : Type 0
 ReadExample = readImage 2 2 two-cells-bytes ≡ parsed two-cells-image 10
 
+-- Without its last byte.
 abbrev pub TruncatedExample : Type 0
 TruncatedExample = readImage 2 2 (2 ∷ 1 ∷ 0 ∷ 1 ∷ 2 ∷ 172 ∷ 2 ∷ 0 ∷ 0 ∷ []) ≡ fault refusal.Truncated
 
+-- For a pool of one cell.
 abbrev pub TooManyCellsExample : Type 0
 TooManyCellsExample = readImage 2 1 (2 ∷ []) ≡ fault refusal.TooManyCells
 

@@ -39,6 +39,7 @@ savedImage R w order = record { registers = map (numberIn order) (rootsOf R w); 
 abbrev pub cellBytes : ImageCell → List ℕ
 cellBytes c = encode (c .left) ++ encode (c .right) ++ encode (c .value)
 
+-- "K, sixteen registers, then left, right, value for K cells"
 abbrev pub imageBytes : Image → List ℕ
 imageBytes i = encode (length (i .cells)) ++ flatMap encode (i .registers) ++ flatMap cellBytes (i .cells)
 
@@ -62,6 +63,7 @@ anyNumber (number.Value v next) = parsed v next
 anyNumber number.Missing = fault refusal.Truncated
 anyNumber number.OutOfRange = fault refusal.OutOfRange
 
+-- The number at a place of the bytes.
 abbrev pub readNumber : List ℕ → ℕ → Parsed ℕ
 readNumber bytes at = anyNumber (readAt bytes at)
 

@@ -29,7 +29,7 @@ pub enum Place {
 
 // What stands at the start of the bytes.
 pub enum Scan {
-    // An image of so many cells, and the place behind it.
+    // An image with this number of cells, and the place behind it.
     Whole { cells: u32, end: usize },
     Refused(Refusal),
 }

@@ -19,7 +19,7 @@ use Rattle.replies.specs.declared.Written.{Written}
 use Rattle.replies.specs.declared.Written.the-variants as written
 use Rattle.script.specs.Reader.{newReader, feedOf, endOf}
 use Rattle.script.specs.Scripts.{nextLine}
-use Rattle.replies.specs.Replies.{replyRoom, writeAt}
+use Rattle.replies.specs.Replies.{replyRoom, replyAt}
 use Rattle.script.proofs.Scanning.{parts-read}
 use Rattle.interpreter.specs.Execute.{turnOf, poolOf, withPool, executeOf, transcript}
 use Rattle.interpreter.specs.Work.{waiting, remaining, GoesOn, HasRoom, LineRun, Advanced, Worked}
@@ -50,11 +50,11 @@ pub record Stands (out : List ℕ) (put : ℕ) (text : List ℕ) (put′ : ℕ) 
   pub inside : put′ ≤ length out
 
 module _ (out : List ℕ) (put : ℕ) (text : List ℕ) (room : put + replyRoom ≤ length out) where
-  has-room : writeAt out put text ≡ (written.Next (put + length text), take put out ++ text ++ drop (put + length text) out)
-  unfolding writeAt
+  has-room : replyAt out put text ≡ (written.Next (put + length text), take put out ++ text ++ drop (put + length text) out)
+  unfolding replyAt
   has-room = simp (le-leb (put + replyRoom) (length out) room)
 
-  stood : (put′ : ℕ) (out′ : List ℕ) → (written.Next put′, out′) ≡ writeAt out put text → length out′ ≡ length out → Stands out put text put′ out′
+  stood : (put′ : ℕ) (out′ : List ℕ) → (written.Next put′, out′) ≡ replyAt out put text → length out′ ≡ length out → Stands out put text put′ out′
   stood put′ out′ e same =
       let both-are : _≡_ {A = Written × List ℕ} (written.Next put′, out′) (written.Next (put + length text), take put out ++ text ++ drop (put + length text) out) = e ∙ has-room in
       let place : written.Next put′ ≡ written.Next (put + length text) = ap (λ (t : Written × List ℕ). t .0) both-are in
@@ -66,7 +66,7 @@ module _ (out : List ℕ) (put : ℕ) (text : List ℕ) (room : put + replyRoom 
         inside = omega (arith, front, same, ap length bytes ∙ length-append (take put out ++ text) (drop (put + length text) out));
       }
 
-  no-reply : (out′ : List ℕ) → (written.NoRoom, out′) ≡ writeAt out put text → ⊥
+  no-reply : (out′ : List ℕ) → (written.NoRoom, out′) ≡ replyAt out put text → ⊥
   no-reply out′ e = let no-place = ap (λ (t : Written × List ℕ). t .0) (e ∙ has-room) in let z : _≡_ {A = ℕ} 0 1 = cc in omega arith
 
 -- the line that is run, and its reply
@@ -82,7 +82,7 @@ module _
     (turn : (text, used′, w′) ≡ executeOf line (p .used) w)
   where
     pub line-run :
-        (s : LineReader) (put′ : ℕ) → s ≡ newReader → (written.Next put′, out′) ≡ writeAt out (p .put) text → length out′ ≡ length out
+        (s : LineReader) (put′ : ℕ) → s ≡ newReader → (written.Next put′, out′) ≡ replyAt out (p .put) text → length out′ ≡ length out
         → LineRun line next w out p w′ out′ (record { used = used′; reader = s; at = next; put = put′ })
     line-run s put′ fresh e same =
         let is = ran line (p .used) w text used′ w′ turn in
@@ -95,7 +95,7 @@ module _
           inside = there .inside;
         }
 
-    pub line-lost : (q : Progress) → (written.NoRoom, out′) ≡ writeAt out (p .put) text → LineRun line next w out p w′ out′ q
+    pub line-lost : (q : Progress) → (written.NoRoom, out′) ≡ replyAt out (p .put) text → LineRun line next w out p w′ out′ q
     line-lost q e = absurd (no-reply out (p .put) text room out′ e)
 
 -- a line feed stands behind where the reader stood

@@ -77,5 +77,6 @@ pub record Ends (w : List ℕ) (p : Progress) : Type 0 where
   pub begun : begunOf (p .reader) ≡ true → remaining w [] (handed p) [] ≡ remaining w (code "\n" ∷ []) (handed p) []
   pub over : begunOf (p .reader) ≡ false → remaining w [] (handed p) [] ≡ []
 
+-- So it is at every progress, whatever the words hold.
 abbrev pub LastLineEnds : Type 0
 LastLineEnds = (w : List ℕ) (p : Progress) → Ends w p

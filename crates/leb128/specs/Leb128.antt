@@ -80,6 +80,7 @@ pub record Encoding (v : ℕ) : Type 0 where
   pub most : length (encode v) ≤ 5
   pub bytes : Bytes (encode v)
 
+-- So is every number below 2^32.
 abbrev pub OneToFiveBytes : Type 0
 OneToFiveBytes = (v : ℕ) → v < 2 ^ 32 → Encoding v
 
@@ -89,5 +90,6 @@ pub record ReadInside (bytes : List ℕ) (at v next : ℕ) : Type 0 where
   pub inside : next ≤ length bytes
   pub value : v < 2 ^ 32
 
+-- So is every number that is read.
 abbrev pub ReadsWithin : Type 0
 ReadsWithin = (bytes : List ℕ) (at v next : ℕ) → Bytes bytes → readAt bytes at ≡ Value v next → ReadInside bytes at v next

@@ -15,10 +15,11 @@ cellLimit = 4000
 abbrev pub registerCount : ℕ
 registerCount = 16
 
--- Registers stand from word 2 on, and cells from the word behind them: "from word 18".
+-- The first register's word.
 abbrev pub firstRegister : ℕ
 firstRegister = 2
 
+-- The first cell's word, behind the registers: "from word 18".
 abbrev pub firstCell : ℕ → ℕ
 firstCell R = firstRegister + R
 
@@ -35,6 +36,7 @@ cellCountOfLength R len =
 unfoldable pub count : List ℕ → ℕ
 count w = getD w 0 0
 
+-- The words with another word 0.
 unfoldable pub setCount : List ℕ → ℕ → List ℕ
 setCount w n = set w 0 n
 
@@ -47,13 +49,15 @@ cellCount R w = let n = cellCountOfLength R (length w) in cond (eqb (count w) n)
 unfoldable pub head : List ℕ → ℕ
 head w = getD w 1 0
 
+-- The words with another head.
 unfoldable pub setHead : List ℕ → ℕ → List ℕ
 setHead w v = set w 1 v
 
--- "Words 2 to 17 are registers 0 to 15": what register k holds, and the words in which it holds v.
+-- "Words 2 to 17 are registers 0 to 15": what register k holds.
 unfoldable pub register : List ℕ → ℕ → ℕ
 register w k = getD w (firstRegister + k) 0
 
+-- The words in which register k holds v.
 unfoldable pub setRegister : List ℕ → ℕ → ℕ → List ℕ
 setRegister w k v = set w (firstRegister + k) v
 
@@ -61,28 +65,35 @@ setRegister w k v = set w (firstRegister + k) v
 abbrev pub cellAt : ℕ → ℕ → ℕ → ℕ
 cellAt R i f = firstCell R + 4 * (i - 1) + f
 
+-- Field f of cell i.
 unfoldable pub cell : ℕ → List ℕ → ℕ → ℕ → ℕ
 cell R w i f = getD w (cellAt R i f) 0
 
+-- The words with another value in field f of cell i.
 unfoldable pub setCell : ℕ → List ℕ → ℕ → ℕ → ℕ → List ℕ
 setCell R w i f v = set w (cellAt R i f) v
 
+-- The state of cell i.
 abbrev pub state : ℕ → List ℕ → ℕ → ℕ
 state R w i = cell R w i 0
 
+-- Its left link.
 abbrev pub left : ℕ → List ℕ → ℕ → ℕ
 left R w i = cell R w i 1
 
+-- Its right link.
 abbrev pub right : ℕ → List ℕ → ℕ → ℕ
 right R w i = cell R w i 2
 
+-- Its value.
 abbrev pub value : ℕ → List ℕ → ℕ → ℕ
 value R w i = cell R w i 3
 
--- State s, left l and right r written to cell i, and with them its value v.
+-- State s, left l and right r written to cell i.
 abbrev pub setNode : ℕ → List ℕ → ℕ → ℕ → ℕ → ℕ → List ℕ
 setNode R w i s l r = setCell R (setCell R (setCell R w i 0 s) i 1 l) i 2 r
 
+-- With them the value v: all four words of cell i written.
 abbrev pub putCell : ℕ → List ℕ → ℕ → ℕ → ℕ → ℕ → ℕ → List ℕ
 putCell R w i s l r v = setCell R (setNode R w i s l r) i 3 v
 
@@ -90,9 +101,10 @@ putCell R w i s l r v = setCell R (setNode R w i s l r) i 3 v
 abbrev pub linkOf : ℕ → List ℕ → ℕ → ℕ → ℕ
 linkOf R w i f = cell R w i f
 
--- The graph that the words hold, and the links that its registers hold, in order.
+-- The graph that the words hold.
 abbrev pub graphOf : ℕ → List ℕ → Graph
 graphOf R w = record { left = λ i. linkOf R w i 1; right = λ i. linkOf R w i 2 }
 
+-- The links that its registers hold, in order.
 abbrev pub rootsOf : ℕ → List ℕ → List ℕ
 rootsOf R w = tabulate R (λ k. register w k)

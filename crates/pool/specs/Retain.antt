@@ -62,6 +62,7 @@ unfoldable pub chainFrom : ℕ → ℕ → List ℕ → ℕ → List ℕ
 chainFrom R zero w i = []
 chainFrom R (suc k) w i = elim (eqb i 0) [ true ↦ [] | false ↦ i ∷ chainFrom R k w (left R w i) ]
 
+-- The free list of a pool of n cells.
 abbrev pub freeList : ℕ → ℕ → List ℕ → List ℕ
 freeList R n w = chainFrom R n w (head w)
 

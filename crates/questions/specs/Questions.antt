@@ -31,7 +31,7 @@ askedNext there (admitted.Refused k) = admitted.Refused k
 abbrev pub admitOf : List ℕ → Named → Admitted
 admitOf w named = askedNext (areRegisters named) (sizedOf w)
 
--- What follows the questions: an operation on a pool of so many cells, or the refusal with its number.
+-- What follows the questions: the operation on a pool of that many cells, or the refusal with its number.
 abbrev pub admittedTo : {A : Type 0} → (ℕ → A) → (ℕ → A) → Admitted → A
 admittedTo body refusing (admitted.Cells n) = body n
 admittedTo body refusing (admitted.Refused k) = refusing (refusalNumber k)
@@ -40,5 +40,6 @@ admittedTo body refusing (admitted.Refused k) = refusing (refusalNumber k)
 abbrev pub holdsLink : ℕ → List ℕ → ℕ → Bool
 holdsLink n w a = validLink registerCount n w (register w a)
 
+-- What a read of register a answers.
 abbrev pub heldOf : ℕ → List ℕ → ℕ → Held
 heldOf n w a = cond (holdsLink n w a) (held.Link (register w a)) held.Malformed

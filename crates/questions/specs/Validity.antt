@@ -16,11 +16,11 @@ abbrev pub validCell : ℕ → ℕ → List ℕ → ℕ → Bool
 validCell R n w i =
     isFree (state R w i) || (isUsed (state R w i) && validLink R n w (linkOf R w i 1) && validLink R n w (linkOf R w i 2))
 
--- All registers are valid.
+-- "all registers .. are sound"
 abbrev pub registersValid : ℕ → ℕ → List ℕ → Bool
 registersValid R n w = every R (λ k. validLink R n w (register w k))
 
--- Every cell is.
+-- Every cell is free, or used with sound links.
 abbrev pub cellsValid : ℕ → ℕ → List ℕ → Bool
 cellsValid R n w = every n (λ k. validCell R n w (suc k))
 

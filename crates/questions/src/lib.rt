@@ -15,7 +15,7 @@ pub struct Named {
     pub third: u32,
 }
 
-// What the first questions of an operation come to: the number of cells, or the refusal.
+// The outcome of the first questions of an operation: the number of cells, or the refusal.
 pub enum Admitted {
     Cells(u32),
     Refused(Refusal),

@@ -1,4 +1,4 @@
--- What a visit of the recursive marker may rely on, and what it comes to.
+-- What a visit of the recursive marker may rely on, and its result.
 use Prim.Native.Nat.{ℕ, _+_, _^_, _<_, _≤_}
 use mathlib.Core.List.{List}
 use Rattle.graph.specs.Graph.{Graph}

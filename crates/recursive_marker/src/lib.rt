@@ -16,7 +16,7 @@ ghost use Rattle.collector.specs.Collect.{collectIn};
 ghost use Rattle.recursive_marker.specs.Recursive.{recursionLimit, recursiveOf};
 ghost use Rattle.recursive_marker.specs.Steps.{Markable, visited};
 
-// The most cells of a pool that is marked so. In a chain of so many the visit of the first cell has depth 64, that of the last depth 1, and the
+// The most cells of a pool that is marked so. In a chain of that many cells the visit of the first cell has depth 64, that of the last depth 1, and the
 // visits of its links, which are nil, depth 0.
 const DEPTH: u32 = 64;
 

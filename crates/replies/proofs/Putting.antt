@@ -8,7 +8,7 @@ use lib.Seq.{sets, sets-eq}
 use borrow.Author.Tests.{le-leb, lt-leb}
 use Rattle.replies.specs.declared.Written.the-variants.{Next, NoRoom}
 use Rattle.replies.proofs.Decimals.{decimal-most}
-use Rattle.replies.specs.Replies.{afterSpace, spaced, Put, replyRoom, writeAt}
+use Rattle.replies.specs.Replies.{afterSpace, spaced, PutText, replyRoom, replyAt}
 
 sets-append : (out : List ℕ) (at : ℕ) (text more : List ℕ) → sets out at (text ++ more) ≡ sets (sets out at text) (at + length text) more
 sets-append out at [] more = ap (λ i. sets out i more) (omega arith)
@@ -16,7 +16,7 @@ sets-append out at (b ∷ text) more =
     sets-append (set out at b) (suc at) text more ∙ ap (λ i. sets (sets (set out at b) (suc at) text) i more) (omega arith)
 
 pub puts : {out : List ℕ} {at : ℕ} {text more : List ℕ} {next last : ℕ} {middle after : List ℕ}
-    → Put out at text next middle → Put middle next more last after → Put out at (text ++ more) last after
+    → PutText out at text next middle → PutText middle next more last after → PutText out at (text ++ more) last after
 puts {out} {at} {text} {more} first second =
     record {
       behind = omega (arith, length-append text more);
@@ -43,12 +43,12 @@ two-most x y fits fits′ = omega (arith, length-spaced x (y ∷ []), decimal-mo
 
 -- A text that is put where there is room is written, and none where there is too little.
 pub written : {out : List ℕ} {at : ℕ} {text : List ℕ} {next : ℕ} {after : List ℕ}
-    → Put out at text next after → length text ≤ replyRoom → at + replyRoom ≤ length out → (Next next, after) ≡ writeAt out at text
-unfolding writeAt
+    → PutText out at text next after → length text ≤ replyRoom → at + replyRoom ≤ length out → (Next next, after) ≡ replyAt out at text
+unfolding replyAt
 written {out} {at} {text} put fits room =
     let bytes = put .bytes ∙ sets-eq text out at (omega arith) in
     rw (le-leb (at + replyRoom) (length out) room) (λ j. (Next (put .behind j), bytes j))
 
-pub no-room : (out : List ℕ) (at : ℕ) (text : List ℕ) → length out < at + replyRoom → (NoRoom, out) ≡ writeAt out at text
-unfolding writeAt
+pub no-room : (out : List ℕ) (at : ℕ) (text : List ℕ) → length out < at + replyRoom → (NoRoom, out) ≡ replyAt out at text
+unfolding replyAt
 no-room out at text short = rw (lt-leb (at + replyRoom) (length out) short)

@@ -48,7 +48,7 @@ replyText reply.Bad = code "b" ∷ code "a" ∷ code "d" ∷ code "\n" ∷ []
 replyText (reply.Answered answer) = outcomeText (answerOutcome answer)
 
 -- A text is put at a place of the bytes: the place behind it, and the bytes afterwards.
-pub record Put (out : List ℕ) (at : ℕ) (text : List ℕ) (next : ℕ) (after : List ℕ) : Type 0 where
+pub record PutText (out : List ℕ) (at : ℕ) (text : List ℕ) (next : ℕ) (after : List ℕ) : Type 0 where
   pub behind : next ≡ at + length text
   pub bytes : after ≡ sets out at text
 
@@ -57,8 +57,8 @@ abbrev pub replyRoom : ℕ
 replyRoom = 25
 
 -- Writes a text at a place: the answer and the bytes afterwards. Without room nothing changes.
-unfoldable pub writeAt : List ℕ → ℕ → List ℕ → Written × List ℕ
-writeAt out at text =
+unfoldable pub replyAt : List ℕ → ℕ → List ℕ → Written × List ℕ
+replyAt out at text =
     let next = at + length text in
     cond (leb (at + replyRoom) (length out)) (Next next, take at out ++ text ++ drop next out) (NoRoom, out)
 
@@ -67,6 +67,7 @@ pub record ReadBack (v : ℕ) : Type 0 where
   pub number : isNumber (decimal v) ≡ true
   pub value : decimalValue (decimal v) ≡ v
 
+-- So is every number below 2^32.
 abbrev pub DecimalsReadBack : Type 0
 DecimalsReadBack = (v : ℕ) → v < 2 ^ 32 → ReadBack v
 

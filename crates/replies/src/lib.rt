@@ -5,7 +5,7 @@ ghost use mathlib.Core.Path.{_≡_};
 ghost use mathlib.Core.List.{[], _∷_};
 ghost use lib.ListN.{length};
 ghost use Rattle.answers.specs.Outcome.{answerOutcome};
-ghost use Rattle.replies.specs.Replies.{decimal, afterSpace, spaced, outcomeText, replyText, replyRoom, Put, writeAt};
+ghost use Rattle.replies.specs.Replies.{decimal, afterSpace, spaced, outcomeText, replyText, replyRoom, PutText, replyAt};
 
 // What is printed for a line.
 pub enum Reply {
@@ -29,7 +29,7 @@ impl Reply {
 
 // Writes the text of a reply at a place of `out`, if there is room for any.
 pub fn write_reply(out: &mut [u8], at: usize, reply: Reply) -> Written
-    ensures { λ r. ⌜ (r, now (out .exit)) ≡ writeAt (now (out .entry)) at (replyText reply) ⌝ }
+    ensures { λ r. ⌜ (r, now (out .exit)) ≡ replyAt (now (out .entry)) at (replyText reply) ⌝ }
 {
     if out.len() < at {
         return Written::NoRoom;
@@ -42,7 +42,7 @@ pub fn write_reply(out: &mut [u8], at: usize, reply: Reply) -> Written
 
 fn put_reply(out: &mut [u8], at: usize, reply: Reply) -> usize
     requires { ⌜ at + replyRoom ≤ length (now out) ⌝ }
-    ensures { λ r. ⌜ Put (now (out .entry)) at (replyText reply) r (now (out .exit)) ⌝ }
+    ensures { λ r. ⌜ PutText (now (out .entry)) at (replyText reply) r (now (out .exit)) ⌝ }
     ensures { λ _. ⌜ length (replyText reply) ≤ replyRoom ⌝ }
 {
     match reply {
@@ -56,7 +56,7 @@ fn put_reply(out: &mut [u8], at: usize, reply: Reply) -> usize
 
 fn put_answer(out: &mut [u8], at: usize, answer: Answer) -> usize
     requires { ⌜ at + replyRoom ≤ length (now out) ⌝ }
-    ensures { λ r. ⌜ Put (now (out .entry)) at (outcomeText (answerOutcome answer)) r (now (out .exit)) ⌝ }
+    ensures { λ r. ⌜ PutText (now (out .entry)) at (outcomeText (answerOutcome answer)) r (now (out .exit)) ⌝ }
     ensures { λ _. ⌜ length (outcomeText (answerOutcome answer)) ≤ replyRoom ⌝ }
 {
     match answer {
@@ -86,7 +86,7 @@ fn put_answer(out: &mut [u8], at: usize, answer: Answer) -> usize
 // Two numbers, each after a space, and the line end.
 fn put_numbers(out: &mut [u8], at: usize, x: u32, y: u32) -> usize
     requires { ⌜ at + length (spaced (x ∷ y ∷ [])) ≤ length (now out) ⌝ }
-    ensures { λ r. ⌜ Put (now (out .entry)) at (spaced (x ∷ y ∷ [])) r (now (out .exit)) ⌝ }
+    ensures { λ r. ⌜ PutText (now (out .entry)) at (spaced (x ∷ y ∷ [])) r (now (out .exit)) ⌝ }
 {
     let next = put_spaced(out, at, x);
     put_number(out, next, y)
@@ -95,7 +95,7 @@ fn put_numbers(out: &mut [u8], at: usize, x: u32, y: u32) -> usize
 // A number after a space, and the line end.
 fn put_number(out: &mut [u8], at: usize, x: u32) -> usize
     requires { ⌜ at + length (spaced (x ∷ [])) ≤ length (now out) ⌝ }
-    ensures { λ r. ⌜ Put (now (out .entry)) at (spaced (x ∷ [])) r (now (out .exit)) ⌝ }
+    ensures { λ r. ⌜ PutText (now (out .entry)) at (spaced (x ∷ [])) r (now (out .exit)) ⌝ }
 {
     let next = put_spaced(out, at, x);
     put(out, next, b'\n')
@@ -104,7 +104,7 @@ fn put_number(out: &mut [u8], at: usize, x: u32) -> usize
 // A number after a space.
 fn put_spaced(out: &mut [u8], at: usize, x: u32) -> usize
     requires { ⌜ at + length (afterSpace x) ≤ length (now out) ⌝ }
-    ensures { λ r. ⌜ Put (now (out .entry)) at (afterSpace x) r (now (out .exit)) ⌝ }
+    ensures { λ r. ⌜ PutText (now (out .entry)) at (afterSpace x) r (now (out .exit)) ⌝ }
 {
     let next = put(out, at, b' ');
     put_decimal(out, next, x)
@@ -113,7 +113,7 @@ fn put_spaced(out: &mut [u8], at: usize, x: u32) -> usize
 // The digits of a number, the highest first.
 fn put_decimal(out: &mut [u8], at: usize, v: u32) -> usize
     requires { ⌜ at + length (decimal v) ≤ length (now out) ⌝ }
-    ensures { λ r. ⌜ Put (now (out .entry)) at (decimal v) r (now (out .exit)) ⌝ }
+    ensures { λ r. ⌜ PutText (now (out .entry)) at (decimal v) r (now (out .exit)) ⌝ }
 {
     if v < 10 {
         return put(out, at, b'0' + v as u8);
@@ -124,7 +124,7 @@ fn put_decimal(out: &mut [u8], at: usize, v: u32) -> usize
 
 fn put_two(out: &mut [u8], at: usize, a: u8, b: u8) -> usize
     requires { ⌜ at + 2 ≤ length (now out) ⌝ }
-    ensures { λ r. ⌜ Put (now (out .entry)) at (a ∷ b ∷ []) r (now (out .exit)) ⌝ }
+    ensures { λ r. ⌜ PutText (now (out .entry)) at (a ∷ b ∷ []) r (now (out .exit)) ⌝ }
 {
     out[at] = a;
     out[at + 1] = b;
@@ -133,7 +133,7 @@ fn put_two(out: &mut [u8], at: usize, a: u8, b: u8) -> usize
 
 fn put(out: &mut [u8], at: usize, b: u8) -> usize
     requires { ⌜ at < length (now out) ⌝ }
-    ensures { λ r. ⌜ Put (now (out .entry)) at (b ∷ []) r (now (out .exit)) ⌝ }
+    ensures { λ r. ⌜ PutText (now (out .entry)) at (b ∷ []) r (now (out .exit)) ⌝ }
 {
     out[at] = b;
     at + 1

@@ -18,13 +18,15 @@ isReached R n w i = elem i (reachedCells R n w)
 abbrev pub reachedCount : ℕ → ℕ → List ℕ → ℕ
 reachedCount R n w = length (reachedCells R n w)
 
--- The visits that marking makes: three of each cell ("3 × kept").
+-- The visits that marking makes of a cell: three ("3 × kept").
 abbrev pub cellVisits : ℕ → ℕ
 cellVisits x = 3
 
+-- The visits of several cells.
 unfoldable pub visitsOf : List ℕ → ℕ
 visitsOf [] = 0
 visitsOf (x ∷ xs) = cellVisits x + visitsOf xs
 
+-- The visits of all that the registers reach.
 abbrev pub reachedVisits : ℕ → ℕ → List ℕ → ℕ
 reachedVisits R n w = visitsOf (reachedCells R n w)

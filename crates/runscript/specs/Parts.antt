@@ -59,10 +59,11 @@ pub record RunSoFar (w : List ℕ) (p : Progress) : Type 0 where
   pub text : List ℕ
   pub follows : (more : List ℕ) → text ++ rest w p more ≡ printed (script ++ more)
 
--- It is so at the start, with words for the largest pool, and stays so with each part that is read and run.
+-- It is so at the start, with words for the largest pool.
 abbrev pub StartsRun : Type 0
 StartsRun = (w : List ℕ) → length w ≡ poolLength registerCount cellLimit → RunSoFar w initial
 
+-- It stays so with each part that is read and run.
 abbrev pub ContinuesRun : Type 0
 ContinuesRun = (w : List ℕ) (p : Progress) (w′ buffer : List ℕ) (q : Progress) → RunSoFar w p → Continued w p w′ buffer q → RunSoFar w′ q
 

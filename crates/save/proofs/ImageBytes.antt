@@ -17,7 +17,7 @@ use Rattle.pool.proofs.Every.{length-tabulate}
 use Rattle.reversal.specs.Reached.{reachedCells, reachedCount}
 use Rattle.image.specs.declared.ImageCell.{ImageCell}
 use Rattle.image.specs.Image.{numberIn, savedCell, cellBytes, imageOf}
-use Rattle.save.specs.Steps.{registerBytes, orderBytes, Put}
+use Rattle.save.specs.Steps.{registerBytes, orderBytes, PutBytes}
 
 -- The bytes of a list from place p on: the first element's, then those of the others; none at its end.
 module _ {A : Type 0} (code : A → List ℕ) (f : ℕ → A) (l : List ℕ) (p : ℕ) where
@@ -109,7 +109,7 @@ module _ (out last : List ℕ) (at v : ℕ) (r : Written) (room : at + length (e
   unfolding writeAt
   wrote e = e ∙ simp (le-leb (at + length (encode v)) (length out) room)
 
-  pub put-next : (next : ℕ) → _≡_ {A = Written × List ℕ} (r, last) (writeAt out at v) → r ≡ written.Next next → Put (encode v) out at next last
+  pub put-next : (next : ℕ) → _≡_ {A = Written × List ℕ} (r, last) (writeAt out at v) → r ≡ written.Next next → PutBytes (encode v) out at next last
   put-next next e is =
       let place : written.Next next ≡ written.Next (at + length (encode v)) = sym is ∙ ap (λ x. x .0) (wrote e) in
       (cc, ap (λ x. x .1) (wrote e))
@@ -120,13 +120,13 @@ module _ (out last : List ℕ) (at v : ℕ) (r : Written) (room : at + length (e
       let z : _≡_ {A = ℕ} 0 1 = cc in omega arith
 
 -- Nothing is written; some bytes are, and behind them others.
-pub put-nothing : (out : List ℕ) (at : ℕ) → Put [] out at at out
+pub put-nothing : (out : List ℕ) (at : ℕ) → PutBytes [] out at at out
 put-nothing out at =
     let here : at + 0 ≡ at = omega arith in
     (sym here, sym (ap₂ (λ (a b : List ℕ). a ++ b) (append-nil (take at out)) (ap (λ (k : ℕ). drop k out) here) ∙ take-append-drop at out))
 
 pub put-append : (a b out : List ℕ) (at next : ℕ) (after : List ℕ) (end : ℕ) (last : List ℕ) → at ≤ length out
-    → Put a out at next after → Put b after next end last → Put (a ++ b) out at end last
+    → PutBytes a out at next after → PutBytes b after next end last → PutBytes (a ++ b) out at end last
 put-append a b out at next after end last inside p q =
     let front : length (take at out ++ a) ≡ next = omega (arith, length-append (take at out) a, length-take-le at out inside, p .0) in
     let before : take next after ≡ take at out ++ a =
@@ -144,8 +144,8 @@ put-append a b out at next after end last inside p q =
 
 -- The parts of an image, written to the start of the output.
 pub put-image : (R n : ℕ) (w : List ℕ) (k : ℕ) (out : List ℕ) (first : ℕ) (out₁ : List ℕ) (second : ℕ) (out₂ : List ℕ) (end : ℕ) (last : List ℕ)
-    → k ≡ reachedCount R n w → Put (encode k) out 0 first out₁ → Put (registerBytes R n w 0) out₁ first second out₂
-    → Put (orderBytes R n w 0) out₂ second end last → last ≡ imageOf R n w ++ drop (length (imageOf R n w)) out
+    → k ≡ reachedCount R n w → PutBytes (encode k) out 0 first out₁ → PutBytes (registerBytes R n w 0) out₁ first second out₂
+    → PutBytes (orderBytes R n w 0) out₂ second end last → last ≡ imageOf R n w ++ drop (length (imageOf R n w)) out
 put-image R n w k out first out₁ second out₂ end last e p q r =
     let registers = registerBytes R n w 0 in
     let cells = orderBytes R n w 0 in
@@ -158,7 +158,7 @@ put-image R n w k out first out₁ second out₂ end last e p q r =
 pub record Writing (whole out₀ : List ℕ) (start : ℕ) (rest out : List ℕ) (at : ℕ) : Type 0 where
   pub done : List ℕ
   pub parts : done ++ rest ≡ whole
-  pub put : Put done out₀ start at out
+  pub put : PutBytes done out₀ start at out
   pub len : length out ≡ length out₀
 
 pub writing-first : (whole out : List ℕ) (start : ℕ) → Writing whole out start whole out start
@@ -171,7 +171,7 @@ module _ (whole out₀ : List ℕ) (start : ℕ) (room : start + length whole �
   writing-room e more b =
       omega (arith, t .put .0, t .len, ap length (t .parts), length-append (t .done) rest, ap length (b .split), length-append e more)
 
-  pub writing-more : (e more : List ℕ) (next : ℕ) (after : List ℕ) → Begins rest e more → Put e out at next after → length after ≡ length out
+  pub writing-more : (e more : List ℕ) (next : ℕ) (after : List ℕ) → Begins rest e more → PutBytes e out at next after → length after ≡ length out
       → Writing whole out₀ start more after next
   writing-more e more next after b p long =
       record {
@@ -181,7 +181,7 @@ module _ (whole out₀ : List ℕ) (start : ℕ) (room : start + length whole �
         len = long ∙ t .len;
       }
 
-  pub writing-last : rest ≡ [] → Put whole out₀ start at out
+  pub writing-last : rest ≡ [] → PutBytes whole out₀ start at out
   writing-last none =
       let all : t .done ≡ whole = sym (append-nil (t .done)) ∙ (ap (λ (l : List ℕ). t .done ++ l) (sym none) ∙ t .parts) in
       rw all at (t .put)

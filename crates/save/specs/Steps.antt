@@ -14,13 +14,14 @@ use Rattle.image.specs.Image.{numberIn, savedCell, cellBytes}
 abbrev pub numberAt : List ℕ → ℕ → ℕ
 numberAt s x = cond (eqb x 0) 0 (getD s (x - 1) 0)
 
--- The bytes of the registers from register j on, and those of the reached cells from place p of the order on.
+-- The bytes of the registers from register j on.
 abbrev pub registerBytes : ℕ → ℕ → List ℕ → ℕ → List ℕ
 registerBytes R n w j = flatMap encode (map (numberIn (reachedCells R n w)) (drop j (rootsOf R w)))
 
+-- The bytes of the reached cells from place p of the order on.
 abbrev pub orderBytes : ℕ → ℕ → List ℕ → ℕ → List ℕ
 orderBytes R n w p = flatMap cellBytes (map (savedCell R w (reachedCells R n w)) (drop p (reachedCells R n w)))
 
 -- From the output out to after, these bytes were written at a place, and `next` is the place behind them.
-abbrev pub Put : (bytes out : List ℕ) (at next : ℕ) (after : List ℕ) → Type 0
-Put bytes out at next after = (next ≡ at + length bytes) × (after ≡ take at out ++ bytes ++ drop (at + length bytes) out)
+abbrev pub PutBytes : (bytes out : List ℕ) (at next : ℕ) (after : List ℕ) → Type 0
+PutBytes bytes out at next after = (next ≡ at + length bytes) × (after ≡ take at out ++ bytes ++ drop (at + length bytes) out)

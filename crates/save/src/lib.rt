@@ -14,7 +14,7 @@ ghost use Rattle.reversal.specs.Reached.{reachedCells, reachedCount};
 ghost use Rattle.image.specs.Image.{numberIn, savedCell, cellBytes, imageOf};
 ghost use Rattle.save.specs.Save.{savedOutcome, saveImage, saveIn, saveOf};
 ghost use Rattle.numbering.specs.Steps.{Savable, Ordered};
-ghost use Rattle.save.specs.Steps.{numberAt, registerBytes, orderBytes, Put};
+ghost use Rattle.save.specs.Steps.{numberAt, registerBytes, orderBytes, PutBytes};
 
 // What `save` answers.
 pub enum Saved {
@@ -103,7 +103,7 @@ fn image_size(words: &[u32], scratch: &[u32], n: u32, k: u32) -> usize
 // Writes a number where there is room for it. Gives the place behind it.
 fn put_number(out: &mut [u8], at: usize, v: u32) -> usize
     requires { ⌜ at + length (encode v) ≤ length (now out) ⌝ }
-    ensures { λ r. ⌜ Put (encode v) (now (out .entry)) at r (now (out .exit)) ⌝ }
+    ensures { λ r. ⌜ PutBytes (encode v) (now (out .entry)) at r (now (out .exit)) ⌝ }
 {
     match leb128::write_number(out, at, v) {
         Written::Next(next) => next,
@@ -114,7 +114,7 @@ fn put_number(out: &mut [u8], at: usize, v: u32) -> usize
 // Writes a cell where there is room for it. Gives the place behind it.
 fn put_cell(out: &mut [u8], at: usize, cell: ImageCell) -> usize
     requires { ⌜ at + length (cellBytes cell) ≤ length (now out) ⌝ }
-    ensures { λ r. ⌜ Put (cellBytes cell) (now (out .entry)) at r (now (out .exit)) ⌝ }
+    ensures { λ r. ⌜ PutBytes (cellBytes cell) (now (out .entry)) at r (now (out .exit)) ⌝ }
 {
     let left = cell.left;
     let right = cell.right;
@@ -127,7 +127,7 @@ fn put_cell(out: &mut [u8], at: usize, cell: ImageCell) -> usize
 // Writes the registers where there is room for them. Gives the place behind them.
 fn write_registers(words: &[u32], scratch: &[u32], n: u32, out: &mut [u8], start: usize) -> usize
     requires { ⌜ Savable registerCount n (now words) (length (now scratch)) × Ordered registerCount n (now words) (now scratch) × (start + length (registerBytes registerCount n (now words) 0) ≤ length (now out)) ⌝ }
-    ensures { λ r. ⌜ Put (registerBytes registerCount n (now (words .entry)) 0) (now (out .entry)) start r (now (out .exit)) ⌝ }
+    ensures { λ r. ⌜ PutBytes (registerBytes registerCount n (now (words .entry)) 0) (now (out .entry)) start r (now (out .exit)) ⌝ }
 {
     let mut at = start;
     let mut j = 0;
@@ -148,7 +148,7 @@ fn write_cells(
     start: usize,
 ) -> usize
     requires { ⌜ Savable registerCount n (now words) (length (now scratch)) × Ordered registerCount n (now words) (now scratch) × (k ≡ reachedCount registerCount n (now words)) × (start + length (orderBytes registerCount n (now words) 0) ≤ length (now out)) ⌝ }
-    ensures { λ r. ⌜ Put (orderBytes registerCount n (now (words .entry)) 0) (now (out .entry)) start r (now (out .exit)) ⌝ }
+    ensures { λ r. ⌜ PutBytes (orderBytes registerCount n (now (words .entry)) 0) (now (out .entry)) start r (now (out .exit)) ⌝ }
 {
     let mut at = start;
     let mut p = 0;

@@ -9,6 +9,7 @@ use Rattle.calls.specs.declared.Call.the-variants as call
 use Rattle.script.specs.declared.Line.{Line}
 use Rattle.script.specs.declared.Line.the-variants as line
 
+-- Is it a space?
 abbrev pub isSpace : ℕ → Bool
 isSpace b = eqb b (code " ")
 
@@ -22,6 +23,7 @@ unfoldable pub laterWords : List ℕ → List (List ℕ)
 laterWords [] = []
 laterWords (b ∷ bytes) = elim (isSpace b) [ true ↦ firstWord bytes ∷ laterWords bytes | false ↦ laterWords bytes ]
 
+-- Is it a digit?
 abbrev pub isDigit : ℕ → Bool
 isDigit b = leb (code "0") b && leb b (code "9")
 

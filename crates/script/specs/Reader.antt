@@ -88,10 +88,11 @@ begunOf s = s .bad || s .complete || not (eqb (s .count) 0)
 abbrev pub ReadsLines : Type 0
 ReadsLines = (bytes : List ℕ) → endOf (foldl feedOf newReader bytes) ≡ parseLine bytes
 
--- It has begun exactly if it was fed a byte.
+-- Is the list empty?
 abbrev pub isEmpty : List ℕ → Bool
 isEmpty [] = true
 isEmpty (b ∷ bytes) = false
 
+-- A line has begun exactly if the reader was fed a byte.
 abbrev pub KnowsBegun : Type 0
 KnowsBegun = (bytes : List ℕ) → begunOf (foldl feedOf newReader bytes) ≡ not (isEmpty bytes)

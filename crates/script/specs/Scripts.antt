@@ -13,6 +13,7 @@ use Rattle.script.specs.declared.LineReader.{LineReader}
 use Rattle.script.specs.declared.Found.{Found}
 use Rattle.script.specs.declared.Found.the-variants as found
 
+-- Is it a line feed?
 abbrev pub isLineFeed : ℕ → Bool
 isLineFeed b = eqb b (code "\n")
 
@@ -56,5 +57,6 @@ pub record ReadsInParts (s : LineReader) (bytes rest : List ℕ) (at : ℕ) : Ty
       → readScript s (drop at bytes ++ rest) ≡ line ∷ readScript newReader (drop next bytes ++ rest)
   pub more : (t : LineReader) → nextLine s (drop at bytes) at ≡ found.More t → readScript s (drop at bytes ++ rest) ≡ readScript t rest
 
+-- So it is of every reader, part and place.
 abbrev pub PartsRead : Type 0
 PartsRead = (s : LineReader) (bytes rest : List ℕ) (at : ℕ) → ReadsInParts s bytes rest at

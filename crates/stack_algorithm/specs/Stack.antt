@@ -19,6 +19,7 @@ unmarkedLinks true false l r = l ∷ []
 unmarkedLinks false true l r = r ∷ []
 unmarkedLinks false false l r = []
 
+-- The unmarked links of the cell p.
 abbrev pub onward : Graph → List ℕ → ℕ → List ℕ
 onward g seen p = unmarkedLinks (isUnmarked seen (g .left p)) (isUnmarked seen (g .right p)) (g .left p) (g .right p)
 
@@ -53,5 +54,6 @@ stackRun n g roots = runs (2 * n) g [] roots
 abbrev pub stackMarked : ℕ → Graph → List ℕ → List ℕ
 stackMarked n g roots = stackRun n g roots .0
 
+-- The most entries that its stack ever holds.
 abbrev pub maxEntries : ℕ → Graph → List ℕ → ℕ
 maxEntries n g roots = stackRun n g roots .1

@@ -1,4 +1,4 @@
--- What the loops of the stack marker may rely on, and what they come to.
+-- What the loops of the stack marker may rely on, and their results.
 use Prim.Native.Nat.{ℕ, zero, suc, _*_}
 use mathlib.Core.Path.{_≡_}
 use mathlib.Core.List.{List, [], _∷_, _++_}
@@ -51,7 +51,7 @@ runFromCell R n p w h = run (2 * n) (graphOf R (h .pool)) (h .seen ++ p ∷ []) 
 abbrev pub poolRun : ℕ → ℕ → List ℕ → List ℕ × ℕ
 poolRun R n w = stackRun n (graphOf R w) (rootsOf R w)
 
--- What a marker with `room` words of stack comes to, where `end` is what it comes to with an unlimited stack: the stack is enough exactly where that
+-- The result of a marker with `room` words of stack, where `end` is its result with an unlimited stack: the stack is enough exactly where that
 -- never holds more entries; then the same cells are marked, and otherwise clearing the marks gives the pool back.
 pub record Ran (R n room : ℕ) (pool w' : List ℕ) (end : List ℕ × ℕ) (enough : Bool) : Type 0 where
   pub answer : enough ≡ leb (end .1) room
