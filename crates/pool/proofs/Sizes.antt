@@ -77,10 +77,6 @@ module _ (R : ℕ) (w : List ℕ) where
       go true e h = (length-sized R (length w) h, eqb-true _ _ e)
       go false e h = absurd (omega arith)
 
-  -- the same of a number of cells that is not 0
-  pub some-cells : (n : ℕ) → n ≡ cellCount R w → (n ≡ 0 → ⊥) → Sized R (length w) n
-  some-cells n e some = rw e (cells-sized (omega (arith, some)) .0)
-
 -- words of the same length with the same word 0 are pools of as many cells
 pub cells-same : (R : ℕ) (w w' : List ℕ) → length w ≡ length w' → count w ≡ count w' → cellCount R w ≡ cellCount R w'
 unfolding cellCount

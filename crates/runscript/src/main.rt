@@ -117,8 +117,9 @@ fn read_part(words: &mut [u32], buffer: &mut [u8], out: &mut [u8], progress: Pro
     run_read(words, &buffer[..n], out, progress)
 }
 
-// A proved loop has to end, and nothing says that the input does: the loop counts down, from a number of reads that no run uses up.
-fn main() {
+// Runs the script on standard input. A proved loop has to end, and nothing says that the input does: the loop counts down, from a number of reads
+// that no run uses up.
+fn run() {
     let mut words = [0u32; WORDS];
     let mut buffer = io::large_buffer();
     let mut out = io::large_buffer();
@@ -133,4 +134,16 @@ fn main() {
         p = next;
         reads -= 1;
     }
+}
+
+// With an argument the program says how it is used, and reads nothing.
+fn main() {
+    if 1 < os::arg_count() {
+        io::write_all(
+            STDERR_FILENO,
+            b"usage: runscript < SCRIPT\nIt takes no arguments: the script is standard input, and the replies are standard output.\n",
+        );
+        return;
+    }
+    run();
 }

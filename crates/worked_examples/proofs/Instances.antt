@@ -34,7 +34,7 @@ use Rattle.script.specs.Lines.{all, command}
 use Rattle.script.specs.Reader.{spaceOf, letterOf, digitOf, feedOf, endOf, begunOf}
 use Rattle.replies.specs.Replies.{digits, decimal}
 use Rattle.script.specs.Scripts.{nextLine}
-use Rattle.worked_examples.specs.Instances.{three, threeCollected, two, graph, roots, Swapped, Pool-instance, Reversal-instance, Graph-instance, Number-instance, Image-instance, Batch-instance, Script-instance}
+use Rattle.worked_examples.specs.Instances.{three, threeCollected, two, graph, roots, Swapped, PoolInstance, ReversalInstance, GraphInstance, NumberInstance, ImageInstance, BatchInstance, ScriptInstance}
 use Rattle.reversal.specs.Reached.{visitsOf}
 
 -- Every element of a list that is tested whole is below a bound.
@@ -61,7 +61,7 @@ apart : List·Memᴰ {A = ℕ} 3 (1 ∷ 2 ∷ []) → ⊥
 apart (List·Memᴰ·head e) = omega arith
 apart (List·Memᴰ·tail (List·Memᴰ·head e)) = omega arith
 
-pub pool-instance : Pool-instance
+pub pool-instance : PoolInstance
 unfolding elem visit visits preorder visitsOf tabulate every cellCountOfLength count setCount cellCount head register cell setCell lowestFree retain run runs
 pool-instance =
     record { some = omega arith; most = omega arith; room = omega arith; cells = refl; well-formed = refl; answer = refl; full = refl; stack = refl; no-stack = refl }
@@ -93,7 +93,7 @@ dfs =
     Dfs.step {t = []} {u = []} refl (Dfs.stop {m = mark m 2} {p = 1} (omega arith)) (Dfs.stop {m = mark m 2} {p = 0} (omega arith)) in
     Dfs.step {t = 2 ∷ []} {u = []} refl second (Dfs.stop {m = mark m 2} {p = 2} (omega arith))
 
-pub reversal-instance : Reversal-instance
+pub reversal-instance : ReversalInstance
 unfolding elem visit visits preorder visitsOf tabulate register cell outside markedCount
 reversal-instance =
     record {
@@ -149,7 +149,7 @@ unfolding cell
 agree x (List·Memᴰ·head e) = rw e (record { left = refl; right = refl })
 agree x (List·Memᴰ·tail (List·Memᴰ·head e)) = rw e (record { left = refl; right = refl })
 
-pub graph-instance : Graph-instance
+pub graph-instance : GraphInstance
 unfolding elem visit visits preorder visitsOf tabulate register cell run runs
 graph-instance =
     record {
@@ -174,12 +174,12 @@ graph-instance =
       right = (refl, refl);
     }
 
-pub number-instance : Number-instance
+pub number-instance : NumberInstance
 unfolding all groups encode readGroups readAt
 number-instance =
     record { largest = omega arith; same = refl; bytes = below 256 (omega arith) (0x80 ∷ 0x00 ∷ []) refl; read = refl; fewer = omega arith }
 
-pub image-instance : Image-instance
+pub image-instance : ImageInstance
 unfolding all elem visit visits preorder visitsOf groups encode readGroups readAt tabulate every cellCountOfLength count setCount cellCount register setRegister cell setCell lowestFree retain placeFrom flatMap readEach readImage putEach
 image-instance =
     record {
@@ -196,11 +196,11 @@ image-instance =
       room = omega arith;
     }
 
-pub batch-instance : Batch-instance
+pub batch-instance : BatchInstance
 unfolding elem visit visits preorder visitsOf tabulate every cellCountOfLength count setCount cellCount head setHead register setRegister cell setCell lowestFree retain programOf programOfCalls runFrom afterAll poolAnswers
 batch-instance = record { exact = refl; program = refl; room = omega arith; run = refl; answer = List·Memᴰ·tail (List·Memᴰ·head refl) }
 
-pub script-instance : Script-instance
+pub script-instance : ScriptInstance
 unfolding all command spaceOf letterOf digitOf feedOf endOf begunOf digits decimal nextLine
 script-instance =
     record {

@@ -63,7 +63,7 @@ roots = rootsOf registerCount
 
 -- `CollectionKeepsTheReached`, `CollectionMarksAndSweeps`, `RunOverPool`, `RetainedFreeList`, `StackCollects`; and `FreshIsWellFormed`,
 -- `FreshIsFree`, `Equivalence`, `EquivalenceAtLimit`, `ReachedPools` and `ChainNeeds`, which ask for no more than a number of cells.
-pub record Pool-instance : Type 0 where
+pub record PoolInstance : Type 0 where
   pub some : 0 < 3
   pub most : 3 ≤ cellLimit
   pub room : poolLength registerCount 3 ≤ length three
@@ -76,8 +76,8 @@ pub record Pool-instance : Type 0 where
   pub stack : stackOf three (9 ∷ []) ≡ (answered (2 ∷ 1 ∷ []), threeCollected, 0 ∷ [])
   pub no-stack : stackOf three [] ≡ (answered (2 ∷ 0 ∷ []), threeCollected, [])
 
--- `RunFromLink`, from link 1, and `RunFromRoots` (that the roots are cells is `within .root` of Graph-instance).
-pub record Reversal-instance : Type 0 where
+-- `RunFromLink`, from link 1, and `RunFromRoots` (that the roots are cells is `within .root` of GraphInstance).
+pub record ReversalInstance : Type 0 where
   pub agreement : Agreement registerCount 3 (graph three) (outside 3) three
   pub unmarked : outside 3 1 ≡ 0
   pub dfs : Dfs (graph three) (outside 3) 1 (1 ∷ 2 ∷ [])
@@ -90,7 +90,7 @@ abbrev pub Swapped : ℕ → ℕ → Type 0
 Swapped x y = (x ≤ 2) × (y ≡ getD (0 ∷ 2 ∷ 1 ∷ []) x 0)
 
 -- The theorems of graphs and of marking with a stack, on the pool's graph.
-pub record Graph-instance : Type 0 where
+pub record GraphInstance : Type 0 where
   -- `PreorderReached`, `PreorderDistinct`, `PreorderLength`, `PreorderDepth`
   pub within : Within 3 (graph three) (roots three)
   pub deeper : 3 ≤ 4
@@ -120,7 +120,7 @@ pub record Graph-instance : Type 0 where
 
 -- LEB128: `RoundTrip`, `OneToFiveBytes` and `DecimalsReadBack` (of scripts) of the largest number; `PrefixFree` and `OneToOne`, whose numbers can
 -- only be equal; `FewestGroups` and `ReadsWithin` of two bytes that are read as 0, whose encoding has one.
-pub record Number-instance : Type 0 where
+pub record NumberInstance : Type 0 where
   pub largest : 4294967295 < 2 ^ 32
   pub same : encode 4294967295 ++ [] ≡ encode 4294967295
   pub bytes : Bytes (0x80 ∷ 0x00 ∷ [])
@@ -149,7 +149,7 @@ abbrev pub output : List ℕ
 output = replicate 26 9
 
 -- The theorems of load and save.
-pub record Image-instance : Type 0 where
+pub record ImageInstance : Type 0 where
   -- `CheckIsLoad`, `LoadIsWellFormed`: the image is accepted
   pub size : length words ≡ poolLength registerCount 2
   pub accepted : loadOf words image .0 .verdict ≡ 0
@@ -180,7 +180,7 @@ abbrev pub lent : List ℕ
 lent = replicate 30 9
 
 -- `RunsOneAfterTheOther`, `RunEquivalence` and `NeverMalformed`.
-pub record Batch-instance : Type 0 where
+pub record BatchInstance : Type 0 where
   pub exact : length lent ≡ poolLength registerCount 3
   pub program : programOf list ≡ programOfCalls calls
   pub room : 3 * length calls ≤ length out
@@ -202,7 +202,7 @@ abbrev pub largest : List ℕ
 largest = replicate (poolLength registerCount cellLimit) 0
 
 -- The theorems of scripts and of the interpreter.
-pub record Script-instance : Type 0 where
+pub record ScriptInstance : Type 0 where
   -- `FewestDigits`: 007 is longer than 7
   pub some : 0 < length padded
   pub digits : all isDigit padded ≡ true

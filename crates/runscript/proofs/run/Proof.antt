@@ -1,4 +1,4 @@
--- `runscript::main` is safe and ends. The loop's invariant: a script is run so far. The measure is the number of reads that are left.
+-- `runscript::run` is safe and ends. The loop's invariant: a script is run so far. The measure is the number of reads that are left.
 use Prim.Native.Nat.{ℕ}
 use mathlib.Core.Path.{_≡_, sym, _∙_}
 use native.Mathlib.Omega.{arith}
@@ -7,8 +7,8 @@ use lib.ListN.{length, length-replicate}
 use Rattle.pool.specs.Layout.{cellLimit, registerCount, poolLength}
 use Rattle.runscript.specs.Parts.{RunSoFar}
 use Rattle.runscript.proofs.Running.{so-far-start, so-far-on}
-use Rattle.runscript.proofs.main.Statement.{statement}
-use Rattle.runscript.proofs.main.Tie as tie
+use Rattle.runscript.proofs.run.Statement.{statement}
+use Rattle.runscript.proofs.run.Tie as tie
 
 abbrev Inv-loop : tie.InvT-loop
 Inv-loop words₀ buffer₀ out₀ p₀ reads₀ words buffer out p reads =
@@ -66,8 +66,8 @@ loop-again c =
 returns-2 : tie.Need-returns-2 Inv-loop μ-loop
 returns-2 c = tt
 
-pub main-spec : {M : Type 1} → statement M
-main-spec =
+pub run-spec : {M : Type 1} → statement M
+run-spec =
     tie.close
     (tie.spec
     Inv-loop
