@@ -6,13 +6,15 @@ use Rattle.answers.specs.Outcome.{Outcome, status, given}
 use Rattle.tally.specs.declared.Tally.{Tally}
 use Rattle.load.specs.declared.Loaded.{Loaded}
 
--- A call that gives no number, one number or two: its status, what it leaves, and the lent places.
+-- A call that gives no number: its status, and what it leaves.
 abbrev pub givingNone {ℓ} : {A : Type ℓ} → Outcome × A → ℕ × A
 givingNone x = (status (x .0), x .1)
 
+-- A call that gives one number: the lent place too.
 abbrev pub giving {ℓ} : {A : Type ℓ} → Outcome × A → ℕ → ℕ × A × ℕ
 giving x old = (status (x .0), x .1, given (x .0) 0 old)
 
+-- A call that gives two: both lent places.
 abbrev pub givingTwo {ℓ} : {A : Type ℓ} → Outcome × A → ℕ → ℕ → ℕ × A × ℕ × ℕ
 givingTwo x first second = (status (x .0), x .1, given (x .0) 0 first, given (x .0) 1 second)
 

@@ -1,4 +1,4 @@
--- A collection (01, "Marking by reversal", "The sweep"): what it keeps, what it answers and what it leaves.
+-- A collection (01, "Marking by reversal"): what it keeps, what it answers and what it leaves.
 use Prim.Native.Nat.{ℕ}
 use mathlib.Core.List.{List, [], _∷_}
 use mathlib.Core.Bool.{cond}

@@ -73,6 +73,6 @@ preorder-agree n g h roots w agree =
     (all-transfer (order-dfs n g roots w) (λ x m. agree x (preorder-reached n g roots w x .0 m)) (λ x. (λ a. a, λ a. a)))
     (order-dfs n h roots (within-agree agree w))
 
-pub order-example : PreorderExample
+pub preorder-example : PreorderExample
 unfolding preorder visits visit elem
-order-example = refl
+preorder-example = refl

@@ -14,7 +14,7 @@ use Rattle.pool.specs.Retain.{retain, freshWords, freeList, freeCells}
 abbrev pub freshOf : List ℕ → Outcome × List ℕ
 freshOf w = let n = cellCountOfLength registerCount (length w) in cond (ltb 0 n) (answered (n ∷ []), freshWords registerCount n w) (refused 1, w)
 
--- Its free list has every cell once, ascending: 1, 2, .., n.
+-- The free list of fresh words has every cell once, ascending: 1, 2, .., n.
 abbrev pub FreshIsFree : Type 0
 FreshIsFree = (n : ℕ) (w : List ℕ) → 1 ≤ n → poolLength registerCount n ≤ length w → freeList registerCount n (freshWords registerCount n w) ≡ tabulate n suc
 

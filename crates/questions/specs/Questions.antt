@@ -36,10 +36,10 @@ abbrev pub admittedTo : {A : Type 0} → (ℕ → A) → (ℕ → A) → Admitte
 admittedTo body refusing (admitted.Cells n) = body n
 admittedTo body refusing (admitted.Refused k) = refusing (refusalNumber k)
 
--- "Are the registers read sound? .. No: 3": whether register a holds a valid link, and that link.
+-- "Are the registers read sound? .. No: 3": whether register a holds a valid link.
 abbrev pub holdsLink : ℕ → List ℕ → ℕ → Bool
 holdsLink n w a = validLink registerCount n w (register w a)
 
--- What a read of register a answers.
+-- What a read of register a answers: that link, or that it is malformed.
 abbrev pub heldOf : ℕ → List ℕ → ℕ → Held
 heldOf n w a = cond (holdsLink n w a) (held.Link (register w a)) held.Malformed
