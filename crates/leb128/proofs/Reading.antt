@@ -1,5 +1,5 @@
 -- Reading a number a group at a time: what is left to read, with what has been read, always gives the same answer.
-use Prim.Native.Nat.{ℕ, zero, suc, _+_, _-_, _*_, _^_, _<_, _≤_}
+use Prim.Native.Nat.{ℕ, zero, suc, _+_, _-_, _*_, _%_, _^_, _<_, _≤_}
 use mathlib.Core.Path.{_≡_, refl, ap, sym, _∙_}
 use mathlib.Core.List.{List}
 use native.Mathlib.Nat.{pow-succ', one-le-pow, mul-assoc, mul-add, add-assoc, mul-le-mul-left, le-mul-of-pos-right}
@@ -43,10 +43,9 @@ start bytes at = record { whole = refl; below = omega arith; result = onto-nothi
 -- A group before the fifth, its byte there: what the code computes fits, and the number ends or goes on.
 pub record Turn (bytes : List ℕ) (at value weight i : ℕ) : Type 0 where
   pub next-weight : weight * 128 ≤ 2 ^ 28
-  pub last-fits : getD bytes i 0 < 128 → value + weight * getD bytes i 0 < 2 ^ 28
-  pub more-fits : value + weight * (getD bytes i 0 - 128) < 2 ^ 28
-  pub ends : getD bytes i 0 < 128 → Value (value + weight * getD bytes i 0) (i + 1) ≡ readAt bytes at
-  pub again : 128 ≤ getD bytes i 0 → (more : ℕ) × Reading bytes at more (value + weight * (getD bytes i 0 - 128)) (weight * 128) (i + 1)
+  pub fits : value + weight * (getD bytes i 0 % 128) < 2 ^ 28
+  pub ends : getD bytes i 0 < 128 → Value (value + weight * (getD bytes i 0 % 128)) (i + 1) ≡ readAt bytes at
+  pub again : 128 ≤ getD bytes i 0 → (more : ℕ) × Reading bytes at more (value + weight * (getD bytes i 0 % 128)) (weight * 128) (i + 1)
 
 -- The fifth group, its byte there.
 pub record Fifth (bytes : List ℕ) (at value i : ℕ) : Type 0 where
@@ -78,21 +77,23 @@ module _ {bytes : List ℕ} {at value weight i : ℕ} where
   turn zero r less there byte = absurd (omega (arith, r .whole))
   turn (suc more) r less there byte =
       let bound = bounded more weight (r .whole) in
-      let below = product value weight (getD bytes i 0 - 128) (r .below) (omega arith) in
+      let below = product value weight (getD bytes i 0 % 128) (r .below) (omega arith) in
       record {
         next-weight = bound;
-        last-fits = λ small. omega (arith, product value weight (getD bytes i 0) (r .below) small);
-        more-fits = omega arith;
-        ends = λ small. rw (drop-cons bytes i 0, read-last) at (r .result);
-        again = λ large. (
-          more,
-          record {
-            whole = shifted more weight (r .whole);
-            below = below;
-            result =
-                rw (drop-cons bytes i 0, read-more, onto-group value weight (getD bytes i 0 - 128) _, ← add-one i) at (r .result);
-          },
-        );
+        fits = omega arith;
+        ends = λ small.
+            let same : getD bytes i 0 % 128 ≡ getD bytes i 0 = omega arith in
+            rw same (rw (drop-cons bytes i 0, read-last) at (r .result));
+        again = λ large.
+            let same : getD bytes i 0 % 128 ≡ getD bytes i 0 - 128 = omega arith in (
+              more,
+              record {
+                whole = shifted more weight (r .whole);
+                below = below;
+                result =
+                    rw (drop-cons bytes i 0, read-more, onto-group value weight (getD bytes i 0 - 128) _, ← same, ← add-one i) at (r .result);
+              },
+            );
       }
 
   pub fifth : (more : ℕ) → Reading bytes at more value weight i → 2 ^ 28 ≤ weight → i < length bytes → Fifth bytes at value i

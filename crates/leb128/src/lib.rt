@@ -36,15 +36,12 @@ pub fn read_number(bytes: &[u8], at: usize) -> Number
             return Number::Missing;
         }
         let group = bytes[i] as u32;
-        if group < 128 {
-            return Number::Value {
-                value: value + weight * group,
-                next: i + 1,
-            };
-        }
-        value += weight * (group - 128);
-        weight *= 128;
+        value += weight * (group % 128);
         i += 1;
+        if group < 128 {
+            return Number::Value { value, next: i };
+        }
+        weight *= 128;
     }
     if bytes.len() <= i {
         return Number::Missing;

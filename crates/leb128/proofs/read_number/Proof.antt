@@ -41,29 +41,20 @@ shared-slice-read-group c = search needs
 cast-group : tie.Need-cast-group Inv-loop μ-loop
 cast-group c = omega (arith, c .shared-slice-known .given (c .before .before .before .loop .i))
 
-mul-t12 : tie.Need-mul-t12 Inv-loop μ-loop
-mul-t12 c = omega (arith, turned (c .before) .last-fits (c .if2 .taken))
+mul-value : tie.Need-mul-value Inv-loop μ-loop
+mul-value c = omega (arith, turned c .fits)
 
-add-t13 : tie.Need-add-t13 Inv-loop μ-loop
-add-t13 c = omega (arith, turned (c .before) .last-fits (c .if2 .taken))
+add-value : tie.Need-add-value Inv-loop μ-loop
+add-value c = omega (arith, turned c .fits)
 
-add-t14 : tie.Need-add-t14 Inv-loop μ-loop
-add-t14 c = search needs
+add-i : tie.Need-add-i Inv-loop μ-loop
+add-i c = search needs
 
 returns-2 : tie.Need-returns-2 Inv-loop μ-loop
 returns-2 c = turned (c .before) .ends (c .if2 .taken)
 
-mul-value : tie.Need-mul-value Inv-loop μ-loop
-mul-value c = omega (arith, turned (c .before) .more-fits)
-
-add-value : tie.Need-add-value Inv-loop μ-loop
-add-value c = omega (arith, turned (c .before) .more-fits)
-
 mul-weight : tie.Need-mul-weight Inv-loop μ-loop
 mul-weight c = omega (arith, turned (c .before) .next-weight)
-
-add-i : tie.Need-add-i Inv-loop μ-loop
-add-i c = search needs
 
 loop-less : tie.Need-loop-less Inv-loop μ-loop
 loop-less c = omega (arith, c .before .before .before .before .loop .inv .1 .below)
@@ -80,14 +71,14 @@ shared-slice-read-group-2 c = search needs
 cast-group-2 : tie.Need-cast-group-2 Inv-loop μ-loop
 cast-group-2 c = omega (arith, c .shared-slice-known2 .given (c .before .before .before .loop .i))
 
-mul-t22 : tie.Need-mul-t22 Inv-loop μ-loop
-mul-t22 c = omega arith
+mul-t19 : tie.Need-mul-t19 Inv-loop μ-loop
+mul-t19 c = omega arith
 
-add-t23 : tie.Need-add-t23 Inv-loop μ-loop
-add-t23 c = omega (arith, left (c .before) .below)
+add-t20 : tie.Need-add-t20 Inv-loop μ-loop
+add-t20 c = omega (arith, left (c .before) .below)
 
-add-t24 : tie.Need-add-t24 Inv-loop μ-loop
-add-t24 c = search needs
+add-t21 : tie.Need-add-t21 Inv-loop μ-loop
+add-t21 c = search needs
 
 returns-4 : tie.Need-returns-4 Inv-loop μ-loop
 returns-4 c = left (c .before) .ends (c .if4 .taken)
@@ -105,21 +96,18 @@ read-number-spec =
     returns
     shared-slice-read-group
     cast-group
-    mul-t12
-    add-t13
-    add-t14
-    returns-2
     mul-value
     add-value
-    mul-weight
     add-i
+    returns-2
+    mul-weight
     loop-less
     loop-again
     returns-3
     shared-slice-read-group-2
     cast-group-2
-    mul-t22
-    add-t23
-    add-t24
+    mul-t19
+    add-t20
+    add-t21
     returns-4
     returns-5)
