@@ -90,7 +90,7 @@ pub fn run(words: &mut [u32], list: &[u32], answers: &mut [u32]) -> Ran
         if answers.len() < 3 * k + 3 {
             return Ran::NoRoom(k);
         }
-        let step = calls::perform(words, call);
+        let step = steps::perform(words, call);
         let answer = step.answer;
         write_answer(answers, k, answer);
         k += 1;

@@ -15,7 +15,7 @@ use Rattle.pool.proofs.Laws.{length-setCell, cell-same, cell-other, setCell-aga
 use Rattle.questions.proofs.WellFormed.{WellFormed, cell-unmarked}
 use Rattle.questions.proofs.PoolGraph.{Used}
 use Rattle.reversal.specs.ReversalTheorem.{markAll}
-use Rattle.stack_marker.specs.Steps.{cleared}
+use Rattle.bounded_stack.specs.Steps.{cleared}
 
 module _ (R : ℕ) where
   -- the turns of the loop

@@ -22,11 +22,11 @@ use Rattle.reversal.specs.Reversal.{unmarked}
 use Rattle.reversal.specs.ReversalTheorem.{markAll}
 use Rattle.reversal.proofs.MarkAll.{length-markAll, state-markAll-same, state-markAll-other}
 use Rattle.reversal.proofs.PoolMarks.{stateMarks, stateMarks-used, stateMarks-other}
-use Rattle.stack_marker.specs.Steps.{onwardIn, Started, runFromCell, Ran}
+use Rattle.bounded_stack.specs.Steps.{onwardIn, Started, runFromCell, Ran}
 use Rattle.stack_algorithm.specs.Steps.{Settled}
 use Rattle.stack_algorithm.proofs.Fresh.{marked-more, Passing, passing}
 use Rattle.stack_algorithm.proofs.Going.{Going, weight-most, begin}
-use Rattle.stack_marker.proofs.Simulation.{entries, entries-length, entries-push, entries-pop, Running, running-length, running-cell, running-new, running-turn, running-end, running-deep, running-undone}
+use Rattle.bounded_stack.proofs.Simulation.{entries, entries-length, entries-push, entries-pop, Running, running-length, running-cell, running-new, running-turn, running-end, running-deep, running-undone}
 
 -- Where nothing is pending.
 pub settled-going : (n : ℕ) {g : Graph} {roots seen : List ℕ} → Settled g roots seen → Going n g roots seen []

@@ -22,12 +22,12 @@ use Rattle.reversal.specs.ReversalTheorem.{markAll}
 use Rattle.reversal.proofs.MarkAll.{markAll-append, length-markAll, register-markAll}
 use Rattle.stack_algorithm.specs.Stack.{isUnmarked, run, taken, runs, holding}
 use Rattle.stack_algorithm.specs.Steps.{Settled}
-use Rattle.stack_marker.specs.Steps.{Started, runFromCell, poolRun, Ran}
+use Rattle.bounded_stack.specs.Steps.{Started, runFromCell, poolRun, Ran}
 use Rattle.stack_algorithm.proofs.Fresh.{fresh-true}
 use Rattle.stack_algorithm.proofs.Going.{Going, going-first, begin, weight-most, ended}
-use Rattle.stack_marker.proofs.Simulation.{test, leb-max}
+use Rattle.bounded_stack.proofs.Simulation.{test, leb-max}
 use Rattle.stack_algorithm.proofs.Cases.{run-none}
-use Rattle.stack_marker.proofs.HandLoop.{settled-going}
+use Rattle.bounded_stack.proofs.HandLoop.{settled-going}
 
 going-settled : {n : ℕ} {g : Graph} {roots seen : List ℕ} → Going n g roots seen [] → Settled g roots seen
 going-settled s = record { cells = s .cells; closed = λ x mem. ⊎-elim (λ k. absurd (List·Memᴰ·not-nil k)) (λ k. k) (s .closed x mem) }

@@ -22,11 +22,11 @@ use Rattle.reversal.specs.Reversal.{unmarked}
 use Rattle.reversal.specs.ReversalTheorem.{markAll}
 use Rattle.reversal.proofs.MarkAll.{markAll-append, length-markAll, field-markAll, state-markAll-same, state-markAll-other}
 use Rattle.stack_algorithm.specs.Stack.{isUnmarked, unmarkedLinks, onward, run}
-use Rattle.stack_marker.specs.Steps.{cleared, onwardIn}
+use Rattle.bounded_stack.specs.Steps.{cleared, onwardIn}
 use Rattle.stack_algorithm.proofs.Fresh.{member-fresh, other-fresh}
 use Rattle.stack_algorithm.proofs.Cases.{run-none}
 use Rattle.stack_algorithm.proofs.Going.{Going, weight, turn, turn-less}
-use Rattle.stack_marker.proofs.Cleared.{cleared-marks}
+use Rattle.bounded_stack.proofs.Cleared.{cleared-marks}
 
 -- the two tests decide which links the marker goes on to
 pub look-made : (R p : ℕ) (w : List ℕ) (l r : ℕ) {a b : Bool} → l ≡ left R w p → r ≡ right R w p → a ≡ unmarked R w l → b ≡ unmarked R w r

@@ -12,8 +12,8 @@ use Rattle.reversal.specs.ReversalTheorem.{markAll}
 use Rattle.stack_algorithm.specs.Stack.{isUnmarked, unmarkedLinks, run, stackRun}
 use Rattle.pool.specs.States.{unmarkCell}
 use Rattle.pool.specs.Retain.{markedCell}
-use Rattle.stack_marker.specs.declared.Onward.{Onward}
-use Rattle.stack_marker.specs.declared.Onward.the-variants as onward
+use Rattle.bounded_stack.specs.declared.Onward.{Onward}
+use Rattle.bounded_stack.specs.declared.Onward.the-variants as onward
 use Rattle.stack_algorithm.specs.Steps.{Settled}
 
 -- "marks are cleared": every one of the cells i to 1 that is marked becomes used.

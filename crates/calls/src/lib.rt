@@ -23,12 +23,6 @@ pub enum Call {
     Collect,
 }
 
-// A call with its answer.
-pub struct Step {
-    pub call: Call,
-    pub answer: Answer,
-}
-
 // The registers r, a and b.
 fn names(r: u32, a: u32, b: u32) -> Named
     ensures { λ q. ⌜ q ≡ names r a b ⌝ }
@@ -148,33 +142,4 @@ pub fn collect(words: &mut [u32]) -> Answer
         Admitted::Cells(n) => collector::collect_in(words, n),
         Admitted::Refused(k) => Answer::Refused(k),
     }
-}
-
-impl Call {
-    // Runs the call.
-    pub fn answer(self, words: &mut [u32]) -> Answer
-        ensures { λ q. ⌜ (answerOutcome q, now (words .exit)) ≡ callOf self (now (words .entry)) ⌝ }
-    {
-        match self {
-            Call::Copy { r, a } => copy(words, r, a),
-            Call::Clear { r } => clear(words, r),
-            Call::New { r, a, b, v } => new(words, r, a, b, v),
-            Call::Left { r, a } => left(words, r, a),
-            Call::Right { r, a } => right(words, r, a),
-            Call::SetLeft { a, b } => set_left(words, a, b),
-            Call::SetRight { a, b } => set_right(words, a, b),
-            Call::SetValue { a, v } => set_value(words, a, v),
-            Call::Value { a } => value(words, a),
-            Call::Same { a, b } => same(words, a, b),
-            Call::Collect => collect(words),
-        }
-    }
-}
-
-// One step: runs the call, and gives it back with its answer.
-pub fn perform(words: &mut [u32], call: Call) -> Step
-    ensures { λ s. ⌜ (s .call ≡ call) × ((answerOutcome (s .answer), now (words .exit)) ≡ callOf call (now (words .entry))) ⌝ }
-{
-    let answer = call.answer(words);
-    Step { call, answer }
 }

@@ -17,7 +17,7 @@ use Rattle.pool.proofs.Every.{length-tabulate}
 use Rattle.reversal.specs.Reached.{reachedCells, reachedCount}
 use Rattle.image.specs.declared.ImageCell.{ImageCell}
 use Rattle.image.specs.Image.{numberIn, savedCell, cellBytes, imageOf}
-use Rattle.save.specs.Steps.{registerBytes, orderBytes, PutBytes}
+use Rattle.image_writer.specs.Steps.{registerBytes, orderBytes, PutBytes}
 
 -- The bytes of a list from place p on: the first element's, then those of the others; none at its end.
 module _ {A : Type 0} (code : A → List ℕ) (f : ℕ → A) (l : List ℕ) (p : ℕ) where

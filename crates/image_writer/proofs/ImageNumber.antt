@@ -16,7 +16,7 @@ use Rattle.image.specs.Image.{numberIn, savedCell}
 use Rattle.numbering.specs.Steps.{Savable, Ordered}
 use Rattle.numbering.proofs.Numbering.{place-none}
 use Rattle.numbering.proofs.Ordering.{well, order-used}
-use Rattle.save.specs.Steps.{numberAt}
+use Rattle.image_writer.specs.Steps.{numberAt}
 
 module _ (R n : ℕ) (w s : List ℕ) (savable : Savable R n w (length s)) where
   pub register-bound : (j : ℕ) → j < R → register w j ≤ n

@@ -1,4 +1,2 @@
 pub mod Turns
-pub mod Working
-pub mod Whole
 pub mod Example

@@ -1,3 +1,2 @@
 pub mod Execute
-pub mod Work
 pub mod Example

@@ -6,8 +6,8 @@ use lib.ListN.{drop-of-length-le}
 use Rattle.script.specs.Reader.{newReader, begunOf}
 use Rattle.script.specs.Scripts.{readScript}
 use Rattle.script.proofs.Scanning.{reads-scripts}
 use Rattle.interpreter.specs.Execute.{transcript}
-use Rattle.interpreter.specs.Work.{remaining, StartsWhole, PartsJoin, LastLineEnds}
+use Rattle.runner.specs.Work.{remaining, StartsWhole, PartsJoin, LastLineEnds}
 
 pub starts-whole : StartsWhole
 unfolding remaining

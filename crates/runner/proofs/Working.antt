@@ -21,9 +21,9 @@ use Rattle.script.specs.Reader.{newReader, feedOf, endOf}
 use Rattle.script.specs.Scripts.{nextLine}
 use Rattle.replies.specs.Replies.{replyRoom, replyAt}
 use Rattle.script.proofs.Scanning.{parts-read}
 use Rattle.interpreter.specs.Execute.{turnOf, poolOf, withPool, executeOf, transcript}
-use Rattle.interpreter.specs.Work.{waiting, remaining, GoesOn, HasRoom, LineRun, Advanced, Worked}
-use Rattle.interpreter.specs.declared.Progress.{Progress}
+use Rattle.runner.specs.Work.{waiting, remaining, GoesOn, HasRoom, LineRun, Advanced, Worked}
+use Rattle.runner.specs.declared.Progress.{Progress}
 
 -- the pool's words at the front
 pool-front : (pool w : List ℕ) → poolOf (length pool) (withPool pool w) ≡ pool

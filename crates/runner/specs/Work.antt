@@ -11,8 +11,8 @@ use Rattle.script.specs.declared.Line.{Line}
 use Rattle.script.specs.Reader.{newReader, begunOf}
 use Rattle.script.specs.Scripts.{readScript}
 use Rattle.replies.specs.Replies.{replyRoom}
 use Rattle.interpreter.specs.Execute.{turnOf, poolOf, transcript, printed}
-use Rattle.interpreter.specs.declared.Progress.{Progress}
+use Rattle.runner.specs.declared.Progress.{Progress}
 
 -- The replies that wait to be written.
 abbrev pub waiting : List ℕ → Progress → List ℕ

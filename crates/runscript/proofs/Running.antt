@@ -11,9 +11,9 @@ use Rattle.script.specs.Reader.{endOf, begunOf}
 use Rattle.script.specs.Scripts.{readScript}
 use Rattle.replies.specs.Replies.{replyRoom}
 use Rattle.interpreter.specs.Execute.{transcript, printed}
-use Rattle.interpreter.specs.Work.{remaining, handed, Worked}
-use Rattle.interpreter.specs.declared.Progress.{Progress}
-use Rattle.interpreter.proofs.Whole.{starts-whole, parts-join, last-line-ends}
+use Rattle.runner.specs.Work.{remaining, handed, Worked}
+use Rattle.runner.specs.declared.Progress.{Progress}
+use Rattle.runner.proofs.Whole.{starts-whole, parts-join, last-line-ends}
 use Rattle.runscript.specs.Parts.{StandsIn, rest, LinesRun, PartRun, Finished, ReadRun, Continued, StartsRun, ContinuesRun, EndsRun}
 
 -- the first bytes stand at the start

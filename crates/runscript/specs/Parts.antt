@@ -8,8 +8,8 @@ use mathlib.Core.Bool.{Bool, true, false}
 use lib.ListN.{length, take}
 use Rattle.pool.specs.Layout.{cellLimit, registerCount, poolLength}
 use Rattle.interpreter.specs.Execute.{printed}
-use Rattle.interpreter.specs.Work.{remaining, handed, initial}
-use Rattle.interpreter.specs.declared.Progress.{Progress}
+use Rattle.runner.specs.Work.{remaining, handed, initial}
+use Rattle.runner.specs.declared.Progress.{Progress}
 
 -- A text stands at the start of the bytes.
 abbrev pub StandsIn : List ℕ → List ℕ → Type 0

@@ -1,9 +1,9 @@
 // Runs a script from standard input, and writes the reply to each line to standard output. Its memory does not grow with the script.
-use interpreter::Progress;
 use libc::STDERR_FILENO;
 use libc::STDIN_FILENO;
 use libc::STDOUT_FILENO;
 use pool::Pool;
+use runner::Progress;
 ghost use mathlib.Core.Path.{_≡_};
 ghost use mathlib.Core.Bool.{true};
 ghost use Prim.Native.Nat.{_<_, _≤_};
@@ -36,7 +36,7 @@ fn run_some(words: &mut [u32], bytes: &[u8], out: &mut [u8], p: Progress) -> Ste
     requires { ⌜ (p .put ≡ 0) × (replyRoom ≤ length (now out)) ⌝ }
     ensures { λ r. ⌜ LinesRun (now (bytes .entry)) (now (words .entry)) p (now (words .exit)) (now (out .exit)) (r .progress) ⌝ }
 {
-    let q = interpreter::work(words, bytes, out, p);
+    let q = runner::work(words, bytes, out, p);
     let reader = q.reader;
     let more = flush(out, q.put);
     Step {

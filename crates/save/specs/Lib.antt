@@ -1,3 +1,2 @@
 pub mod Save
-pub mod Steps
 pub mod RoundTrip

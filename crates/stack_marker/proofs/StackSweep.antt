@@ -17,7 +17,7 @@ use Rattle.reversal.specs.Reached.{reachedCells, reachedCount}
 use Rattle.collector.specs.Collect.{collected}
 use Rattle.collector.proofs.MarkSweep.{swept-reached}
 use Rattle.stack_marker.specs.StackCollect.{isEnough, stackIn}
-use Rattle.stack_marker.specs.Steps.{cleared, poolRun, Ran}
+use Rattle.bounded_stack.specs.Steps.{cleared, poolRun, Ran}
 use Rattle.stack_algorithm.proofs.Going.{stack-marks-the-reached}
 use Rattle.stack_marker.proofs.Members.{markAll-members}
 

@@ -1,4 +1,3 @@
 pub mod StackCollect
 pub mod StackTheorem
-pub mod Steps
 pub mod StackExample

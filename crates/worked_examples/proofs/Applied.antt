@@ -35,8 +35,8 @@ use Rattle.script.specs.declared.Line.the-variants as line
 use Rattle.script.specs.Reader.{newReader}
 use Rattle.script.proofs.Scanning.{parts-read}
 use Rattle.replies.proofs.Decimals.{decimals-read-back, fewest-digits}
-use Rattle.interpreter.specs.Work.{initial}
-use Rattle.interpreter.proofs.Whole.{starts-whole, parts-join, last-line-ends}
+use Rattle.runner.specs.Work.{initial}
+use Rattle.runner.proofs.Whole.{starts-whole, parts-join, last-line-ends}
 use Rattle.worked_examples.specs.Instances.{three, threeCollected, two, graph, roots, Swapped, image, twoCells, words, scratch, output, calls, list, lent, out, padded, lines, progress, largest}
 use Rattle.worked_examples.proofs.Instances.{pool-instance, reversal-instance, graph-instance, number-instance, image-instance, batch-instance, script-instance}
 

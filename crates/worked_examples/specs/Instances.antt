@@ -38,8 +38,8 @@ use Rattle.script.specs.Lines.{isDigit, all, decimalValue}
 use Rattle.script.specs.Reader.{newReader, withoutNumbers, begunOf}
 use Rattle.replies.specs.Replies.{decimal}
 use Rattle.script.specs.Scripts.{nextLine}
-use Rattle.interpreter.specs.declared.Progress.{Progress}
-use Rattle.interpreter.specs.Work.{initial}
+use Rattle.runner.specs.declared.Progress.{Progress}
+use Rattle.runner.specs.Work.{initial}
 
 -- A pool of three used cells. Register 0 holds cell 1, both of whose links lead to cell 2 (which is shared), and that leads back to cell 1 (a cycle).
 -- Cell 3 leads to cell 1 and to itself, and is not reached.

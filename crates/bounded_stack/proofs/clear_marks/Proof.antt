@@ -1,14 +1,14 @@
--- `stack_marker::clear_marks` meets its contract: the turns that are left clear the same cells.
-use Rattle.stack_marker.proofs.clear_marks.Statement.{statement}
-use Rattle.stack_marker.proofs.clear_marks.Tie as tie
+-- `bounded_stack::clear_marks` meets its contract: the turns that are left clear the same cells.
+use Rattle.bounded_stack.proofs.clear_marks.Statement.{statement}
+use Rattle.bounded_stack.proofs.clear_marks.Tie as tie
 use borrow.Author.Needs.{needs}
 use native.Mathlib.Omega.{arith}
 use Rattle.pool.specs.Layout.{registerCount}
 use Prim.Native.Nat.{_≤_}
 use mathlib.Core.Path.{_≡_, refl, sym, _∙_}
 use lib.ListN.{length}
-use Rattle.stack_marker.specs.Steps.{cleared}
-use Rattle.stack_marker.proofs.Cleared.{cleared-none, cleared-marked, cleared-other}
+use Rattle.bounded_stack.specs.Steps.{cleared}
+use Rattle.bounded_stack.proofs.Cleared.{cleared-none, cleared-marked, cleared-other}
 
 abbrev Inv-loop : tie.InvT-loop
 Inv-loop words₀ n i₀ words i = (i ≤ n) × (cleared registerCount i words ≡ cleared registerCount n words₀) × (length words ≡ length words₀)

@@ -1,9 +1,9 @@
--- `stack_marker::look` meets its contract: at each return the two tests decide the definition's.
+-- `bounded_stack::look` meets its contract: at each return the two tests decide the definition's.
 use borrow.Author.Needs.{needs}
-use Rattle.stack_marker.proofs.look.Statement.{statement}
-use Rattle.stack_marker.proofs.look.Tie as tie
+use Rattle.bounded_stack.proofs.look.Statement.{statement}
+use Rattle.bounded_stack.proofs.look.Tie as tie
 use mathlib.Core.Path.{sym, _∙_}
-use Rattle.stack_marker.proofs.Simulation.{look-made}
+use Rattle.bounded_stack.proofs.Simulation.{look-made}
 
 link-of-requires : tie.Need-link-of-requires
 link-of-requires c κs = search needs

@@ -1,12 +1,12 @@
--- `stack_marker::mark_from` meets its contract: each turn is one of the definition's (`Hand`), and leaves fewer turns.
-use Rattle.stack_marker.proofs.mark_from.Statement.{statement}
-use Rattle.stack_marker.proofs.mark_from.Tie as tie
+-- `bounded_stack::mark_from` meets its contract: each turn is one of the definition's (`Hand`), and leaves fewer turns.
+use Rattle.bounded_stack.proofs.mark_from.Statement.{statement}
+use Rattle.bounded_stack.proofs.mark_from.Tie as tie
 use native.Mathlib.Omega.{arith}
 use Rattle.pool.specs.Layout.{registerCount}
 use mathlib.Core.Path.{refl, sym, ap, _∙_}
 use mathlib.Core.List.{List·Memᴰ·head, List·Memᴰ·tail}
-use Rattle.stack_marker.specs.Steps.{linksOf}
-use Rattle.stack_marker.proofs.HandLoop.{Hand, turnsLeft, hand-first, hand-cell, hand-length, hand-new, hand-full, hand-push, hand-go, hand-pop, hand-last, less-push, less-go}
+use Rattle.bounded_stack.specs.Steps.{linksOf}
+use Rattle.bounded_stack.proofs.HandLoop.{Hand, turnsLeft, hand-first, hand-cell, hand-length, hand-new, hand-full, hand-push, hand-go, hand-pop, hand-last, less-push, less-go}
 use borrow.Author.Needs.{needs}
 
 abbrev Inv-loop : tie.InvT-loop

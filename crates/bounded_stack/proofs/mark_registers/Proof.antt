@@ -1,11 +1,11 @@
--- `stack_marker::mark_registers` meets its contract: the loop makes the runs from the registers (`Registers`), from the first to the last.
-use Rattle.stack_marker.proofs.mark_registers.Statement.{statement}
-use Rattle.stack_marker.proofs.mark_registers.Tie as tie
+-- `bounded_stack::mark_registers` meets its contract: the loop makes the runs from the registers (`Registers`), from the first to the last.
+use Rattle.bounded_stack.proofs.mark_registers.Statement.{statement}
+use Rattle.bounded_stack.proofs.mark_registers.Tie as tie
 use native.Mathlib.Omega.{arith}
 use Rattle.pool.specs.Layout.{registerCount}
 use Prim.Native.Nat.{_-_}
 use mathlib.Core.Path.{sym, _∙_}
-use Rattle.stack_marker.proofs.RootLoop.{Registers, registers-first, registers-length, registers-last, registers-bound, registers-skip, registers-cell, registers-start, registers-next, registers-full}
+use Rattle.bounded_stack.proofs.RootLoop.{Registers, registers-first, registers-length, registers-last, registers-bound, registers-skip, registers-cell, registers-start, registers-next, registers-full}
 
 abbrev Inv-loop : tie.InvT-loop
 Inv-loop words₀ n stack₀ k₀ words stack k = Registers registerCount n words₀ stack₀ words stack k

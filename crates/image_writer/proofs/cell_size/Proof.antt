@@ -1,10 +1,10 @@
--- `save::cell_size` meets its contract: the sizes of its numbers are summed.
+-- `image_writer::cell_size` meets its contract: the sizes of its numbers are summed.
 use borrow.Author.Needs.{needs}
-use Rattle.save.proofs.cell_size.Statement.{statement}
-use Rattle.save.proofs.cell_size.Tie as tie
+use Rattle.image_writer.proofs.cell_size.Statement.{statement}
+use Rattle.image_writer.proofs.cell_size.Tie as tie
 use native.Mathlib.Omega.{arith}
 use Rattle.leb128.proofs.Encoding.{encode-size}
-use Rattle.save.proofs.ImageBytes.{cell-length}
+use Rattle.image_writer.proofs.ImageBytes.{cell-length}
 
 number-size-requires : tie.Need-number-size-requires
 number-size-requires c κs = search needs

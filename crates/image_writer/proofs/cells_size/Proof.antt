@@ -1,14 +1,14 @@
--- `save::cells_size` meets its contract: the sum and the bytes that are left make the whole (`Sizing`); what is left falls.
+-- `image_writer::cells_size` meets its contract: the sum and the bytes that are left make the whole (`Sizing`); what is left falls.
 use borrow.Author.Needs.{needs}
-use Rattle.save.proofs.cells_size.Statement.{statement}
-use Rattle.save.proofs.cells_size.Tie as tie
+use Rattle.image_writer.proofs.cells_size.Statement.{statement}
+use Rattle.image_writer.proofs.cells_size.Tie as tie
 use Prim.Native.Nat.{_+_, _-_, _≤_}
 use native.Mathlib.Omega.{arith}
 use denote.Ref.{now}
 use Rattle.pool.specs.Layout.{registerCount}
-use Rattle.save.specs.Steps.{orderBytes}
+use Rattle.image_writer.specs.Steps.{orderBytes}
 use Rattle.numbering.proofs.Ordering.{few-kept}
-use Rattle.save.proofs.ImageBytes.{Sizing, sizing-first, sizing-more, sizing-last, next-cell, last-cell, cells-most}
+use Rattle.image_writer.proofs.ImageBytes.{Sizing, sizing-first, sizing-more, sizing-last, next-cell, last-cell, cells-most}
 
 abbrev Inv-loop : tie.InvT-loop
 Inv-loop words scratch n k size₀ p₀ size p =

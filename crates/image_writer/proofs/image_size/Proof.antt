@@ -1,13 +1,13 @@
--- `save::image_size` meets its contract: the sizes of the image's parts are summed.
+-- `image_writer::image_size` meets its contract: the sizes of the image's parts are summed.
 use borrow.Author.Needs.{needs}
-use Rattle.save.proofs.image_size.Statement.{statement}
-use Rattle.save.proofs.image_size.Tie as tie
+use Rattle.image_writer.proofs.image_size.Statement.{statement}
+use Rattle.image_writer.proofs.image_size.Tie as tie
 use native.Mathlib.Omega.{arith}
 use denote.Ref.{now}
 use Rattle.leb128.proofs.Encoding.{encode-size}
 use Rattle.pool.specs.Layout.{registerCount}
 use Rattle.numbering.proofs.Ordering.{few-kept}
-use Rattle.save.proofs.ImageBytes.{registers-most, cells-most, image-length}
+use Rattle.image_writer.proofs.ImageBytes.{registers-most, cells-most, image-length}
 
 number-size-requires : tie.Need-number-size-requires
 number-size-requires c κs = search needs

@@ -1,7 +1,7 @@
--- `save::link_number` meets its contract: nil's number is 0.
+-- `image_writer::link_number` meets its contract: nil's number is 0.
 use borrow.Author.Needs.{needs}
-use Rattle.save.proofs.link_number.Statement.{statement}
-use Rattle.save.proofs.link_number.Tie as tie
+use Rattle.image_writer.proofs.link_number.Statement.{statement}
+use Rattle.image_writer.proofs.link_number.Tie as tie
 use borrow.Author.Tests.{eq-eqb, ne-eqb}
 
 returns : tie.Need-returns

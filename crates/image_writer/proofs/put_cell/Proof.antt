@@ -1,11 +1,11 @@
--- `save::put_cell` meets its contract: its numbers are written one behind the other.
+-- `image_writer::put_cell` meets its contract: its numbers are written one behind the other.
 use borrow.Author.Needs.{needs}
-use Rattle.save.proofs.put_cell.Statement.{statement}
-use Rattle.save.proofs.put_cell.Tie as tie
+use Rattle.image_writer.proofs.put_cell.Statement.{statement}
+use Rattle.image_writer.proofs.put_cell.Tie as tie
 use native.Mathlib.Omega.{arith}
 use mathlib.Core.List.{_++_}
 use Rattle.leb128.specs.Leb128.{encode}
-use Rattle.save.proofs.ImageBytes.{cell-length, put-append}
+use Rattle.image_writer.proofs.ImageBytes.{cell-length, put-append}
 
 put-number-requires : tie.Need-put-number-requires
 put-number-requires c κs = let at-start = c .before .before in omega (arith, at-start .pre, cell-length (at-start .args .cell))

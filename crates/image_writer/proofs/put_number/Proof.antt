@@ -1,8 +1,8 @@
--- `save::put_number` meets its contract: there is room, so the number is written.
+-- `image_writer::put_number` meets its contract: there is room, so the number is written.
 use borrow.Author.Needs.{needs}
-use Rattle.save.proofs.put_number.Statement.{statement}
-use Rattle.save.proofs.put_number.Tie as tie
-use Rattle.save.proofs.ImageBytes.{put-next, put-none}
+use Rattle.image_writer.proofs.put_number.Statement.{statement}
+use Rattle.image_writer.proofs.put_number.Tie as tie
+use Rattle.image_writer.proofs.ImageBytes.{put-next, put-none}
 
 write-number-requires : tie.Need-write-number-requires
 write-number-requires c κs = search needs

@@ -1,13 +1,13 @@
--- `save::registers_size` meets its contract: the sum and the bytes that are left make the whole (`Sizing`); what is left falls.
+-- `image_writer::registers_size` meets its contract: the sum and the bytes that are left make the whole (`Sizing`); what is left falls.
 use borrow.Author.Needs.{needs}
-use Rattle.save.proofs.registers_size.Statement.{statement}
-use Rattle.save.proofs.registers_size.Tie as tie
+use Rattle.image_writer.proofs.registers_size.Statement.{statement}
+use Rattle.image_writer.proofs.registers_size.Tie as tie
 use Prim.Native.Nat.{_+_, _-_, _≤_}
 use native.Mathlib.Omega.{arith}
 use denote.Ref.{now}
 use Rattle.pool.specs.Layout.{registerCount}
-use Rattle.save.specs.Steps.{registerBytes}
-use Rattle.save.proofs.ImageBytes.{Sizing, sizing-first, sizing-more, sizing-last, next-register, last-register, registers-most}
+use Rattle.image_writer.specs.Steps.{registerBytes}
+use Rattle.image_writer.proofs.ImageBytes.{Sizing, sizing-first, sizing-more, sizing-last, next-register, last-register, registers-most}
 
 abbrev Inv-loop : tie.InvT-loop
 Inv-loop words scratch n size₀ j₀ size j =

@@ -1,7 +1,7 @@
--- `save::saved_cell` meets its contract: the pool and the scratch hold what the image does.
+-- `image_writer::saved_cell` meets its contract: the pool and the scratch hold what the image does.
 use borrow.Author.Needs.{needs}
-use Rattle.save.proofs.saved_cell.Statement.{statement}
-use Rattle.save.proofs.saved_cell.Tie as tie
+use Rattle.image_writer.proofs.saved_cell.Statement.{statement}
+use Rattle.image_writer.proofs.saved_cell.Tie as tie
 use Prim.Native.Nat.{_+_}
 use native.Mathlib.Omega.{arith}
 use mathlib.Core.Path.{ap, _∙_}
@@ -9,9 +9,9 @@ use lib.ListN.{getD}
 use denote.Ref.{now}
 use Rattle.pool.specs.Layout.{registerCount}
 use Rattle.questions.proofs.PoolGraph.{Used}
-use Rattle.save.specs.Steps.{numberAt}
+use Rattle.image_writer.specs.Steps.{numberAt}
 use Rattle.numbering.proofs.Ordering.{few-kept}
-use Rattle.save.proofs.ImageNumber.{cell-used, left-bound, right-bound, cell-saved}
+use Rattle.image_writer.proofs.ImageNumber.{cell-used, left-bound, right-bound, cell-saved}
 
 add-cell : tie.Need-add-cell
 add-cell c = search needs

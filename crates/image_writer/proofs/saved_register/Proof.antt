@@ -1,12 +1,12 @@
--- `save::saved_register` meets its contract: the scratch holds the number of the link.
-use Rattle.save.proofs.saved_register.Statement.{statement}
-use Rattle.save.proofs.saved_register.Tie as tie
+-- `image_writer::saved_register` meets its contract: the scratch holds the number of the link.
+use Rattle.image_writer.proofs.saved_register.Statement.{statement}
+use Rattle.image_writer.proofs.saved_register.Tie as tie
 use native.Mathlib.Omega.{arith}
 use mathlib.Core.Path.{ap, _∙_}
 use denote.Ref.{now}
 use Rattle.pool.specs.Layout.{registerCount}
-use Rattle.save.specs.Steps.{numberAt}
-use Rattle.save.proofs.ImageNumber.{register-bound, register-saved}
+use Rattle.image_writer.specs.Steps.{numberAt}
+use Rattle.image_writer.proofs.ImageNumber.{register-bound, register-saved}
 
 read-register-requires : tie.Need-read-register-requires
 read-register-requires c κs = omega (arith, c .before .before .pre .0 .room, c .before .before .pre .2)

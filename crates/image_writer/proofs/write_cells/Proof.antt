@@ -1,12 +1,12 @@
--- `save::write_cells` meets its contract: what is done is written, and the rest is left (`Writing`); what is left falls.
-use Rattle.save.proofs.write_cells.Statement.{statement}
-use Rattle.save.proofs.write_cells.Tie as tie
+-- `image_writer::write_cells` meets its contract: what is done is written, and the rest is left (`Writing`); what is left falls.
+use Rattle.image_writer.proofs.write_cells.Statement.{statement}
+use Rattle.image_writer.proofs.write_cells.Tie as tie
 use Prim.Native.Nat.{_-_, _≤_}
 use native.Mathlib.Omega.{arith}
 use denote.Ref.{now}
 use Rattle.pool.specs.Layout.{registerCount}
-use Rattle.save.specs.Steps.{orderBytes}
-use Rattle.save.proofs.ImageBytes.{Writing, writing-first, writing-room, writing-more, writing-last, next-cell, last-cell}
+use Rattle.image_writer.specs.Steps.{orderBytes}
+use Rattle.image_writer.proofs.ImageBytes.{Writing, writing-first, writing-room, writing-more, writing-last, next-cell, last-cell}
 
 abbrev Inv-loop : tie.InvT-loop
 Inv-loop words scratch n k out₀ start at₀ p₀ out at p =

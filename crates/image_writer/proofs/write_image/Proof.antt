@@ -1,11 +1,11 @@
--- `save::write_image` meets its contract: the image's parts are written one behind the other.
+-- `image_writer::write_image` meets its contract: the image's parts are written one behind the other.
 use borrow.Author.Needs.{needs}
-use Rattle.save.proofs.write_image.Statement.{statement}
-use Rattle.save.proofs.write_image.Tie as tie
+use Rattle.image_writer.proofs.write_image.Statement.{statement}
+use Rattle.image_writer.proofs.write_image.Tie as tie
 use native.Mathlib.Omega.{arith}
 use denote.Ref.{now}
 use Rattle.pool.specs.Layout.{registerCount}
-use Rattle.save.proofs.ImageBytes.{image-length, put-image}
+use Rattle.image_writer.proofs.ImageBytes.{image-length, put-image}
 
 put-number-requires : tie.Need-put-number-requires
 put-number-requires c κs =

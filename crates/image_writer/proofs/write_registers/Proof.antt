@@ -1,12 +1,12 @@
--- `save::write_registers` meets its contract: what is done is written, and the rest is left (`Writing`); what is left falls.
-use Rattle.save.proofs.write_registers.Statement.{statement}
-use Rattle.save.proofs.write_registers.Tie as tie
+-- `image_writer::write_registers` meets its contract: what is done is written, and the rest is left (`Writing`); what is left falls.
+use Rattle.image_writer.proofs.write_registers.Statement.{statement}
+use Rattle.image_writer.proofs.write_registers.Tie as tie
 use Prim.Native.Nat.{_-_, _≤_}
 use native.Mathlib.Omega.{arith}
 use denote.Ref.{now}
 use Rattle.pool.specs.Layout.{registerCount}
-use Rattle.save.specs.Steps.{registerBytes}
-use Rattle.save.proofs.ImageBytes.{Writing, writing-first, writing-room, writing-more, writing-last, next-register, last-register}
+use Rattle.image_writer.specs.Steps.{registerBytes}
+use Rattle.image_writer.proofs.ImageBytes.{Writing, writing-first, writing-room, writing-more, writing-last, next-register, last-register}
 
 abbrev Inv-loop : tie.InvT-loop
 Inv-loop words scratch n out₀ start at₀ j₀ out at j =

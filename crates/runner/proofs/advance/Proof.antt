@@ -1,9 +1,9 @@
--- `interpreter::advance` meets its contract: at a line end the line is run, without one all of the part is read.
+-- `runner::advance` meets its contract: at a line end the line is run, without one all of the part is read.
 use mathlib.Core.Path.{sym, _∙_}
-use Rattle.interpreter.proofs.Working.{advanced-line, advanced-more}
+use Rattle.runner.proofs.Working.{advanced-line, advanced-more}
 use borrow.Author.Needs.{needs}
-use Rattle.interpreter.proofs.advance.Statement.{statement}
-use Rattle.interpreter.proofs.advance.Tie as tie
+use Rattle.runner.proofs.advance.Statement.{statement}
+use Rattle.runner.proofs.advance.Tie as tie
 
 next-line-requires : tie.Need-next-line-requires
 next-line-requires c κs = search needs

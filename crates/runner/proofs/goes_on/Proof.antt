@@ -1,7 +1,7 @@
--- `interpreter::goes_on` meets its contract: its tests are the definition's.
-use Rattle.interpreter.proofs.Working.{test-past, test-full, test-room}
-use Rattle.interpreter.proofs.goes_on.Statement.{statement}
-use Rattle.interpreter.proofs.goes_on.Tie as tie
+-- `runner::goes_on` meets its contract: its tests are the definition's.
+use Rattle.runner.proofs.Working.{test-past, test-full, test-room}
+use Rattle.runner.proofs.goes_on.Statement.{statement}
+use Rattle.runner.proofs.goes_on.Tie as tie
 
 returns : tie.Need-returns
 returns c = test-past _ _ (c .before .before .args .p .put) (c .before .before .args .room) (c .if1 .taken)

@@ -1,8 +1,8 @@
--- `interpreter::run_line` meets its contract: the line is run, and with room its reply is put.
-use Rattle.interpreter.proofs.Working.{line-run, line-lost}
+-- `runner::run_line` meets its contract: the line is run, and with room its reply is put.
+use Rattle.runner.proofs.Working.{line-run, line-lost}
 use borrow.Author.Needs.{needs}
-use Rattle.interpreter.proofs.run_line.Statement.{statement}
-use Rattle.interpreter.proofs.run_line.Tie as tie
+use Rattle.runner.proofs.run_line.Statement.{statement}
+use Rattle.runner.proofs.run_line.Tie as tie
 
 execute-requires : tie.Need-execute-requires
 execute-requires c κs = search needs

@@ -1,12 +1,12 @@
--- `interpreter::work` meets its contract: each turn is a step of the script.
+-- `runner::work` meets its contract: each turn is a step of the script.
 use mathlib.Core.Path.{sym, _∙_}
 use native.Mathlib.Omega.{arith}
 use denote.Ref.{now}
 use Prim.Native.Nat.{_-_}
 use lib.ListN.{length}
-use Rattle.interpreter.proofs.Working.{Going, going-start, turning, going-on, going-ends}
-use Rattle.interpreter.proofs.work.Statement.{statement}
-use Rattle.interpreter.proofs.work.Tie as tie
+use Rattle.runner.proofs.Working.{Going, going-start, turning, going-on, going-ends}
+use Rattle.runner.proofs.work.Statement.{statement}
+use Rattle.runner.proofs.work.Tie as tie
 
 abbrev Inv-loop : tie.InvT-loop
 Inv-loop words₀ bytes out₀ p₀ words out p = Going bytes words₀ out₀ p₀ words out p

@@ -1,7 +1,7 @@
 -- `runscript::run_last` meets its contract: a line that has begun ends at a line feed; without one nothing is left to print.
 use mathlib.Core.Path.{sym, _∙_, ap}
 use borrow.Author.Needs.{needs}
-use Rattle.interpreter.specs.declared.Progress.{Progress}
+use Rattle.runner.specs.declared.Progress.{Progress}
 use Rattle.runscript.proofs.Running.{last-line, no-line}
 use Rattle.runscript.proofs.run_last.Statement.{statement}
 use Rattle.runscript.proofs.run_last.Tie as tie

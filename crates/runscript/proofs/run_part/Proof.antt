@@ -5,7 +5,7 @@ use mathlib.Core.Path.{ap}
 use mathlib.Core.Bool.{false≢true}
 use native.Mathlib.Omega.{arith}
 use lib.ListN.{length}
-use Rattle.interpreter.specs.declared.Progress.{Progress}
+use Rattle.runner.specs.declared.Progress.{Progress}
 use Rattle.runscript.proofs.Running.{Running, running-start, running-on, part-run}
 use Rattle.runscript.proofs.run_part.Statement.{statement}
 use Rattle.runscript.proofs.run_part.Tie as tie

@@ -1,7 +1,7 @@
--- `interpreter::Progress::start` meets its contract: the reader is a new one.
+-- `runner::Progress::start` meets its contract: the reader is a new one.
 use borrow.Author.Needs.{needs}
-use Rattle.interpreter.proofs.Progress.start.Statement.{statement}
-use Rattle.interpreter.proofs.Progress.start.Tie as tie
+use Rattle.runner.proofs.Progress.start.Statement.{statement}
+use Rattle.runner.proofs.Progress.start.Tie as tie
 
 new-requires : tie.Need-new-requires
 new-requires c κs = search needs

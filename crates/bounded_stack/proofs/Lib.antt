@@ -1,0 +1,4 @@
+pub mod Cleared
+pub mod Simulation
+pub mod HandLoop
+pub mod RootLoop

@@ -1,0 +1,2 @@
+pub mod ImageNumber
+pub mod ImageBytes
