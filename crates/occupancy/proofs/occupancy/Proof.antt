@@ -1,4 +1,4 @@
--- `pool::occupancy` meets its contract: at each return the tests that led there decide the definition's.
+-- `occupancy::occupancy` meets its contract: at each return the tests that led there decide the definition's.
 use borrow.Author.Needs.{needs}
 use Rattle.occupancy.proofs.occupancy.Statement.{statement}
 use Rattle.occupancy.proofs.occupancy.Tie as tie

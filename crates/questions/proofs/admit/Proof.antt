@@ -1,4 +1,4 @@
--- `pool::admit` meets its contract: the answers to the two questions decide the definition's.
+-- `questions::admit` meets its contract: the answers to the two questions decide the definition's.
 use borrow.Author.Needs.{needs}
 use Rattle.questions.proofs.admit.Statement.{statement}
 use Rattle.questions.proofs.admit.Tie as tie

@@ -1,4 +1,4 @@
--- `pool::are_registers` meets its contract: at each return the tests that led there decide the definition's.
+-- `questions::are_registers` meets its contract: at each return the tests that led there decide the definition's.
 use Rattle.questions.proofs.are_registers.Statement.{statement}
 use Rattle.questions.proofs.are_registers.Tie as tie
 use borrow.Author.Tests.{lt-ltb, le-ltb}

@@ -1,4 +1,4 @@
--- `pool::cells_valid` meets its contract. The cells above the present one are valid, so what is left to test decides; its number falls.
+-- `questions::cells_valid` meets its contract. The cells above the present one are valid, so what is left to test decides; its number falls.
 use Rattle.questions.proofs.cells_valid.Statement.{statement}
 use Rattle.questions.proofs.cells_valid.Tie as tie
 use Prim.Native.Nat.{ℕ, suc, _≤_, _-_}

@@ -1,4 +1,4 @@
--- `pool::read_link` meets its contract: the test of the link is the definition's.
+-- `questions::read_link` meets its contract: the test of the link is the definition's.
 use borrow.Author.Needs.{needs}
 use Rattle.questions.proofs.read_link.Statement.{statement}
 use Rattle.questions.proofs.read_link.Tie as tie

@@ -1,4 +1,4 @@
--- `pool::registers_valid` meets its contract. The registers above k are valid, so what is left to test decides; k falls.
+-- `questions::registers_valid` meets its contract. The registers above k are valid, so what is left to test decides; k falls.
 use Rattle.questions.proofs.registers_valid.Statement.{statement}
 use Rattle.questions.proofs.registers_valid.Tie as tie
 use Prim.Native.Nat.{ℕ, _≤_, _-_}

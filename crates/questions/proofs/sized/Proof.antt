@@ -1,4 +1,4 @@
--- `pool::sized` meets its contract: at each return the tests that led there decide the definition's.
+-- `questions::sized` meets its contract: at each return the tests that led there decide the definition's.
 use borrow.Author.Needs.{needs}
 use Rattle.questions.proofs.sized.Statement.{statement}
 use Rattle.questions.proofs.sized.Tie as tie

@@ -1,4 +1,4 @@
--- `pool::valid_cell` meets its contract: at each return the tests that led there decide the definition's.
+-- `questions::valid_cell` meets its contract: at each return the tests that led there decide the definition's.
 use borrow.Author.Needs.{needs}
 use mathlib.Core.Path.{sym, _∙_}
 use Rattle.questions.proofs.valid_cell.Statement.{statement}

@@ -1,4 +1,4 @@
--- `pool::valid_link` meets its contract: at each return the tests that led there decide the definition's.
+-- `questions::valid_link` meets its contract: at each return the tests that led there decide the definition's.
 use borrow.Author.Needs.{needs}
 use Rattle.questions.proofs.valid_link.Statement.{statement}
 use Rattle.questions.proofs.valid_link.Tie as tie

@@ -1,4 +1,4 @@
--- `pool::well_formed` meets its contract: both halves are tested.
+-- `questions::well_formed` meets its contract: both halves are tested.
 use borrow.Author.Needs.{needs}
 use Rattle.questions.proofs.well_formed.Statement.{statement}
 use Rattle.questions.proofs.well_formed.Tie as tie

@@ -1,4 +1,4 @@
--- `collector::is_unmarked` meets its contract: at each return the tests that led there decide the definition's.
+-- `reversal::is_unmarked` meets its contract: at each return the tests that led there decide the definition's.
 use borrow.Author.Needs.{needs}
 use Rattle.reversal.proofs.is_unmarked.Statement.{statement}
 use Rattle.reversal.proofs.is_unmarked.Tie as tie

@@ -1,4 +1,4 @@
--- `collector::mark` meets its contract: the loop makes the runs over the registers (`Marking`), from the first to the last.
+-- `reversal::mark` meets its contract: the loop makes the runs over the registers (`Marking`), from the first to the last.
 use Rattle.reversal.proofs.mark.Statement.{statement}
 use Rattle.reversal.proofs.mark.Tie as tie
 use Prim.Native.Nat.{_-_}

@@ -1,4 +1,4 @@
--- `collector::mark_from` meets its contract: the loop makes the visits of the run (`Going`); what is left of them falls.
+-- `reversal::mark_from` meets its contract: the loop makes the visits of the run (`Going`); what is left of them falls.
 use Rattle.reversal.proofs.mark_from.Statement.{statement}
 use Rattle.reversal.proofs.mark_from.Tie as tie
 use native.Mathlib.Omega.{arith}

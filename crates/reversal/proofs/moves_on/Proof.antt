@@ -1,4 +1,4 @@
--- `collector::moves_on` meets its contract: the state decides, or else the link's.
+-- `reversal::moves_on` meets its contract: the state decides, or else the link's.
 use borrow.Author.Needs.{needs}
 use Rattle.reversal.proofs.moves_on.Statement.{statement}
 use Rattle.reversal.proofs.moves_on.Tie as tie

@@ -1,4 +1,4 @@
--- `collector::Marker::exchanged` meets its contract: the test decides.
+-- `reversal::Marker::exchanged` meets its contract: the test decides.
 use Rattle.reversal.proofs.Marker.exchanged.Statement.{statement}
 use Rattle.reversal.proofs.Marker.exchanged.Tie as tie
 

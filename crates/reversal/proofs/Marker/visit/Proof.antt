@@ -1,4 +1,4 @@
--- `collector::Marker::visit` meets its contract: its reads and writes are those of the definition (`Writes`).
+-- `reversal::Marker::visit` meets its contract: its reads and writes are those of the definition (`Writes`).
 use borrow.Author.Needs.{needs}
 use Rattle.reversal.proofs.Marker.visit.Statement.{statement}
 use Rattle.reversal.proofs.Marker.visit.Tie as tie
