@@ -65,11 +65,8 @@ module _ (n : ℕ) (w : List ℕ) (some : 0 < n) (cells : cellCount registerCoun
   abbrev after : List ℕ
   after = collected registerCount n w
 
-  long : length w ≡ poolLength registerCount n
-  long = rw cells at (cells-sized registerCount w (rw cells some) .0 .exact)
-
   room : poolLength registerCount n ≤ length w
-  room = omega (arith, long)
+  room = rw cells at (cells-sized registerCount w (rw cells some) .0 .room)
 
   -- the words afterwards are a pool of as many cells
   count-after : count after ≡ count w

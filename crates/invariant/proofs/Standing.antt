@@ -7,12 +7,12 @@ use mathlib.Core.List.{List}
 use mathlib.Core.Bool.{Bool, true, false, cond}
 use lib.ListN.{length}
 use borrow.Author.Tests.{eq-eqb, ne-eqb, lt-ltb}
-use Rattle.pool.specs.Layout.{registerCount, poolLength, cellCountOfLength, cellCount, count, register, setRegister, cell, setCell, state, left, right}
+use Rattle.pool.specs.Layout.{registerCount, poolLength, cellCount, count, register, setRegister, cell, setCell, state, left, right}
 use Rattle.pool.specs.States.{isUsed, isFree}
 use Rattle.questions.specs.Questions.{areRegisters, holdsLink}
 use Rattle.answers.specs.Outcome.{Outcome, refused}
 use Rattle.pool.proofs.Laws.{length-setRegister, count-setRegister, cell-setRegister, register-same, register-other, length-setCell, count-setCell, register-setCell, cell-same, cell-other}
-use Rattle.pool.proofs.Sizes.{Sized, sized-length, same-count}
+use Rattle.pool.proofs.Sizes.{Sized, same-count}
 use Rattle.questions.proofs.WellFormed.{Link, Cell, WellFormed, link-made}
 use Rattle.questions.proofs.PoolGraph.{Used, used-links}
 use Rattle.operations.specs.Operations.{withCell}
@@ -27,12 +27,11 @@ pub record Standing (N : ℕ) (w : List ℕ) : Type 0 where
 module _ {N : ℕ} {w : List ℕ} (pool : Standing N w) where
   pub standing-cells : cellCount registerCount w ≡ N
   standing-cells =
-      let size = pool .sized in
-      let cells : cellCountOfLength registerCount (length w) ≡ N = rw (size .exact) (sized-length registerCount N (size .least) (size .most)) in
+      let cells = pool .sized .counted in
       same-count registerCount w (pool .counted ∙ sym cells) ∙ cells
 
   pub standing-room : poolLength registerCount N ≤ length w
-  standing-room = omega (arith, pool .sized .exact)
+  standing-room = pool .sized .room
 
   -- The first question is answered with yes.
   pub called : (c : Call) → callOf c w ≡ cond (areRegisters (registersOf c)) (bodyOf c N w) (refused 2, w)
@@ -115,7 +114,7 @@ module _ {N : ℕ} {w : List ℕ} (pool : Standing N w) where
       pool
     where
       registers : (k : ℕ) → k < registerCount → Dec (k ≡ r) → Link registerCount N w (register (setRegister w r v) k)
-      registers k below (yes same) = rw (same, register-same registerCount w r v (omega (arith, pool .sized .exact, pool .sized .least))) link
+      registers k below (yes same) = rw (same, register-same registerCount w r v (omega (arith, pool .sized .room, pool .sized .least))) link
       registers k below (no other) = rw (register-other registerCount w r v k other) (pool .well .registers k below)
 
   -- A link of a cell, or its value, is changed.
@@ -139,5 +138,5 @@ module _ {N : ℕ} {w : List ℕ} (pool : Standing N w) where
           go (yes e) =
               let cell-here : i ≡ x = omega arith in
               let field-here : g ≡ f = omega arith in
-              rw (cell-here, field-here, cell-same registerCount w x f v low below (omega (arith, pool .sized .exact))) (link (omega arith))
+              rw (cell-here, field-here, cell-same registerCount w x f v low below (omega (arith, pool .sized .room))) (link (omega arith))
           go (no e) = rw (cell-other registerCount w x f v i g low below some (omega arith) e) old

@@ -36,19 +36,19 @@ module _ {N : ℕ} {w : List ℕ} (inv : Invariant N w) (r x y v : ℕ) (low : r
 
   taken-head : head after ≡ left registerCount w h
   taken-head =
-      head-setRegister registerCount _ r h ∙ head-same registerCount _ _ (rw (length-putCell registerCount w h some usedState x y v) (omega (arith, inv .pool .sized .exact)))
+      head-setRegister registerCount _ r h ∙ head-same registerCount _ _ (rw (length-putCell registerCount w h some usedState x y v) (omega (arith, inv .pool .sized .room)))
 
   pub taken-cell : (f : ℕ) → f < 4 → cell registerCount after h f ≡ written usedState x y v f
   taken-cell f hf =
       cell-setRegister registerCount _ r h h f low
-      ∙ (cell-setHead registerCount _ _ h f ∙ cell-putCell registerCount w h some usedState x y v f hf (omega (arith, inv .pool .sized .exact, first .high)))
+      ∙ (cell-setHead registerCount _ _ h f ∙ cell-putCell registerCount w h some usedState x y v f hf (omega (arith, inv .pool .sized .room, first .high)))
 
   pub taken-other : (j f : ℕ) → 0 < j → f < 4 → (j ≡ h → ⊥) → cell registerCount after j f ≡ cell registerCount w j f
   taken-other j f hj hf other =
       cell-setRegister registerCount _ r h j f low ∙ (cell-setHead registerCount _ _ j f ∙ cell-putCell-other registerCount w h some usedState x y v j f hj hf other)
 
   pub taken-register : register after r ≡ h
-  taken-register = register-same registerCount _ r h (simp (length-setHead, length-setCell) (omega (arith, inv .pool .sized .exact, inv .pool .sized .least)))
+  taken-register = register-same registerCount _ r h (simp (length-setHead, length-setCell) (omega (arith, inv .pool .sized .room, inv .pool .sized .least)))
 
   pub taken-register-other : (k : ℕ) → k < registerCount → (k ≡ r → ⊥) → register after k ≡ register w k
   taken-register-other k below other =

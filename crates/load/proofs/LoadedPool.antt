@@ -6,9 +6,9 @@ use mathlib.Core.List.{List}
 use lib.ListN.{length, getD}
 use lib.Dec.{leb}
 use borrow.Author.Tests.{le-leb, leb-true}
-use Rattle.pool.specs.Layout.{poolLength, cellCountOfLength, cellCount, cellLimit, count, register, cell}
+use Rattle.pool.specs.Layout.{poolLength, cellCountOfLength, cellCount, count, register, cell}
 use Rattle.pool.specs.Retain.{freeList, freeCells, blankWords}
-use Rattle.pool.proofs.Sizes.{sized-length, same-count}
+use Rattle.pool.proofs.Sizes.{same-count}
 use Rattle.pool.proofs.Retained.{length-retain, retain-count, retain-register}
 use Rattle.questions.proofs.RetainedPool.{Kept, retained-well-formed}
 use Rattle.pool.proofs.RetainedPool.{retained-same, retained-free-list}
@@ -20,7 +20,7 @@ use Rattle.load.specs.Load.{putImage, loadedWords}
 use Rattle.load.proofs.Putting.{imageField, noCell}
 use Rattle.load.proofs.Loading.{Holds, image-holds}
 
-module _ (R m : ℕ) (i : Image) (few : length (i .cells) ≤ m) (all : length (i .registers) ≡ R) (w : List ℕ) (exact : length w ≡ poolLength R m) where
+module _ (R m : ℕ) (i : Image) (few : length (i .cells) ≤ m) (all : length (i .registers) ≡ R) (w : List ℕ) (long : poolLength R m ≤ length w) where
   abbrev K : ℕ
   K = length (i .cells)
 
@@ -42,11 +42,11 @@ module _ (R m : ℕ) (i : Image) (few : length (i .cells) ≤ m) (all : length (
       retained-same R m (λ j. leb j K) held room (suc p) f (omega arith) (omega arith) (omega arith) (le-leb (suc p) K (omega arith))
       ∙ holds .cells p f below hf
 
-  pub loaded-cells : 1 ≤ m → m ≤ cellLimit → cellCount R (loadedWords R m i w) ≡ m
+  pub loaded-cells : cellCountOfLength R (length w) ≡ m → cellCount R (loadedWords R m i w) ≡ m
   unfolding count
-  loaded-cells low high =
-      let long : length (loadedWords R m i w) ≡ poolLength R m = length-retain R m (λ j. leb j K) held ∙ (holds .len ∙ exact) in
-      let cells : cellCountOfLength R (length (loadedWords R m i w)) ≡ m = rw long (sized-length R m low high) in
+  loaded-cells counted =
+      let same : length (loadedWords R m i w) ≡ length w = length-retain R m (λ j. leb j K) held ∙ holds .len in
+      let cells : cellCountOfLength R (length (loadedWords R m i w)) ≡ m = rw same counted in
       let first : count (loadedWords R m i w) ≡ m = retain-count R m (λ j. leb j K) held room ∙ holds .number in
       same-count R (loadedWords R m i w) (first ∙ sym cells) ∙ cells
 

@@ -184,7 +184,7 @@ module _ (w bytes : List ℕ) (n : ℕ) (cells : n ≡ cellCountOfLength registe
           let i = scanned _ K end (sym e ∙ says) in
           let r = image-read registerCount n bytes (i .image) end (i .whole) in
           let put = fill (i .image) end (i .whole) in
-          let room : poolLength registerCount n ≤ length w = omega (arith, load-sized .exact) in
+          let room : poolLength registerCount n ≤ length w = load-sized .room in
           let first : MarkedFirst registerCount (length (i .image .cells)) n (set (putImage registerCount (i .image) w) 0 n) marked =
           subst (λ (k : ℕ). MarkedFirst registerCount k n (set (putImage registerCount (i .image) w) 0 n) marked) (sym (i .number))
           (subst (λ (f : List ℕ). MarkedFirst registerCount K n (set f 0 n) marked) put marks) in

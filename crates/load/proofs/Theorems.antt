@@ -13,7 +13,7 @@ use Rattle.questions.specs.Validity.{wellFormed}
 use Rattle.answers.specs.Outcome.{refusalNumber}
 use Rattle.answers.specs.declared.Refusal.{Refusal}
 use Rattle.answers.specs.declared.Refusal.the-variants as refusal
-use Rattle.pool.proofs.Sizes.{length-sized, sized-length}
+use Rattle.pool.proofs.Sizes.{length-exact, length-sized, sized-length}
 use Rattle.questions.proofs.WellFormed.{well-formed-made}
 use Rattle.image.specs.Image.{Image, Parsed, parsed, fault, readImage}
 use Rattle.image.specs.Check.{verdictOf, checkOf}
@@ -31,8 +31,9 @@ no-pool : (n : ℕ) → (1 ≤ n → n ≤ cellLimit → ⊥) → cellCountOfLen
 no-pool n outside =
     elim (decLt 0 (cellCountOfLength registerCount (poolLength registerCount n))) [
       | yes some ↦
-          let s = length-sized registerCount (poolLength registerCount n) some in
-          absurd (outside (omega (arith, s)) (omega (arith, s)))
+          let sized = length-sized registerCount (poolLength registerCount n) some in
+          let same = length-exact registerCount (poolLength registerCount n) some in
+          absurd (outside (omega arith) (omega arith))
       | no none ↦ omega arith
     ]
 
@@ -79,7 +80,7 @@ load-is-well-formed w bytes = go (ltb 0 n) refl (readImage registerCount n bytes
         let few = image-few registerCount n bytes i end r in
         let all = image-registers registerCount n bytes i end r in
         let sized = length-sized registerCount (length w) (ltb-true 0 n some) in (
-          loaded-cells registerCount n i few all w (sized .exact) (sized .least) (sized .most),
+          loaded-cells registerCount n i few all w (sized .room) (sized .counted),
           well-formed-made registerCount n _
-              (loaded-well-formed registerCount n i few all w (sized .exact) (image-links registerCount n bytes i end r)),
+              (loaded-well-formed registerCount n i few all w (sized .room) (image-links registerCount n bytes i end r)),
         )

@@ -12,7 +12,7 @@ use Rattle.pool.specs.Layout.{registerCount, firstRegister, poolLength, 
 use Rattle.pool.specs.Retain.{freeCells, markedCell, sweepOf, blankWords, freshWords}
 use Rattle.answers.specs.Outcome.{Outcome, answered}
 use Rattle.pool.specs.Fresh.{freshOf, FreshIsFree}
-use Rattle.pool.proofs.Sizes.{length-sized}
+use Rattle.pool.proofs.Sizes.{length-exact}
 use Rattle.pool.proofs.Every.{tabulate-list, tabulate-cong}
 use Rattle.pool.proofs.Retained.{retain-cong}
 use Rattle.pool.proofs.RetainedPool.{retained-free-list}
@@ -65,7 +65,7 @@ fresh-exact R n w exact =
 -- what `Pool::fresh` leaves where the length is that of n cells: the words are cleared, n goes to word 0, and the sweep makes the chain
 module _ (w : List ℕ) (n : ℕ) (cells : n ≡ cellCountOfLength registerCount (length w)) (some : n ≡ 0 → ⊥) where
   pub fresh-length : length w ≡ poolLength registerCount n
-  fresh-length = rw cells (length-sized registerCount (length w) (omega (arith, some)) .exact)
+  fresh-length = rw cells (length-exact registerCount (length w) (omega (arith, some)))
 
   pub fresh-made : (cleared swept : List ℕ) (kept : ℕ) → cleared ≡ replicate (length w) 0
       → _≡_ {A = ℕ × List ℕ} (kept, swept) (sweepOf registerCount n (set cleared 0 n))

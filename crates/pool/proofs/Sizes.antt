@@ -19,25 +19,39 @@ pub third-decides : (a b c : Bool) → a ≡ true → b ≡ true → c ≡ (a &&
 third-decides a b c ha hb = rw (ha, hb)
 
 -- a length that is a pool's is that of its number of cells, which is within the limits
-pub record Sized (R len n : ℕ) : Type 0 where
-  pub exact : len ≡ poolLength R n
-  pub least : 1 ≤ n
-  pub most : n ≤ cellLimit
+record Exact (R len n : ℕ) : Type 0 where
+  same : len ≡ poolLength R n
+  least : 1 ≤ n
+  most : n ≤ cellLimit
 
-pub length-sized : (R len : ℕ) → 0 < cellCountOfLength R len → Sized R len (cellCountOfLength R len)
+exact : (R len : ℕ) → 0 < cellCountOfLength R len → Exact R len (cellCountOfLength R len)
 unfolding cellCountOfLength
-length-sized R len = go (leb (poolLength R 1) len && leb len (poolLength R cellLimit) && eqb ((len - firstCell R) % 4) 0) refl
+exact R len = go (leb (poolLength R 1) len && leb len (poolLength R cellLimit) && eqb ((len - firstCell R) % 4) 0) refl
   where
     go : (t : Bool) → (leb (poolLength R 1) len && leb len (poolLength R cellLimit) && eqb ((len - firstCell R) % 4) 0) ≡ t
-        → 0 < cond t ((len - firstCell R) / 4) 0 → Sized R len (cond t ((len - firstCell R) / 4) 0)
+        → 0 < cond t ((len - firstCell R) / 4) 0 → Exact R len (cond t ((len - firstCell R) / 4) 0)
     go true e h =
         let outer = both (leb (poolLength R 1) len && leb len (poolLength R cellLimit)) (eqb ((len - firstCell R) % 4) 0) e in
         let inner = both (leb (poolLength R 1) len) (leb len (poolLength R cellLimit)) (outer .0) in
         let low = leb-true (poolLength R 1) len (inner .0) in
         let high = leb-true len (poolLength R cellLimit) (inner .1) in
         let whole = eqb-true ((len - firstCell R) % 4) 0 (outer .1) in
-        record { exact = omega arith; least = omega arith; most = omega arith }
+        record { same = omega arith; least = omega arith; most = omega arith }
     go false e h = absurd (omega arith)
+
+pub length-exact : (R len : ℕ) → 0 < cellCountOfLength R len → len ≡ poolLength R (cellCountOfLength R len)
+length-exact R len some = exact R len some .same
+
+-- what is asked of a length elsewhere: it is that of a pool of n cells, which is within the limits, and there is room for them
+pub record Sized (R len n : ℕ) : Type 0 where
+  pub counted : cellCountOfLength R len ≡ n
+  pub room : poolLength R n ≤ len
+  pub least : 1 ≤ n
+  pub most : n ≤ cellLimit
+
+pub length-sized : (R len : ℕ) → 0 < cellCountOfLength R len → Sized R len (cellCountOfLength R len)
+length-sized R len some =
+    let e = exact R len some in record { counted = refl; room = omega (arith, e .same); least = e .least; most = e .most }
 
 -- and the other way round
 pub sized-length : (R n : ℕ) → 1 ≤ n → n ≤ cellLimit → cellCountOfLength R (poolLength R n) ≡ n

@@ -34,7 +34,7 @@ module _ {N : ℕ} {w : List ℕ} {m : Model} (pool : Standing N w) (rep : Repre
       roots k below (yes e) =
           rw (
             e,
-            register-same registerCount w r x (omega (arith, pool .sized .exact, pool .sized .least)),
+            register-same registerCount w r x (omega (arith, pool .sized .room, pool .sized .least)),
             getD-set-same (m .registers) r y 0 (omega (arith, rep .bounded .registers)),
           ) link
       roots k below (no e) =
@@ -71,7 +71,7 @@ module _ {N : ℕ} {w : List ℕ} {m : Model} (pool : Standing N w) (rep : Repre
       model = replace m y e
 
       room : poolLength registerCount x ≤ length w
-      room = omega (arith, pool .sized .exact, pair-used rep pool pair hx .bounded)
+      room = omega (arith, pool .sized .room, pair-used rep pool pair hx .bounded)
 
       -- the cell written, field by field, and every other cell
       here : (g : Field) → Related (Pair w m) g (cell registerCount after x (number g)) (get g e)

@@ -27,7 +27,7 @@ use Rattle.load.proofs.LoadedPool.{loaded-register, loaded-cell, loaded-well-fo
 use Rattle.numbering.proofs.Numbering.{place-none, number-member, number-placed, number-at}
 use Rattle.save.proofs.SavedImage.{image-registers, image-cells, image-register, image-cell}
 
-module _ (R n : ℕ) (w : List ℕ) (m : ℕ) (few : reachedCount R n w ≤ m) (words : List ℕ) (exact : length words ≡ poolLength R m) where
+module _ (R n : ℕ) (w : List ℕ) (m : ℕ) (few : reachedCount R n w ≤ m) (words : List ℕ) (long : poolLength R m ≤ length words) where
   abbrev order : List ℕ
   order = reachedCells R n w
 
@@ -40,12 +40,12 @@ module _ (R n : ℕ) (w : List ℕ) (m : ℕ) (few : reachedCount R n w ≤ m) (
 
   loaded-field : (p f : ℕ) → p < length order → f < 3 → cell R loaded (suc p) (suc f) ≡ imageField (savedCell R w order (getD order p 0)) f
   loaded-field p f below hf =
-      loaded-cell R m (savedImage R w order) room (image-registers R w order) words exact p f (omega (arith, image-cells R w order)) hf
+      loaded-cell R m (savedImage R w order) room (image-registers R w order) words long p f (omega (arith, image-cells R w order)) hf
       ∙ ap (λ (c : ImageCell). imageField c f) (image-cell R w order p below)
 
   pub renumbered-register : (k : ℕ) → k < R → register loaded k ≡ numberIn order (register w k)
   renumbered-register k low =
-      loaded-register R m (savedImage R w order) room (image-registers R w order) words exact k low ∙ image-register R w order k low
+      loaded-register R m (savedImage R w order) room (image-registers R w order) words long k low ∙ image-register R w order k low
 
   pub renumbered-link : (p f : ℕ) → p < length order → f < 2
       → cell R loaded (suc p) (suc f) ≡ numberIn order (cell R w (getD order p 0) (suc f))
@@ -58,7 +58,7 @@ module _ (R n : ℕ) (w : List ℕ) (m : ℕ) (few : reachedCount R n w ≤ m) (
 
   module _ (well : WellFormed R n w) (links : LinksWithin (savedImage R w order)) where
     loaded-well : WellFormed R m loaded
-    loaded-well = loaded-well-formed R m (savedImage R w order) room (image-registers R w order) words exact links
+    loaded-well = loaded-well-formed R m (savedImage R w order) room (image-registers R w order) words long links
 
     reached-member : (x : ℕ) → Reach (graphOf R w) (rootsOf R w) x → List·Memᴰ x order
     reached-member x = preorder-reached n (graphOf R w) (rootsOf R w) (pool-within well) x .1

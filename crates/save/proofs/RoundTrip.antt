@@ -36,7 +36,7 @@ use Rattle.save.proofs.Renumbering as renumbering
 
 -- Save of loaded words whose cells are visited as 1, 2, .. makes the image that was loaded.
 module _ (R m : ℕ) (i : Image) (few : length (i .cells) ≤ m) (all : length (i .registers) ≡ R) (links : images.LinksWithin i) (words : List ℕ)
-    (exact : length words ≡ poolLength R m) (visited : reachedCells R m (loadedWords R m i words) ≡ tabulate (length (i .cells)) suc) where
+    (long : poolLength R m ≤ length words) (visited : reachedCells R m (loadedWords R m i words) ≡ tabulate (length (i .cells)) suc) where
   abbrev K : ℕ
   K = length (i .cells)
 
@@ -48,7 +48,7 @@ module _ (R m : ℕ) (i : Image) (few : length (i .cells) ≤ m) (all : length (
 
   counted : Distinct order
   counted =
-      rw visited at (preorder-distinct m (graphOf R pool) (rootsOf R pool) (pool-within (loaded-well-formed R m i few all words exact links)))
+      rw visited at (preorder-distinct m (graphOf R pool) (rootsOf R pool) (pool-within (loaded-well-formed R m i few all words long links)))
 
   -- Each cell's number is its own.
   own-number : (x : ℕ) → x ≤ K → numberIn order x ≡ x
@@ -59,13 +59,13 @@ module _ (R m : ℕ) (i : Image) (few : length (i .cells) ≤ m) (all : length (
   same-registers =
       ext-getD 0 (savedImage R pool order .registers) (i .registers) (image-registers R pool order ∙ sym all) λ k below.
       let low : k < R = omega (arith, image-registers R pool order) in
-      let here = loaded-register R m i few all words exact k low in
+      let here = loaded-register R m i few all words long k low in
       image-register R pool order k low ∙ (ap (numberIn order) here ∙ own-number _ (each-at (links .registers) k 0 (omega arith)))
 
   same-cell : (p : ℕ) → p < K → savedCell R pool order (suc p) ≡ getD (i .cells) p noCell
   same-cell p below =
       let c = each-at (links .cells) p noCell below in
-      let field = loaded-cell R m i few all words exact p in
+      let field = loaded-cell R m i few all words long p in
       let l : numberIn order (cell R pool (suc p) 1) ≡ getD (i .cells) p noCell .left =
       ap (numberIn order) (field 0 below (omega arith)) ∙ own-number _ (c .left-most) in
       let r : numberIn order (cell R pool (suc p) 2) ≡ getD (i .cells) p noCell .right =
@@ -94,10 +94,10 @@ load-then-save words bytes i end some e visited s out long =
     let few = images.image-few registerCount m bytes i end read in
     let all = images.image-registers registerCount m bytes i end read in
     let links = images.image-links registerCount m bytes i end read in
-    let cells = loaded-cells registerCount m i few all words (sized .exact) (sized .least) (sized .most) in
-    let whole = well-formed-made registerCount m _ (loaded-well-formed registerCount m i few all words (sized .exact) links) in
+    let cells = loaded-cells registerCount m i few all words (sized .room) (sized .counted) in
+    let whole = well-formed-made registerCount m _ (loaded-well-formed registerCount m i few all words (sized .room) links) in
     rw (cells, lt-ltb 0 m some, le-leb (2 * m) (length s) long, whole)
-    (ap (λ (x : List ℕ). saveImage x s out) (saved-again registerCount m i few all links words (sized .exact) visited))
+    (ap (λ (x : List ℕ). saveImage x s out) (saved-again registerCount m i few all links words (sized .room) visited))
 
 -- The image of the pool w of n cells, loaded into words of a pool.
 module _ (n : ℕ) (w words : List ℕ) (some : 0 < cellCountOfLength registerCount (length words))
@@ -129,11 +129,11 @@ module _ (n : ℕ) (w words : List ℕ) (some : 0 < cellCountOfLength registerCo
   renumbered : Renumbered n w m (loadedWords registerCount m image words)
   renumbered =
       record {
-        registers = renumbering.renumbered-register registerCount n w m few words (sized .exact);
-        lefts = λ i below. renumbering.renumbered-link registerCount n w m few words (sized .exact) i 0 below (omega arith);
-        rights = λ i below. renumbering.renumbered-link registerCount n w m few words (sized .exact) i 1 below (omega arith);
-        values = renumbering.renumbered-value registerCount n w m few words (sized .exact);
-        order = renumbering.renumbered-order registerCount n w m few words (sized .exact) well (encodable-links encodable);
+        registers = renumbering.renumbered-register registerCount n w m few words (sized .room);
+        lefts = λ i below. renumbering.renumbered-link registerCount n w m few words (sized .room) i 0 below (omega arith);
+        rights = λ i below. renumbering.renumbered-link registerCount n w m few words (sized .room) i 1 below (omega arith);
+        values = renumbering.renumbered-value registerCount n w m few words (sized .room);
+        order = renumbering.renumbered-order registerCount n w m few words (sized .room) well (encodable-links encodable);
       }
 
   restored : (out : List ℕ) → length (imageOf registerCount n w) ≤ length out → (loaded : Loaded × List ℕ)
@@ -148,14 +148,14 @@ module _ (n : ℕ) (w words : List ℕ) (some : 0 < cellCountOfLength registerCo
       (record {
         accepted = refl;
         part = drop-append-seam (imageOf registerCount n w) (drop (length (imageOf registerCount n w)) out);
-        cells = loaded-cells registerCount m image room all words (sized .exact) (sized .least) (sized .most);
+        cells = loaded-cells registerCount m image room all words (sized .room) (sized .counted);
         well-formed =
             well-formed-made registerCount m _
-            (loaded-well-formed registerCount m image room all words (sized .exact) (encodable-links encodable));
+            (loaded-well-formed registerCount m image room all words (sized .room) (encodable-links encodable));
         renumbered = renumbered;
         kept = ap length (renumbered .order) ∙ length-tabulate (reachedCount registerCount n w) suc;
         free =
-            loaded-free registerCount m image room all words (sized .exact) (sized .least) ∙ ap (λ (k : ℕ). freeCells (λ i. leb i k) m 1) number;
+            loaded-free registerCount m image room all words (sized .room) (sized .least) ∙ ap (λ (k : ℕ). freeCells (λ i. leb i k) m 1) number;
         again =
             λ s long.
             load-then-save words (imageOf registerCount n w ++ []) image _ some (image-read []) visited s out long
