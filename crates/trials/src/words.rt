@@ -56,8 +56,15 @@ pub fn all_are(words: &[u32], v: u32) -> bool
     true
 }
 
-// Makes the words what a collection has to leave of them, by the marks alone. Gives the number of marked cells. (State 0 is used, 4 is free; word 1 is
-// the head.)
+// Makes a cell free, with the next free cell as its left. (State 4 is free.)
+fn free_cell(words: &mut [u32], i: u32, next: u32) {
+    put_cell(words, i, 0, 4);
+    put_cell(words, i, 1, next);
+    put_cell(words, i, 2, 0);
+    put_cell(words, i, 3, 0);
+}
+
+// Makes the words what a collection has to leave of them, by the marks alone. Gives the number of marked cells. (State 0 is used; word 1 is the head.)
 pub fn keep_marked(words: &mut [u32], n: u32, marks: &[u32]) -> u32
     requires { ⌜ n < length (now marks) ⌝ }
 {
@@ -66,10 +73,7 @@ pub fn keep_marked(words: &mut [u32], n: u32, marks: &[u32]) -> u32
     let mut i = n;
     while 0 < i {
         if marks[i as usize] == 0 {
-            put_cell(words, i, 0, 4);
-            put_cell(words, i, 1, next);
-            put_cell(words, i, 2, 0);
-            put_cell(words, i, 3, 0);
+            free_cell(words, i, next);
             next = i;
             i -= 1;
         } else {

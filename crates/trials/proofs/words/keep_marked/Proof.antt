@@ -24,17 +24,8 @@ mul-if1 c = search needs
 shared-slice-read-if1 : tie.Need-shared-slice-read-if1 Inv-loop μ-loop
 shared-slice-read-if1 c = search needs
 
-put-cell-requires : tie.Need-put-cell-requires Inv-loop μ-loop
-put-cell-requires c κs = search needs
-
-put-cell-requires-2 : tie.Need-put-cell-requires-2 Inv-loop μ-loop
-put-cell-requires-2 c κs = search needs
-
-put-cell-requires-3 : tie.Need-put-cell-requires-3 Inv-loop μ-loop
-put-cell-requires-3 c κs = search needs
-
-put-cell-requires-4 : tie.Need-put-cell-requires-4 Inv-loop μ-loop
-put-cell-requires-4 c κs = search needs
+free-cell-requires : tie.Need-free-cell-requires Inv-loop μ-loop
+free-cell-requires c κs = search needs
 
 sub-i : tie.Need-sub-i Inv-loop μ-loop
 sub-i c = search needs
@@ -45,8 +36,8 @@ loop-less c = search needs
 loop-again : tie.Need-loop-again Inv-loop μ-loop
 loop-again c = search needs
 
-put-cell-requires-5 : tie.Need-put-cell-requires-5 Inv-loop μ-loop
-put-cell-requires-5 c κs = search needs
+put-cell-requires : tie.Need-put-cell-requires Inv-loop μ-loop
+put-cell-requires c κs = search needs
 
 add-kept : tie.Need-add-kept Inv-loop μ-loop
 add-kept c = search needs
@@ -79,14 +70,11 @@ keep-marked-spec =
     cast-if1
     mul-if1
     shared-slice-read-if1
-    put-cell-requires
-    put-cell-requires-2
-    put-cell-requires-3
-    put-cell-requires-4
+    free-cell-requires
     sub-i
     loop-less
     loop-again
-    put-cell-requires-5
+    put-cell-requires
     add-kept
     sub-i-2
     loop-less-2
