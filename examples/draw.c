@@ -14,8 +14,8 @@
 #define CELLS CELLPOOL_MOST_CELLS
 
 static uint32_t words[CELLPOOL_WORDS(CELLS)];
-/* Any image fits, also one whose numbers were not written by cellpool_save and take five bytes each. */
-static uint8_t bytes[5u * (1u + CELLPOOL_REGISTERS + 3u * CELLS)];
+/* Any image fits, and one byte more, which tells that there are bytes behind the longest one too. */
+static uint8_t bytes[CELLPOOL_IMAGE_BYTES(CELLS) + 1u];
 
 /* The four words of cell i. */
 static const uint32_t *cell(uint32_t i) { return words + CELLPOOL_WORDS(i - 1); }
@@ -28,7 +28,7 @@ static int draw(size_t count) {
         fprintf(stderr, "draw: refused with %lu: %s\n", (unsigned long)answer, cellpool_refusal_text(answer));
         return 1;
     }
-    if (rest < count) fprintf(stderr, "draw: %lu bytes behind the image\n", (unsigned long)(count - rest));
+    if (rest < count) fprintf(stderr, "draw: there are bytes behind the image\n");
     puts("digraph pool {");
     puts("  node [shape=record, fontname=\"sans-serif\", fontsize=11];");
     for (i = 0; i < CELLPOOL_REGISTERS; i++) {

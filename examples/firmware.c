@@ -8,6 +8,7 @@
  *   no cell is free (5)       the pool has collected already: drop the log, which is only good to have, and try once more
  *   malformed or size (3, 1)  memory was damaged: take the newest stored plan that is good, and try once more
  *   nil (4)                   the plan has ended
+ *   an image (6 to 9, 12)     that stored plan is not good, whatever its checksum: take the older one
  *   anything else             an error in this program: tell the caller, and change nothing
  *
  * Build, with a main of your own in the place of firmware_main.c:

@@ -23,6 +23,9 @@
  *     function keeps a pointer, allocates, or uses global state, so two pools may be used at the same time.
  *   - An image has no magic number, no version and no checksum: bytes that happen to be an image of another plan, or
  *     one with a flipped bit in a value, are loaded. Where storage or a link may fail, put a checksum around it.
+ *   - A number of an image has one form, its fewest bytes: 5 is 05, and 85 00 is refused with 12. Whoever writes images
+ *     without cellpool_save sees to that. So one plan, its cells numbered as cellpool_save numbers them, has one image,
+ *     byte for byte: loaded and saved again, it is the same bytes.
  *
  * The archive is for x86-64 in ELF only, with the System V calling convention, and position independent. It has the
  * instructions that every x86-64 processor has, SSE2 among them (today in cellpool_collect_stack alone), no x87, MMX or
@@ -71,8 +74,11 @@
  * for what was there before, the major number moves: look again at what was built or saved with another one. Where
  * functions or constants only come beside those that were there, the minor number moves. Everything else (speed, less
  * stack, comments) moves the patch number. CELLPOOL_VERSION is one number for #if: 10000 * major + 100 * minor + patch.
+ *
+ * 2.0.0: cellpool_load and cellpool_check_image refuse padded numbers with 12, which 1.0.0 accepted. What cellpool_save
+ * writes has not changed, and is accepted by both.
  */
-#define CELLPOOL_VERSION_MAJOR 1
+#define CELLPOOL_VERSION_MAJOR 2
 #define CELLPOOL_VERSION_MINOR 0
 #define CELLPOOL_VERSION_PATCH 0
 #define CELLPOOL_VERSION (10000 * CELLPOOL_VERSION_MAJOR + 100 * CELLPOOL_VERSION_MINOR + CELLPOOL_VERSION_PATCH)
@@ -97,7 +103,8 @@ extern "C" {
 /* Words of a pool of n cells, and words of scratch that cellpool_save needs. */
 #define CELLPOOL_WORDS(n) (18u + 4u * (n))
 #define CELLPOOL_SCRATCH(n) (2u * (n))
-/* Bytes that hold every image of k cells: K and 16 registers of at most 2 bytes, links of 2 and a value of 5. */
+/* Bytes that hold every image of k cells, whoever wrote it: K and 16 registers of at most 2 bytes, links of 2 and a
+   value of 5. */
 #define CELLPOOL_IMAGE_BYTES(k) (34u + 9u * (k))
 
 /* Answers. */
@@ -125,7 +132,9 @@ enum {
     /* The scratch or the output is too short. */
     CELLPOOL_REFUSED_NO_ROOM = 10,
     /* The pool has more than 64 cells: too many for the recursive marker. */
-    CELLPOOL_REFUSED_TOO_LARGE = 11
+    CELLPOOL_REFUSED_TOO_LARGE = 11,
+    /* A number of the image is padded: its last byte is 00, and it is longer than that byte. */
+    CELLPOOL_REFUSED_PADDED = 12
 };
 
 /* An answer in words, for logs and consoles. */
@@ -143,6 +152,7 @@ static inline const char *cellpool_refusal_text(uint32_t answer) {
     case CELLPOOL_REFUSED_TOO_MANY_CELLS: return "the image has more cells than the pool";
     case CELLPOOL_REFUSED_NO_ROOM: return "the scratch or the output is too short";
     case CELLPOOL_REFUSED_TOO_LARGE: return "the pool is too large for the recursive marker";
+    case CELLPOOL_REFUSED_PADDED: return "a number of the image is padded";
     default: return "no answer of this library";
     }
 }
@@ -219,11 +229,12 @@ uint32_t cellpool_save(const uint32_t *words, size_t len, uint32_t *scratch, siz
                        size_t out_len, size_t *bytes);
 
 /* Make the words the pool of an image, N by their length alone. *rest becomes the place of the first byte behind the
-   image; refused, it becomes bytes_len. Refused: 1, then number by number 6, 7, 9, 8. */
+   image; refused, it becomes bytes_len. Refused: 1, then number by number 6, 7, 12, 9, 8. */
 CELLPOOL_MUST_USE
 uint32_t cellpool_load(uint32_t *words, size_t len, const uint8_t *bytes, size_t bytes_len, size_t *rest);
 
-/* Answer what cellpool_load would for a pool of n cells, and write nothing. Refused: 1, 6, 7, 9, 8. */
+/* Answer what cellpool_load would for a pool of n cells, and write nothing. Refused: 1, then number by number 6, 7, 12,
+   9, 8. */
 CELLPOOL_MUST_USE
 uint32_t cellpool_check_image(const uint8_t *bytes, size_t bytes_len, uint32_t n);
 

@@ -372,18 +372,19 @@ uint32_t NAME(save)(const uint32_t *words, size_t len, uint32_t *scratch, size_t
     return answer;
 }
 
-/* Read one number at *at and advance. */
+/* Read one number at *at and advance; a padded one is read and then refused. */
 static uint32_t read_number(const uint8_t *bytes, size_t len, size_t *at, uint32_t *number) {
     uint32_t sum = 0;
-    for (unsigned place = 0; place < 5; place++) {
+    for (unsigned place = 0;; place++) {
         if (*at == len) return CELLPOOL_REFUSED_TRUNCATED;
         uint8_t byte = bytes[(*at)++];
         if (place == 4 && byte > 0x0F) return CELLPOOL_REFUSED_OUT_OF_RANGE;
         sum |= (uint32_t)(byte & 0x7F) << (7 * place);
-        if (byte < 0x80) break;
+        if (byte < 0x80) {
+            *number = sum;
+            return place > 0 && byte == 0 ? CELLPOOL_REFUSED_PADDED : CELLPOOL_OK;
+        }
     }
-    *number = sum;
-    return CELLPOOL_OK;
 }
 
 static uint32_t read_link(const uint8_t *bytes, size_t len, size_t *at, uint32_t k) {

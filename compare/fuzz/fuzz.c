@@ -7,8 +7,9 @@
  *
  * The blocks stand against pages that may be neither read nor written, so that also an archive compiled without a sanitizer
  * is caught at the first access outside. The library is compared with itself too: a refusal is one that the header lists with
- * its function and changes nothing but what the header names, the forms of collect agree, and an image that was saved loads
- * and saves as the same bytes, while every cut of it is refused.
+ * its function and changes nothing but what the header names, the forms of collect agree, an image that was saved loads and
+ * saves as the same bytes, while every cut of it is refused, and any image that loads is saved as the bytes that were read
+ * exactly if its cells are numbered in the order of the visits.
  *
  * With -DSTANDALONE a main is added that runs pseudo-random inputs: fuzz [inputs [seed]].
  */
@@ -92,8 +93,8 @@ static const struct {
     [STACKED] = {"collect_stack", BIT(1) | BIT(3), BIT(WORDS) | BIT(STACK)},
     [RECURSIVE] = {"collect_recursive", BIT(1) | BIT(3) | BIT(11), BIT(WORDS)},
     [SAVE] = {"save", BIT(1) | BIT(3) | BIT(10), BIT(WORDS) | BIT(STACK) | BIT(OUT)},
-    [LOAD] = {"load", BIT(1) | BIT(6) | BIT(7) | BIT(8) | BIT(9), BIT(WORDS) | BIT(IMAGE)},
-    [CHECK] = {"check_image", BIT(1) | BIT(6) | BIT(7) | BIT(8) | BIT(9), BIT(IMAGE)},
+    [LOAD] = {"load", BIT(1) | BIT(6) | BIT(7) | BIT(8) | BIT(9) | BIT(12), BIT(WORDS) | BIT(IMAGE)},
+    [CHECK] = {"check_image", BIT(1) | BIT(6) | BIT(7) | BIT(8) | BIT(9) | BIT(12), BIT(IMAGE)},
     [OCCUPANCY] = {"occupancy", BIT(1), 0},
 };
 
@@ -247,19 +248,92 @@ static void *lend_filled(int block, size_t count, size_t element, int content) {
     return memset(lend(block, count * element), content, count * element);
 }
 
-/* The image that was saved last, or one by the input; then a change of one byte, or none. */
+/* The image that was saved last. */
 static uint8_t saved[ROOM];
 static size_t saved_bytes;
 
+/* Bytes by the input: any, an image of few cells with small numbers, or the saved one. */
+static size_t image_of(Input *input, uint8_t kind, uint8_t *image) {
+    size_t left = input->size - input->at, bytes = saved_bytes;
+    if (kind & 1) {
+        memcpy(image, saved, bytes);
+    } else if (kind & 2) {
+        uint8_t k = (uint8_t)(byte_of(input) % ((cells < 5 ? cells : 5) + 1));
+        bytes = 17 + 3 * (size_t)k;
+        image[0] = k;
+        for (size_t i = 1; i < bytes; i++) image[i] = (uint8_t)(byte_of(input) % (k + 1u));
+    } else {
+        bytes = number_of(input, 245) % (left + 1);
+        if (bytes > ROOM) bytes = ROOM;
+        for (size_t i = 0; i < bytes; i++) image[i] = byte_of(input);
+    }
+    return bytes;
+}
+
+static size_t place_of(Input *input, size_t bytes) {
+    size_t low = byte_of(input), high = byte_of(input);
+    return (low | high << 8) % bytes;
+}
+
+/* The number that goes through this place, or to the end of the bytes, gets groups of 0 behind its own. */
+static size_t padded(uint8_t *image, size_t bytes, size_t place, size_t groups) {
+    while (place + 1 < bytes && image[place] & 0x80) place++;
+    memmove(image + place + 1 + groups, image + place + 1, bytes - place - 1);
+    image[place] |= 0x80;
+    memset(image + place + 1, 0x80, groups);
+    image[place + groups] = 0;
+    return bytes + groups;
+}
+
+/* Such bytes; then a change of one, or none, and a number padded, or none. */
 static void lend_image(Input *input) {
+    static uint8_t image[ROOM + 4];
     uint8_t kind = byte_of(input);
-    size_t left = input->size - input->at, bytes = kind & 1 ? saved_bytes : number_of(input, 245) % (left + 1);
-    uint8_t *image = lend(IMAGE, bytes > ROOM ? ROOM : bytes);
-    for (size_t i = 0; i < blocks[IMAGE].bytes; i++) image[i] = kind & 1 ? saved[i] : byte_of(input);
-    if (kind & 2 && bytes > 0) {
-        size_t place = (byte_of(input) | (size_t)byte_of(input) << 8) % blocks[IMAGE].bytes;
+    size_t bytes = image_of(input, kind, image);
+    if (kind & 4 && bytes > 0) {
+        size_t place = place_of(input, bytes);
         image[place] = byte_of(input);
     }
+    if (kind & 8 && bytes > 0) {
+        size_t place = place_of(input, bytes);
+        bytes = padded(image, bytes, place, 1 + byte_of(input) % 4u);
+    }
+    if (bytes > ROOM) bytes = ROOM;
+    memcpy(lend(IMAGE, bytes), image, bytes);
+}
+
+/* Are the cells of a loaded image, which are the used ones, numbered in the order of the visits, depth first, left before
+   right, registers in order? While they are, 1 to `visited` have been visited, and a link to another leads to the next one. */
+static int in_order_of_visits(const uint32_t *words) {
+    static uint32_t path[4000];
+    uint32_t k = 0, visited = 0, link;
+    while (k < cells && words[CELLPOOL_WORDS((size_t)k)] == 0) k++;
+    for (size_t i = 2; i < 18; i++) {
+        size_t depth = 0;
+        link = words[i];
+        for (;;) {
+            if (link > visited) {
+                if (link > visited + 1 || link > k) return 0;
+                path[depth++] = ++visited;
+                link = words[CELLPOOL_WORDS((size_t)link - 1) + 1];
+            } else if (depth > 0) {
+                link = words[CELLPOOL_WORDS((size_t)path[--depth] - 1) + 2];
+            } else {
+                break;
+            }
+        }
+    }
+    return visited == k;
+}
+
+/* An image was loaded, up to this byte: it is saved as the bytes that were read exactly if it is in that order. */
+static void loaded(size_t end) {
+    Results results;
+    lend_filled(STACK, 2 * (size_t)cells, sizeof(uint32_t), 0x5A);
+    uint8_t *out = lend_filled(OUT, CELLPOOL_IMAGE_BYTES((size_t)cells), 1, 0x77);
+    DEMAND(make_plainly(SAVE, &results) == 0);
+    int same = results.size[1] == end && memcmp(out, blocks[IMAGE].at[LIBRARY], end) == 0;
+    DEMAND(same == in_order_of_visits(words_of(LIBRARY)));
 }
 
 /* A call by the input. */
@@ -296,7 +370,9 @@ static void any_call(Input *input) {
         call.v = number_of(input, cells);
         break;
     }
-    if (make(call, &results) == 0 && call.function == SAVE) {
+    if (make(call, &results) != 0) return;
+    if (call.function == LOAD) loaded(results.size[1]);
+    if (call.function == SAVE) {
         saved_bytes = results.size[1];
         memcpy(saved, blocks[OUT].at[LIBRARY], saved_bytes);
     }

@@ -165,6 +165,12 @@ static void long_blocks(size_t upper) {
     EXPECT(9, cellpool_load(pool, LEN, saved, upper + 1, sizes));
     DEMAND(sizes[0] == upper + 1);
     EXPECT(9, cellpool_check_image(saved, upper + 1, N));
+    /* A padded number at the end of the page. */
+    saved[IMAGE - 2] = 0x82;
+    saved[IMAGE - 1] = 0;
+    EXPECT(12, cellpool_load(pool, LEN, saved + IMAGE - 2, upper + 2, sizes));
+    DEMAND(sizes[0] == upper + 2);
+    EXPECT(12, cellpool_check_image(saved + IMAGE - 2, upper + 2, N));
     EXPECT(1, cellpool_load(pool, LEN + 1, no_bytes, upper + 3, sizes));
     DEMAND(sizes[0] == upper + 3);
     EXPECT(1, cellpool_check_image(no_bytes, upper + 3, 0));

@@ -230,6 +230,9 @@ impl Reader<'_> {
             if place == 4 && byte > 0x0F {
                 return Err(OUT_OF_RANGE);
             }
+            if place > 0 && byte == 0 {
+                return Err(PADDED);
+            }
             number |= u32::from(byte & 0x7F) << (7 * place);
             if byte < 0x80 {
                 break;

@@ -77,6 +77,8 @@ pub enum Cause {
     Wide(Place),
     /// The number has more than five groups.
     Long(Place),
+    /// The number has more than one group, and the last one is 0.
+    Padded(Place),
     /// The image has more cells than the pool.
     MoreThanN,
     /// The register or link is above the number of the image's cells.
@@ -100,6 +102,7 @@ impl From<Cause> for u32 {
             Full => FULL,
             Truncated(_) => TRUNCATED,
             Wide(_) | Long(_) => OUT_OF_RANGE,
+            Padded(_) => PADDED,
             MoreThanN => TOO_MANY_CELLS,
             AboveK(_) => LINK_RANGE,
         }

@@ -4,6 +4,7 @@ use crate::generate::{self, Shape, SHAPES};
 use crate::model::{groups, Model, Pool};
 use crate::random::{self, Random};
 use crate::reference::Reference;
+use crate::refusal::PADDED;
 use crate::{
     apply, cell_at, words_for, Answer, Call, Interface, Tally, CELL, FREE, HEADER, MOST_CELLS, REGISTERS, USED,
 };
@@ -35,7 +36,7 @@ pub const COLLECTIONS: Comparison = Comparison { stream: 4, rounds: 15_000, run:
 pub const GRAPHS: Comparison = Comparison { stream: 5, rounds: 0, run: graphs };
 pub const SAVES: Comparison = Comparison { stream: 6, rounds: 6_000, run: saves };
 pub const IMAGES: Comparison = Comparison { stream: 7, rounds: 60_000, run: images };
-pub const FIRST_NUMBERS: Comparison = Comparison { stream: 8, rounds: 0, run: first_numbers };
+pub const NUMBERS: Comparison = Comparison { stream: 8, rounds: 0, run: numbers };
 pub const LENGTHS: Comparison = Comparison { stream: 9, rounds: 0, run: lengths };
 pub const PERCENTAGES: Comparison = Comparison { stream: 10, rounds: 0, run: percentages };
 pub const SMALL_POOLS: Comparison = Comparison { stream: 11, rounds: 0, run: small_pools };
@@ -43,6 +44,7 @@ pub const LARGEST_POOL: Comparison = Comparison { stream: 12, rounds: 0, run: la
 pub const SIZES: Comparison = Comparison { stream: 13, rounds: 0, run: every_size };
 pub const STACK_LENGTHS: Comparison = Comparison { stream: 14, rounds: 0, run: every_stack_length };
 pub const LENT_LENGTHS: Comparison = Comparison { stream: 15, rounds: 0, run: every_lent_length };
+pub const ROUND_TRIPS: Comparison = Comparison { stream: 16, rounds: 10_000, run: round_trips };
 
 fn equal<T: PartialEq + Debug>(what: impl Fn() -> String, found: T, expected: T) -> Outcome {
     if found == expected {
@@ -468,8 +470,41 @@ fn images(pool: &dyn Interface, random: &mut Random, rounds: usize) -> Outcome {
     Ok(())
 }
 
-/// Every sequence of up to two bytes, and of five with bytes at the limits, as the first number of an image.
-fn first_numbers(pool: &dyn Interface, _: &mut Random, _: usize) -> Outcome {
+/// Images with their cells in the order of the visits. Such an image loads, with any bytes behind it, and saves as the bytes
+/// that were read; with one number padded it is refused. What is expected is known without the model's reader.
+fn round_trips(pool: &dyn Interface, random: &mut Random, rounds: usize) -> Outcome {
+    for _ in 0..rounds {
+        let n = generate::cells(random);
+        let graph = match random.below(3) {
+            0 => random.pick(&SHAPES).words(n, random),
+            1 => generate::built_by_calls(random, n),
+            _ => generate::well_formed(random, n),
+        };
+        let image = image(&graph, random);
+        let before: Vec<u32> = filled(random, words_for(n)).collect();
+        let mut words = before.clone();
+        if random.once_in(2) {
+            let bytes = generate::padded_image(random, &image);
+            let what = || format!("{bytes:02X?} for {n} cells");
+            equal(what, pool.load(&mut words, &bytes), (Err(PADDED), bytes.len()))?;
+            equal_words(what, &words, &before)?;
+            equal(what, pool.check_image(&bytes, n as u32), Err(PADDED))?;
+            continue;
+        }
+        let mut bytes = image.clone();
+        bytes.extend((0..random.below(5)).map(|_| random.word() as u8));
+        let what = || format!("{bytes:02X?} for {n} cells");
+        equal(what, pool.check_image(&bytes, n as u32), Ok(()))?;
+        equal(what, pool.load(&mut words, &bytes), (Ok(()), image.len()))?;
+        let mut out = vec![0x55; image.len()];
+        equal(what, pool.save(&mut words, &mut vec![7; 2 * n], &mut out), Ok(image.len()))?;
+        equal_words(what, &out, &image)?;
+    }
+    Ok(())
+}
+
+/// Every sequence of up to two bytes, and of three to six with bytes at the limits, as each kind of number of an image.
+fn numbers(pool: &dyn Interface, _: &mut Random, _: usize) -> Outcome {
     let mut sequences: Vec<Vec<u8>> = vec![vec![]];
     for first in 0..=255u8 {
         sequences.push(vec![first]);
@@ -482,16 +517,19 @@ fn first_numbers(pool: &dyn Interface, _: &mut Random, _: usize) -> Outcome {
             sequences.push((0..length).map(byte).collect());
         }
     }
-    for mut bytes in sequences {
+    for bytes in sequences {
         for n in [1, 4000] {
             check(pool, &bytes, n)?;
         }
-        // The same bytes as the value of one cell.
-        let mut image = vec![1];
-        image.extend([0; REGISTERS + 2]);
-        image.append(&mut bytes);
-        check(pool, &image, 1)?;
-        load(pool, &[9; 22], &image)?;
+        // The same bytes in an image of one cell, all else nil: as K, the first register, the left, the right and the value.
+        for place in [0, 1, REGISTERS + 1, REGISTERS + 2, REGISTERS + 3] {
+            let mut numbers = [&[0x00][..]; 1 + REGISTERS + 3];
+            numbers[0] = &[0x01];
+            numbers[place] = &bytes;
+            let image = numbers.concat();
+            check(pool, &image, 1)?;
+            load(pool, &[9; 22], &image)?;
+        }
     }
     Ok(())
 }

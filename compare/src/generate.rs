@@ -234,25 +234,41 @@ pub fn words(random: &mut Random) -> Vec<u32> {
     }
 }
 
-/// A number in at least its fewest groups, seldom more.
-fn padded(random: &mut Random, number: u32, bytes: &mut Vec<u8>) {
-    let mut written = groups(number);
-    if random.once_in(12) {
-        let last = written.len() - 1;
-        written[last] |= 0x80;
-        while written.len() < 4 && random.once_in(2) {
-            written.push(0x80);
-        }
-        if written.len() < 5 {
-            written.push(0);
-        } else {
-            written[last] &= 0x7F;
-        }
+/// The same number with groups of 0 behind its own, up to five groups in all; as it is where it has five.
+fn padded(random: &mut Random, written: &[u8]) -> Vec<u8> {
+    let mut longer = written.to_vec();
+    if written.len() < 5 {
+        longer[written.len() - 1] |= 0x80;
+        longer.resize(random.between(written.len(), 4), 0x80);
+        longer.push(0x00);
     }
-    bytes.extend(written);
+    longer
 }
 
-/// An image for about `n` cells: complete, cut, with more bytes behind it, with damaged bytes, or with numbers too large.
+/// An image with one number padded: K, a register, a left, a right or a value.
+pub fn padded_image(random: &mut Random, image: &[u8]) -> Vec<u8> {
+    let mut numbers: Vec<Vec<u8>> = image.split_inclusive(|byte| byte & 0x80 == 0).map(<[u8]>::to_vec).collect();
+    let cells = (numbers.len() - 1 - REGISTERS) / 3;
+    let place = match random.below(if cells == 0 { 2 } else { 5 }) {
+        0 => 0,
+        1 => random.between(1, REGISTERS),
+        // A value of five groups cannot be padded: the left of its cell is.
+        part => {
+            let left = 1 + REGISTERS + 3 * random.below(cells);
+            let number = left + part - 2;
+            if numbers[number].len() < 5 {
+                number
+            } else {
+                left
+            }
+        }
+    };
+    numbers[place] = padded(random, &numbers[place]);
+    numbers.concat()
+}
+
+/// An image for about `n` cells: complete, cut, with more bytes behind it, with padded numbers, with damaged bytes, or with
+/// numbers too large.
 pub fn image(random: &mut Random, n: usize) -> Vec<u8> {
     if random.once_in(12) {
         return (0..random.below(80)).map(|_| random.word() as u8 >> random.below(8)).collect();
@@ -268,19 +284,22 @@ pub fn image(random: &mut Random, n: usize) -> Vec<u8> {
             random.below(k as usize + 1) as u32
         }
     };
-    let mut bytes = Vec::new();
-    padded(random, k, &mut bytes);
-    for _ in 0..REGISTERS {
-        let register = link(random);
-        padded(random, register, &mut bytes);
-    }
+    // Each number, and the most that it may be.
+    let mut numbers = vec![(k, n as u32)];
+    numbers.extend((0..REGISTERS).map(|_| (link(random), k)));
     for _ in 0..k {
-        for _ in 0..2 {
-            let link = link(random);
-            padded(random, link, &mut bytes);
+        numbers.extend([(link(random), k), (link(random), k), (value(random), u32::MAX)]);
+    }
+    // About one padded number in such an image, and half of those that are too large.
+    let pads = random.once_in(4);
+    let mut bytes = Vec::new();
+    for &(number, most) in &numbers {
+        let written = groups(number);
+        if pads && random.once_in(if number > most { 2 } else { numbers.len() }) {
+            bytes.extend(padded(random, &written));
+        } else {
+            bytes.extend(written);
         }
-        let number = value(random);
-        padded(random, number, &mut bytes);
     }
     match random.below(8) {
         0 => bytes.truncate(random.below(bytes.len() + 1)),

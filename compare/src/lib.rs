@@ -46,6 +46,8 @@ pub mod refusal {
     pub const NO_ROOM: u32 = 10;
     /// Too many cells for the recursive marker.
     pub const TOO_LARGE: u32 = 11;
+    /// A number of the image is padded: its last group is 0, and it is not the single byte 00.
+    pub const PADDED: u32 = 12;
 }
 
 pub const REGISTERS: usize = 16;

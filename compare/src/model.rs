@@ -310,9 +310,14 @@ fn number(bytes: &[u8], place: Place) -> Result<(u32, usize), Cause> {
         None if first.len() < 5 => return Err(Cause::Truncated(place)),
         None => return Err(Cause::Long(place)),
     };
-    let groups = first[..taken].iter().enumerate();
+    let written = &first[..taken];
+    let groups = written.iter().enumerate();
     let sum: u64 = groups.map(|(group, &byte)| u64::from(byte & 0x7F) << (7 * group)).sum();
-    u32::try_from(sum).map(|number| (number, taken)).map_err(|_| Cause::Wide(place))
+    let number = u32::try_from(sum).map_err(|_| Cause::Wide(place))?;
+    if written.ends_with(&[0x00]) && written != [0x00] {
+        return Err(Cause::Padded(place));
+    }
+    Ok((number, taken))
 }
 
 /// The pool of `n` cells that an image describes, and where the image ends.

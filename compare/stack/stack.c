@@ -5,7 +5,8 @@
  * Each call is made on a block of its own, which is painted before with one byte and then with another; the lowest byte that
  * has changed tells how far the call went. Inputs are chosen so that every function takes its longest way: all cells used
  * and reached, a stack that is enough and one that is not, a chain of 64 cells for the recursive marker, images of every
- * length of number, and refused calls. A line is printed for each function, its name and the most bytes of its calls.
+ * length of number, and refused calls, also at the last number of an image. A line is printed for each function, its name and
+ * the most bytes of its calls.
  *
  * x86-64 with the System V calling convention, as the library is.
  */
@@ -18,7 +19,7 @@
 enum { N = 4000, SMALL = 64, LEN = CELLPOOL_WORDS(N), SMALL_LEN = CELLPOOL_WORDS(SMALL), ROOM = 1 << 16 };
 
 static uint32_t words[LEN], before[LEN], small[SMALL_LEN], scratch[CELLPOOL_SCRATCH(N)], stack[N], numbers[4];
-static uint8_t image[CELLPOOL_IMAGE_BYTES(N)];
+static uint8_t image[CELLPOOL_IMAGE_BYTES(N)], padded[CELLPOOL_IMAGE_BYTES(N) + 1];
 static size_t sizes[1], image_len;
 static unsigned char block[ROOM] __attribute__((aligned(16)));
 
@@ -154,12 +155,17 @@ int main(void) {
     TRY(0, save, w, LEN, AT(scratch), CELLPOOL_SCRATCH(N), AT(image), sizeof image, AT(sizes));
     image_len = sizes[0];
     TOLD(save);
+    /* The last value has fewer than five groups, and gets one of 0 behind its own. */
+    memcpy(padded, image, image_len);
+    padded[image_len - 1] |= 0x80;
     TRY(0, load, w, LEN, AT(image), image_len, AT(sizes));
     TRY(6, load, w, LEN, AT(image), image_len - 1, AT(sizes));
+    TRY(12, load, w, LEN, AT(padded), image_len + 1, AT(sizes));
     TOLD(load);
     TRY(0, check_image, AT(image), image_len, N);
     TRY(6, check_image, AT(image), image_len - 1, N);
     TRY(9, check_image, AT(image), image_len, N - 1);
+    TRY(12, check_image, AT(padded), image_len + 1, N);
     TOLD(check_image);
     TRY(0, occupancy, 1, 3, r0), TRY(1, occupancy, 3, 1, r0), TOLD(occupancy);
     return 0;

@@ -107,15 +107,17 @@ fn every_answer_has_a_text_of_its_own() {
         #include <stdio.h>\n\
         int main(void) {\n\
             uint32_t answer;\n\
-            for (answer = 0; answer <= 12; answer++) puts(cellpool_refusal_text(answer));\n\
+            for (answer = 0; answer <= CELLPOOL_REFUSED_PADDED + 1; answer++) puts(cellpool_refusal_text(answer));\n\
             return 0;\n\
         }\n";
     std::fs::write(made("texts.c"), text).expect("the source is written");
     let told = run(&compile("texts", &cc(), &["-std=c99", "-O2"], &[made("texts.c")]), &[]);
     let texts: Vec<&str> = told.lines().collect();
-    assert_eq!(texts.len(), 13);
+    assert_eq!(texts.len(), 14);
     assert_eq!((texts[0], texts[refusal::FULL as usize]), ("done", "no cell is free"));
-    assert_eq!(texts.iter().collect::<std::collections::BTreeSet<_>>().len(), 13, "{told}");
+    assert_eq!(texts[refusal::PADDED as usize], "a number of the image is padded");
+    assert_eq!(texts[13], "no answer of this library");
+    assert_eq!(texts.iter().collect::<std::collections::BTreeSet<_>>().len(), 14, "{told}");
     assert!(texts.iter().all(|text| (4..=50).contains(&text.len())), "{told}");
 }
 

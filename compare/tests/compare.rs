@@ -53,8 +53,13 @@ fn images_complete_and_damaged() {
 }
 
 #[test]
+fn images_in_the_order_of_the_visits_are_saved_as_they_were_read() {
+    on_all(checks::ROUND_TRIPS);
+}
+
+#[test]
 fn numbers_of_every_form() {
-    on_all(checks::FIRST_NUMBERS);
+    on_all(checks::NUMBERS);
 }
 
 #[test]

@@ -3,15 +3,41 @@
 mod common;
 
 use cellpool_compare::baseline::PlainRust;
+use cellpool_compare::cause::Place;
 use cellpool_compare::checks::{self, Comparison};
 use cellpool_compare::random::Random;
-use cellpool_compare::{cell_at, words_for, Interface, Tally, FREE, HEADER, USED};
+use cellpool_compare::{cell_at, words_for, Interface, Tally, FREE, HEADER, REGISTERS, USED};
+
+/// What is wrong in how the numbers of an image are read.
+#[derive(Clone, Copy, Debug, PartialEq, Eq)]
+enum Misread {
+    /// Padded numbers are accepted.
+    Padded,
+    /// They are accepted in this place.
+    PaddedAt(Place),
+    /// They are accepted where they have three groups or more.
+    PaddedLong,
+    /// They are accepted where they have five groups.
+    PaddedFifth,
+    /// The number 0 is accepted padded, and no other.
+    PaddedZero,
+    /// Every other number is.
+    PaddedNotZero,
+    /// The single byte 00 is refused as padded.
+    Zero,
+    /// It is asked whether the number is too large, with this refusal, before it is asked whether it is padded.
+    RangeFirst(u32),
+    /// It is asked whether five groups are padded, by the low seven bits of the fifth byte, before it is asked for 7.
+    PaddedFirst,
+}
 
 #[derive(Clone, Copy, Debug, PartialEq, Eq)]
 enum Fault {
     Correct,
     /// The function answers 3 at this N.
     At(&'static str, usize),
+    /// The function reads numbers so.
+    Reads(&'static str, Misread),
     CollectKeepsAll,
     CollectLosesFreeCell,
     CollectLosesCellInWindow,
@@ -75,6 +101,7 @@ enum Fault {
     LoadChecksLinksBeforeCells,
     LoadRefusesFullImage,
     LoadAcceptsOneCellMore,
+    LoadWritesBeforePadded,
     CheckIgnoresLimit,
     CheckLimitOneLess,
     CheckAcceptsInWindow,
@@ -89,9 +116,35 @@ enum Fault {
 
 use Fault::*;
 
+/// A function that accepts some padded numbers, or no 0.
+const fn other_forms(function: &'static str) -> [Fault; 11] {
+    [
+        Reads(function, Misread::Padded),
+        Reads(function, Misread::PaddedAt(Place::K)),
+        Reads(function, Misread::PaddedAt(Place::Register)),
+        Reads(function, Misread::PaddedAt(Place::Left)),
+        Reads(function, Misread::PaddedAt(Place::Right)),
+        Reads(function, Misread::PaddedAt(Place::Value)),
+        Reads(function, Misread::PaddedLong),
+        Reads(function, Misread::PaddedFifth),
+        Reads(function, Misread::PaddedZero),
+        Reads(function, Misread::PaddedNotZero),
+        Reads(function, Misread::Zero),
+    ]
+}
+
+/// A function that asks for padded numbers too late or too early.
+const fn other_orders(function: &'static str) -> [Fault; 3] {
+    [
+        Reads(function, Misread::RangeFirst(9)),
+        Reads(function, Misread::RangeFirst(8)),
+        Reads(function, Misread::PaddedFirst),
+    ]
+}
+
 /// The faults that each comparison finds. Those of the first one show in the answers to a list of calls, without a look at
 /// the words, and no others do.
-const FOUND_BY: [(Comparison, &[Fault]); 10] = [
+const FOUND_BY: [(Comparison, &[Fault]); 20] = [
     (
         checks::REFERENCE,
         &[
@@ -176,11 +229,22 @@ const FOUND_BY: [(Comparison, &[Fault]); 10] = [
             LoadLeavesHead,
             LoadChecksLinksBeforeCells,
             LoadAcceptsOneCellMore,
+            LoadWritesBeforePadded,
             CheckIgnoresLimit,
             CheckLimitOneLess,
             CheckAcceptsInWindow,
         ],
     ),
+    (checks::IMAGES, &other_forms("load")),
+    (checks::IMAGES, &other_forms("check")),
+    (checks::IMAGES, &other_orders("load")),
+    (checks::IMAGES, &other_orders("check")),
+    (checks::NUMBERS, &other_forms("load")),
+    (checks::NUMBERS, &other_forms("check")),
+    (checks::NUMBERS, &other_orders("load")),
+    (checks::NUMBERS, &other_orders("check")),
+    (checks::ROUND_TRIPS, &other_forms("load")),
+    (checks::ROUND_TRIPS, &other_forms("check")),
     (checks::PERCENTAGES, &[OccupancyRoundsUp, OccupancyWrongInWindow, OccupancyCutsProduct]),
     (
         checks::LENGTHS,
@@ -267,6 +331,89 @@ fn cells(words: &[u32]) -> u32 {
 
 fn register(words: &[u32], number: u32) -> u32 {
     words.get(2 + number.min(15) as usize).copied().unwrap_or(0)
+}
+
+/// The bytes number by number, also behind the image. The last one may be cut.
+fn numbers(mut bytes: &[u8]) -> Vec<&[u8]> {
+    let mut list = Vec::new();
+    while !bytes.is_empty() {
+        let first = &bytes[..bytes.len().min(5)];
+        let taken = first.iter().position(|byte| byte & 0x80 == 0).map_or(first.len(), |last| last + 1);
+        list.push(&bytes[..taken]);
+        bytes = &bytes[taken..];
+    }
+    list
+}
+
+/// The place of a number, by how many come before it.
+fn place(before: usize) -> Place {
+    match before {
+        0 => Place::K,
+        1..=REGISTERS => Place::Register,
+        _ => [Place::Left, Place::Right, Place::Value][(before - 1 - REGISTERS) % 3],
+    }
+}
+
+fn is_padded(number: &[u8]) -> bool {
+    number.len() > 1 && number.ends_with(&[0x00])
+}
+
+/// The number without groups of 0 at its end.
+fn shortest(number: &[u8]) -> Vec<u8> {
+    let mut number = number.to_vec();
+    while is_padded(&number) {
+        number.pop();
+        *number.last_mut().expect("a group is left") &= 0x7F;
+    }
+    number
+}
+
+/// What a reader without the fault has to find in the place of a number, to answer for `n` cells as the one with it does.
+fn seen(fault: Misread, numbers: &[&[u8]], before: usize, n: u32) -> Vec<u8> {
+    let number = numbers[before];
+    let padded = is_padded(number);
+    let found = match fault {
+        Misread::Padded => padded,
+        Misread::PaddedAt(at) => padded && place(before) == at,
+        Misread::PaddedLong => padded && number.len() >= 3,
+        Misread::PaddedFifth => padded && number.len() == 5,
+        Misread::PaddedZero => padded && shortest(number) == [0x00],
+        Misread::PaddedNotZero => padded && shortest(number) != [0x00],
+        Misread::Zero => number == [0x00],
+        Misread::RangeFirst(refusal) => {
+            let front = || [numbers[..before].concat(), shortest(number)].concat();
+            padded && PlainRust.check_image(&front(), n) == Err(refusal)
+        }
+        Misread::PaddedFirst => number.len() == 5 && number[4] & 0x7F == 0,
+    };
+    match fault {
+        _ if !found => number.to_vec(),
+        Misread::Zero | Misread::PaddedFirst => vec![0x80, 0x00],
+        _ => shortest(number),
+    }
+}
+
+/// What a function with this fault answers, where `read` is without.
+fn misread(
+    fault: Misread,
+    bytes: &[u8],
+    n: u32,
+    read: impl FnOnce(&[u8]) -> (Result<(), u32>, usize),
+) -> (Result<(), u32>, usize) {
+    let numbers = numbers(bytes);
+    let seen: Vec<Vec<u8>> = (0..numbers.len()).map(|before| seen(fault, &numbers, before, n)).collect();
+    let (answer, rest) = read(&seen.concat());
+    if answer.is_err() {
+        return (answer, bytes.len());
+    }
+    // As many numbers as were read, with their bytes as they are.
+    let mut end = 0;
+    let ends = seen.iter().map(|number| {
+        end += number.len();
+        end
+    });
+    let count = ends.take_while(|&end| end <= rest).count();
+    (answer, numbers[..count].concat().len())
 }
 
 impl Interface for Faulty {
@@ -533,6 +680,9 @@ impl Interface for Faulty {
         if let Err(refusal) = self.refuses("load", words) {
             return (Err(refusal), bytes.len());
         }
+        if let Reads("load", fault) = self.0 {
+            return misread(fault, bytes, cells(words), |bytes| PlainRust.load(words, bytes));
+        }
         let before = words.get(1).copied();
         let (answer, rest) = PlainRust.load(words, &bytes[..self.cut(LoadLengthCut, bytes.len())]);
         match (self.0, answer) {
@@ -545,6 +695,10 @@ impl Interface for Faulty {
                 (answer, rest)
             }
             (LoadChecksLinksBeforeCells, Err(9)) if bytes.len() > 1 && bytes[1] > bytes[0] => (Err(8), rest),
+            (LoadWritesBeforePadded, Err(12)) => {
+                words[0] = cells(words);
+                (answer, rest)
+            }
             (LoadRefusesOneLength, Ok(())) if bytes.len() == 23_456 => (Err(6), bytes.len()),
             (LoadRefusesFullImage, Ok(())) if cells(words) >= 400 && words[1] == 0 => (Err(9), bytes.len()),
             (LoadAcceptsOneCellMore, Err(9)) if PlainRust.check_image(bytes, cells(words) + 1).is_ok() => {
@@ -557,6 +711,7 @@ impl Interface for Faulty {
     fn check_image(&self, bytes: &[u8], n: u32) -> Result<(), u32> {
         match self.0 {
             At("check", size) if n as usize == size => Err(3),
+            Reads("check", fault) => misread(fault, bytes, n, |bytes| (PlainRust.check_image(bytes, n), 0)).0,
             CheckIgnoresLimit if n == 4_001 => PlainRust.check_image(bytes, 4_000),
             CheckLimitOneLess if n == 4_000 => Err(1),
             CheckRefusesOneLength if bytes.len() == 23_456 => Err(6),
@@ -606,14 +761,15 @@ fn the_reference_model_finds_the_faults_that_answers_show() {
 }
 
 /// Faults put into the plain C version as a change of its text, each of which a program in C must find: those of lengths and of
-/// the memory that is touched, which no comparison of slices shows, and some that show the fuzz target at work.
+/// the memory that is touched, which no comparison of slices shows, and some that show the fuzz target at work, also where the
+/// plain C version that it compares with has the same fault.
 #[cfg(all(feature = "archive", c_baseline))]
 mod in_c {
     use crate::common::c::{cc, compile, file, made, output};
     use cellpool_compare::random::seed;
 
     /// What finds the fault, the text, and what stands in its place.
-    const CHANGES: [(&str, &str, &str); 33] = [
+    const CHANGES: [(&str, &str, &str); 45] = [
         // Lengths cut to 32 or 16 bits.
         ("lengths", "cells_of(size_t len)", "cells_of(uint32_t len)"),
         ("lengths", "size_of(const uint32_t *words, size_t len)", "size_of(const uint32_t *words, uint32_t len)"),
@@ -655,6 +811,24 @@ mod in_c {
         ("fuzz", "(height == stack_len) return 0;", "(height == stack_len) return stack_len == 5;"),
         ("fuzz", "byte > 0x0F", "byte > 0x1F"),
         ("fuzz", "link > k ?", "link > k + 1 ?"),
+        // Padded numbers accepted, all or some; no 0 accepted; padded numbers asked about too late, and too early.
+        ("fuzz", "place > 0 && byte == 0 ?", "0 ?"),
+        ("fuzz", "place > 0 && byte == 0 ?", "place == 1 && byte == 0 ?"),
+        ("fuzz", "place > 0 && byte == 0 ?", "place > 0 && place < 4 && byte == 0 ?"),
+        ("fuzz", "place > 0 && byte == 0 ?", "place > 0 && byte == 0 && sum > 0 ?"),
+        ("fuzz", "place > 0 && byte == 0 ?", "byte == 0 ?"),
+        ("fuzz", "answer == CELLPOOL_OK && link > k", "(answer == CELLPOOL_OK || answer == 12) && link > k"),
+        (
+            "fuzz",
+            "if (answer != CELLPOOL_OK) return answer;\n    if (k > n)",
+            "if (answer == 12 && k > n) return 9;\nif (answer != CELLPOOL_OK) return answer;\nif (k > n)",
+        ),
+        ("fuzz", "if (place == 4 &&", "if (place == 4 && (byte & 0x7F) == 0) return 12;\nif (place == 4 &&"),
+        // The same in the plain C version that the fuzz target compares with: what it demands of the library alone finds it.
+        ("fuzz both", "place > 0 && byte == 0 ?", "0 ?"),
+        ("fuzz both", "place > 0 && byte == 0 ?", "place == 1 && byte == 0 ?"),
+        ("fuzz both", "place > 0 && byte == 0 ?", "place > 0 && place < 4 && byte == 0 ?"),
+        ("fuzz both", "place > 0 && byte == 0 ?", "byte == 0 ?"),
     ];
 
     #[test]
@@ -671,15 +845,20 @@ mod in_c {
             assert_eq!(text.matches(old).count(), 1, "{old}");
             let source = made("changed.c");
             std::fs::write(&source, text.replace(old, new)).expect("the source is written");
+            let random_inputs = vec!["200000".into(), seed().to_string()];
             let (objects, arguments) = match program {
-                "fuzz" => (vec![source, plain.clone(), fuzz.clone()], vec!["200000".into(), seed().to_string()]),
+                "fuzz" => (vec![source, plain.clone(), fuzz.clone()], random_inputs),
+                "fuzz both" => {
+                    let both = compile("changed.o", &cc(), &["-std=c99", "-O1", "-c"], std::slice::from_ref(&source));
+                    (vec![source, both, fuzz.clone()], random_inputs)
+                }
                 _ => (vec![source, lent.clone()], vec![program.to_string()]),
             };
             let changed = compile("changed", &cc(), &["-std=c99", "-O0", "-DBASELINE_AS_CELLPOOL"], &objects);
             let arguments: Vec<&str> = arguments.iter().map(String::as_str).collect();
             let status = output(&changed, &arguments).status;
             // The fuzz target stops by a signal, the other program counts.
-            let found = if program == "fuzz" { status.code().is_none() } else { status.code() == Some(1) };
+            let found = if program.starts_with("fuzz") { status.code().is_none() } else { status.code() == Some(1) };
             assert!(found, "change {place} is not found by {program}: {new}");
         }
     }

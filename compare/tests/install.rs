@@ -6,7 +6,7 @@ mod common;
 
 use cellpool_compare::baseline::PlainRust;
 use cellpool_compare::generate;
-use cellpool_compare::model::{parse, Pool};
+use cellpool_compare::model::{groups, parse, Pool};
 use cellpool_compare::random::{rounds, Random};
 use cellpool_compare::{script, MOST_CELLS};
 use common::c::{archive, cc, file, made};
@@ -272,19 +272,31 @@ fn installed_into_an_empty_folder_the_examples_build_and_run() {
     }
     assert!(built >= 2, "no compiler");
     draws(&folder.join("draw.out"), rounds(40));
-    // The longest image: as many cells as there can be, each number in five bytes.
+    // The longest image: as many cells as there can be, K, registers and links of two bytes, values of five.
     let all = MOST_CELLS as u32;
-    let registers = (0..16).map(|_| 1);
-    let numbers = [all].into_iter().chain(registers).chain((1..=all).flat_map(|i| [i, all, i]));
-    let longest: Vec<u8> = numbers
-        .flat_map(|x| [0, 7, 14, 21, 28].map(|place| (x >> place) as u8 & 0x7F | if place < 28 { 0x80 } else { 0 }))
-        .collect();
+    let registers = (0..16).map(|_| 128);
+    let numbers = [all].into_iter().chain(registers).chain((1..=all).flat_map(|i| [all - i / 2, all, u32::MAX - i]));
+    let mut longest: Vec<u8> = numbers.flat_map(groups).collect();
+    assert_eq!(longest.len(), 34 + 9 * MOST_CELLS);
     let output = fed(&folder.join("draw.out"), &longest);
     let (pool, _) = parse(&longest, MOST_CELLS).expect("the model reads it");
     assert_eq!(text(&output.stdout), graph(&pool, all));
     assert!(output.stderr.is_empty() && output.status.success());
-    let output = fed(&folder.join("draw.out"), b"");
-    assert_eq!(text(&output.stderr), "draw: refused with 6: the image is cut off\n");
+    for behind in [1, 100_000] {
+        longest.resize(34 + 9 * MOST_CELLS + behind, 0);
+        let output = fed(&folder.join("draw.out"), &longest);
+        assert_eq!(text(&output.stdout), graph(&pool, all));
+        assert_eq!(text(&output.stderr), "draw: there are bytes behind the image\n");
+        assert!(output.status.success());
+    }
+    let refused: [(&[u8], &str); 2] = [
+        (&[], "draw: refused with 6: the image is cut off\n"),
+        (&[0x85, 0x00], "draw: refused with 12: a number of the image is padded\n"),
+    ];
+    for (bytes, told) in refused {
+        let output = fed(&folder.join("draw.out"), bytes);
+        assert_eq!((text(&output.stderr).as_str(), output.stdout.len(), output.status.code()), (told, 0, Some(1)));
+    }
 }
 
 #[test]

@@ -3,9 +3,9 @@
 use cellpool_compare::cause::{Cause, Link, Name, Place};
 use cellpool_compare::checks::{self, Comparison};
 use cellpool_compare::generate::{self, Shape, SHAPES};
-use cellpool_compare::model::{Model, Pool};
+use cellpool_compare::model::{groups, parse, Model, Pool};
 use cellpool_compare::random::{rounds, seed, Random};
-use cellpool_compare::{Interface, Tally};
+use cellpool_compare::{Interface, Tally, USED};
 use std::cell::RefCell;
 use std::collections::BTreeMap;
 
@@ -90,6 +90,51 @@ fn a_saved_image_loads_as_the_pool_that_saves_the_same_image() {
         assert_eq!(loaded.image(), image);
         assert_eq!(loaded.reached(), (1..=pool.reached().len() as u32).collect());
     }
+}
+
+#[test]
+fn a_number_is_read_in_the_one_form_in_which_it_is_written() {
+    let mut random = random(6);
+    // An image of one cell, up to its value.
+    let front = [[1].as_slice(), &[0; 18]].concat();
+    let value = |written: &[u8]| match parse(&[&front, written].concat(), 1) {
+        Ok((pool, end)) if end == front.len() + written.len() => Some(pool.cell(1).value),
+        _ => None,
+    };
+    let (mut read, mut refused) = (0, 0);
+    for _ in 0..rounds(200_000) {
+        let number = generate::value(&mut random);
+        assert_eq!(value(&groups(number)), Some(number));
+        let mut written: Vec<u8> = (0..random.below(5)).map(|_| random.word() as u8 | 0x80).collect();
+        written.push(random.pick(&[0x00, 0x01, 0x0F, 0x10, 0x7F]));
+        if random.once_in(4) {
+            written.iter_mut().for_each(|byte| *byte &= 0x80);
+        }
+        match value(&written) {
+            Some(number) => {
+                assert_eq!(written, groups(number));
+                read += 1;
+            }
+            None => refused += 1,
+        }
+    }
+    assert!(read > 1_000 && refused > 1_000, "{read} read, {refused} refused");
+}
+
+#[test]
+fn an_image_is_saved_as_it_was_read_exactly_if_its_cells_are_in_the_order_of_the_visits() {
+    let mut random = random(7);
+    let (mut same, mut other) = (0, 0);
+    for _ in 0..rounds(50_000) {
+        let n = random.between(1, 3);
+        let bytes = generate::image(&mut random, n);
+        let Ok((pool, end)) = parse(&bytes, n) else { continue };
+        let k = pool.cells.iter().filter(|cell| cell.state == USED).count() as u32;
+        let in_order = pool.depth_first() == (1..=k).collect::<Vec<u32>>();
+        assert_eq!(pool.image() == bytes[..end], in_order, "{bytes:02X?}");
+        *(if in_order { &mut same } else { &mut other }) += 1;
+    }
+    assert!(same > 1_000 && other > 1_000, "{same} the same, {other} not");
 }
 
 #[test]
@@ -226,7 +271,7 @@ fn answers() -> Vec<(&'static str, Vec<&'static str>, Vec<Cause>)> {
     let held = || [size(), numbers(&[A]), read(&[A]), vec![Nil]].concat();
     let image = || {
         let places = [Place::K, Place::Register, Place::Left, Place::Right, Place::Value];
-        let ends = places.into_iter().flat_map(|place| [Truncated(place), Wide(place), Long(place)]);
+        let ends = places.into_iter().flat_map(|place| [Truncated(place), Wide(place), Long(place), Padded(place)]);
         let links = [Place::Register, Place::Left, Place::Right].map(AboveK);
         ends.chain([MoreThanN]).chain(links).collect::<Vec<_>>()
     };

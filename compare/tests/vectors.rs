@@ -70,26 +70,42 @@ fn numbers_are_written_in_the_fewest_groups() {
 #[test]
 fn numbers_are_read_in_up_to_five_groups() {
     on_all(|pool| {
-        let longer: [(u32, &[u8]); 3] =
-            [(0, &[0x80, 0x80, 0x80, 0x80, 0x00]), (5, &[0x85, 0x00]), (127, &[0xFF, 0x80, 0x00])];
-        for (value, written) in VALUES.iter().chain(&longer) {
+        for (value, written) in VALUES {
             let mut cells = vec![0, 1];
-            cells.extend(*written);
+            cells.extend(written);
             let bytes = image(1, &[1, 0, 1], &cells);
             let mut words = vec![9; 22];
             assert_eq!(pool.load(&mut words, &bytes), (Ok(()), bytes.len()));
-            assert_eq!(words, pool_words(0, &[1, 0, 1], &[[0, 0, 1, *value]]));
+            assert_eq!(words, pool_words(0, &[1, 0, 1], &[[0, 0, 1, value]]));
             assert_eq!(pool.check_image(&bytes, 1), Ok(()));
         }
     });
 }
 
 #[test]
+fn the_single_byte_00_is_the_number_0() {
+    on_all(|pool| {
+        // K and all registers.
+        let mut words = vec![9; 26];
+        assert_eq!(pool.check_image(&[0x00; 17], 2), Ok(()));
+        assert_eq!(pool.load(&mut words, &[0x00; 17]), (Ok(()), 17));
+        assert_eq!(words, pool_words(1, &[], &[[4, 2, 0, 0], [4, 0, 0, 0]]));
+        // All registers, both links and the value.
+        let bytes = image(1, &[0x00; 16], &[0x00, 0x00, 0x00]);
+        let mut words = vec![9; 26];
+        assert_eq!(pool.check_image(&bytes, 2), Ok(()));
+        assert_eq!(pool.load(&mut words, &bytes), (Ok(()), 20));
+        assert_eq!(words, pool_words(2, &[], &[[0, 0, 0, 0], [4, 0, 0, 0]]));
+    });
+}
+
+#[test]
 fn numbers_that_are_refused() {
     on_all(|pool| {
-        let cases: [(&[u8], u32); 9] = [
+        let cases: [(&[u8], u32); 19] = [
             (&[], 6),
             (&[0x80], 6),
+            (&[0x85], 6),
             (&[0x80, 0x80, 0x80, 0x80], 6),
             (&[0xFF, 0xFF, 0xFF, 0xFF], 6),
             (&[0xFF, 0xFF, 0xFF, 0xFF, 0x10], 7),
@@ -97,13 +113,22 @@ fn numbers_that_are_refused() {
             (&[0x80, 0x80, 0x80, 0x80, 0x80], 7),
             (&[0x80, 0x80, 0x80, 0x80, 0x80, 0x00], 7),
             (&[0xFF, 0xFF, 0xFF, 0xFF, 0x8F], 7),
+            // Padded: 0, 1, 5, 127, 128 and 2^28 - 1 in one to four groups more than they need.
+            (&[0x80, 0x00], 12),
+            (&[0x80, 0x80, 0x00], 12),
+            (&[0x80, 0x80, 0x80, 0x00], 12),
+            (&[0x80, 0x80, 0x80, 0x80, 0x00], 12),
+            (&[0x81, 0x00], 12),
+            (&[0x85, 0x00], 12),
+            (&[0xFF, 0x80, 0x00], 12),
+            (&[0x80, 0x81, 0x00], 12),
+            (&[0xFF, 0xFF, 0xFF, 0xFF, 0x00], 12),
         ];
         for (written, refusal) in cases {
-            // As K, as a register, and as a value.
-            let as_register = image(0, &[], &[])[..3].iter().chain(written).copied().collect();
-            let mut value = image(1, &[], &[0, 0]);
-            value.extend(written);
-            for bytes in [written.to_vec(), as_register, value] {
+            // As K, as a register, as a left link, as a right one, and as a value.
+            let fronts = [vec![], vec![0, 0, 0], image(1, &[], &[]), image(1, &[], &[0]), image(1, &[], &[0, 0])];
+            for front in fronts {
+                let bytes = [&front, written].concat();
                 let mut words = vec![9; 22];
                 assert_eq!(pool.load(&mut words, &bytes), (Err(refusal), bytes.len()), "{bytes:02X?}");
                 assert_eq!(words, vec![9; 22]);
@@ -114,9 +139,48 @@ fn numbers_that_are_refused() {
 }
 
 #[test]
+fn an_image_with_a_padded_number_is_refused() {
+    on_all(|pool| {
+        // Two cells: 1 with the links 2 and nil and the value 5, 2 with the links 1 and 2 and the value 0.
+        let good = image(2, &[1, 0, 2], &[2, 0, 5, 1, 2, 0]);
+        let loaded = pool_words(0, &[1, 0, 2], &[[0, 2, 0, 5], [0, 1, 2, 0]]);
+        let mut words = vec![9; 26];
+        assert_eq!(pool.check_image(&good, 2), Ok(()));
+        assert_eq!(pool.load(&mut words, &good), (Ok(()), 23));
+        assert_eq!(words, loaded);
+        // One of its numbers, all else as it was: its place, and the same number padded.
+        let cases: [(usize, &[u8]); 11] = [
+            // K.
+            (0, &[0x82, 0x00]),
+            // Registers: the first ones, and the last.
+            (1, &[0x81, 0x00]),
+            (2, &[0x80, 0x00]),
+            (3, &[0x82, 0x80, 0x80, 0x80, 0x00]),
+            (16, &[0x80, 0x80, 0x00]),
+            // Left, right and value of either cell.
+            (17, &[0x82, 0x00]),
+            (18, &[0x80, 0x00]),
+            (19, &[0x85, 0x00]),
+            (20, &[0x81, 0x80, 0x00]),
+            (21, &[0x82, 0x80, 0x80, 0x00]),
+            (22, &[0x80, 0x80, 0x80, 0x80, 0x00]),
+        ];
+        for (place, written) in cases {
+            for behind in [&[][..], &[0x00], &[0xFF; 6]] {
+                let bytes = [&good[..place], written, &good[place + 1..], behind].concat();
+                let mut words = vec![9; 26];
+                assert_eq!(pool.load(&mut words, &bytes), (Err(12), bytes.len()), "{bytes:02X?}");
+                assert_eq!(words, vec![9; 26]);
+                assert_eq!(pool.check_image(&bytes, 2), Err(12), "{bytes:02X?}");
+            }
+        }
+    });
+}
+
+#[test]
 fn the_first_fault_of_an_image_decides() {
     on_all(|pool| {
-        let cases: [(Vec<u8>, u32, u32); 11] = [
+        let cases: [(Vec<u8>, u32, u32); 27] = [
             // K above N, even if nothing follows.
             (vec![2], 1, 9),
             (vec![0xFF, 0xFF, 0xFF, 0xFF, 0x0F], 4000, 9),
@@ -130,8 +194,27 @@ fn the_first_fault_of_an_image_decides() {
             (image(1, &[], &[0, 2, 0]), 1, 8),
             (image(1, &[], &[0, 2]), 1, 8),
             (image(1, &[], &[0, 0]), 1, 6),
+            // A padded number is not asked whether it is too large: 5 as K for one cell, 2 with K 1 as a register and as a link.
+            (vec![0x05], 1, 9),
+            (vec![0x85, 0x00], 1, 12),
+            (vec![0x85, 0x00], 5, 12),
+            (vec![1, 0, 0x82, 0x00], 1, 12),
+            (image(1, &[], &[0x82, 0x00, 0, 0]), 1, 12),
+            (image(1, &[], &[0, 0x82, 0x00, 0]), 1, 12),
+            // Whether it is below 2^32 is asked before; and it is not padded while bytes of it are missing.
+            (vec![0x80, 0x80, 0x80, 0x80, 0x80], 1, 7),
+            (vec![0x80, 0x80, 0x80, 0x80, 0x10], 1, 7),
+            (vec![0x80, 0x80, 0x80, 0x80, 0x00], 1, 12),
+            (vec![0x80], 1, 6),
+            (vec![1, 0, 0x80, 0x80], 1, 6),
+            // Of two numbers at fault the first one decides.
+            (vec![2, 0x80, 0x00], 1, 9),
+            (vec![1, 2, 0x80, 0x00], 1, 8),
+            (vec![1, 0x80, 0x00, 2], 1, 12),
+            (image(2, &[], &[0, 0, 0x80, 0x80, 0x80, 0x80, 0x10, 0x80, 0x00]), 2, 7),
             // N out of its limits, whatever the bytes.
             (vec![], 0, 1),
+            (vec![0x85, 0x00], 0, 1),
         ];
         for (bytes, n, refusal) in cases {
             assert_eq!(pool.check_image(&bytes, n), Err(refusal), "{bytes:02X?}");
@@ -147,6 +230,8 @@ fn the_first_fault_of_an_image_decides() {
         assert_eq!(pool.check_image(&image(0, &[], &[]), 4001), Err(1));
         // Refused for its length, load hands back the empty part at the end too.
         assert_eq!(pool.load(&mut [0; 21], &image(0, &[], &[])), (Err(1), 17));
+        assert_eq!(pool.load(&mut [0; 21], &[0x85, 0x00]), (Err(1), 2));
+        assert_eq!(pool.check_image(&[0x85, 0x00], 4001), Err(1));
     });
 }
 

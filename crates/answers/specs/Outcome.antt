@@ -27,7 +27,7 @@ given (answered xs) i other = getD xs i other
 given (allocated visits) i other = getD (visits ∷ []) i other
 given (refused k) i other = other
 
--- The number of each refusal (01, "Questions, in order").
+-- The number of each refusal (01, "Questions, in order"; 12: 02, S-1).
 abbrev pub refusalNumber : Refusal → ℕ
 refusalNumber refusal.Size = 1
 refusalNumber refusal.Register = 2
@@ -40,6 +40,7 @@ refusalNumber refusal.LinkRange = 8
 refusalNumber refusal.TooManyCells = 9
 refusalNumber refusal.NoRoom = 10
 refusalNumber refusal.TooLarge = 11
+refusalNumber refusal.Padded = 12
 
 -- Done gives no number; an allocation is told with its visits; the others give one number or two; a refusal its number.
 abbrev pub answerOutcome : Answer → Outcome

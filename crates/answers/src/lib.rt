@@ -26,6 +26,8 @@ pub enum Refusal {
     NoRoom,
     // The pool is too large for the recursive marker.
     TooLarge,
+    // A number of an image is written in more groups than it needs.
+    Padded,
 }
 
 // What an operation answers.
@@ -56,6 +58,7 @@ impl Refusal {
             Refusal::TooManyCells => 9,
             Refusal::NoRoom => 10,
             Refusal::TooLarge => 11,
+            Refusal::Padded => 12,
         }
     }
 }

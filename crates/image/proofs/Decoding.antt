@@ -1,14 +1,13 @@
 -- The bytes of an image are read as the image, whatever stands behind them.
 use Prim.Native.Nat.{ℕ, _+_, _<_, _≤_, _^_}
 use native.Mathlib.Omega.{arith}
-use mathlib.Core.Path.{_≡_, sym, ap, _∙_}
+use mathlib.Core.Path.{_≡_, refl, sym, ap, _∙_}
 use mathlib.Core.List.{List, [], _∷_, _++_, append-assoc, flatMap}
-use lib.ListN.{length, take, drop, length-append, length-drop, take-append-drop}
-use lib.Seq.{length-take-le, drop-append-seam, drop-drop}
+use lib.ListN.{length, drop, length-append}
+use lib.Seq.{drop-append-seam, drop-drop}
 use borrow.Author.Tests.{le-leb}
-use Rattle.leb128.specs.Leb128.{encode}
-use Rattle.leb128.proofs.Encoding.{encode-size}
-use Rattle.leb128.proofs.Theorems.{round-trip}
+use Rattle.leb128.specs.Leb128.{encode, Between}
+use Rattle.leb128.proofs.Theorems.{encoding-read}
 use Rattle.answers.specs.declared.Refusal.{Refusal}
 use Rattle.image.specs.declared.ImageCell.{ImageCell}
 use Rattle.image.specs.Image.{Image, cellBytes, imageBytes, Parsed, parsed, anyNumber, readNumber, atMost, readLink, readCell, readEach, readImage}
@@ -24,11 +23,9 @@ module _ (bytes : List ℕ) where
   number-encoded : (v at : ℕ) (after : List ℕ) → v < 2 ^ 32 → drop at bytes ≡ encode v ++ after
       → readNumber bytes at ≡ parsed v (at + length (encode v))
   number-encoded v at after fits e =
-      let inside : at ≤ length bytes = omega (arith, length-drop at bytes, ap length e, length-append (encode v) after, encode-size v) in
-      let before : length (take at bytes) ≡ at = length-take-le at bytes inside in
-      let whole : take at bytes ++ encode v ++ after ≡ bytes =
-      append-assoc (take at bytes) (encode v) after ∙ (ap (λ (l : List ℕ). take at bytes ++ l) (sym e) ∙ take-append-drop at bytes) in
-      ap anyNumber (rw (whole, before) at (round-trip v (take at bytes) after fits))
+      let rest = behind bytes at (encode v) after e in
+      let here : Between bytes at (at + length (encode v)) (encode v) = record { behind = refl; from = rw rest e } in
+      ap anyNumber (encoding-read bytes at v (at + length (encode v)) fits here)
 
   bounded-encoded : (most : ℕ) (over : Refusal) (v at : ℕ) (after : List ℕ) → v ≤ most → v < 2 ^ 32 → drop at bytes ≡ encode v ++ after
       → atMost most over (readNumber bytes at) ≡ parsed v (at + length (encode v))

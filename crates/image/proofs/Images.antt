@@ -7,10 +7,10 @@ use mathlib.Core.Bool.{Bool, true, false, cond}
 use lib.ListN.{length}
 use lib.Dec.{leb}
 use borrow.Author.Tests.{leb-true, le-leb}
-use Rattle.leb128.specs.Leb128.{Bytes, readAt}
+use Rattle.leb128.specs.Leb128.{encode, Bytes, Between, readAt}
 use Rattle.leb128.specs.declared.Number.{Number}
 use Rattle.leb128.specs.declared.Number.the-variants as number
-use Rattle.leb128.proofs.Theorems.{reads-within}
+use Rattle.leb128.proofs.Theorems.{reads-encodings}
 use Rattle.pool.specs.Layout.{cellLimit, registerCount}
 use Rattle.answers.specs.Outcome.{refusalNumber}
 use Rattle.answers.specs.declared.Refusal.{Refusal}
@@ -18,16 +18,18 @@ use Rattle.image.specs.declared.ImageCell.{ImageCell}
 use Rattle.image.specs.declared.Place.the-variants as place
 use Rattle.image.specs.declared.Scan.{Scan}
 use Rattle.image.specs.declared.Scan.the-variants as scan
-use Rattle.image.specs.Image.{Image, Parsed, parsed, fault, anyNumber, readNumber, atMost, readCount, readLink, readCell, readEach, readImage}
+use Rattle.image.specs.Image.{Image, cellBytes, imageBytes, Parsed, parsed, fault, anyNumber, readNumber, atMost, readCount, readLink, readCell, readEach, readImage}
 use Rattle.image.specs.Check.{verdictOf, checkOf}
+use Rattle.image.specs.OneForm.{ReadsImageBytes, OneImage}
 use Rattle.image.specs.Steps.{placeOf, scanOf}
-use Rattle.image.proofs.Reading.{then-parsed, then-fault, both-parsed, placed, refused, Each, each-length, each-read, each-end}
+use Rattle.image.proofs.Reading.{between-both, between-taken, then-parsed, then-fault, both-parsed, placed, refused, Each, each-length, each-read, each-between}
 
 -- A number that is not refused is there, and one with a bound is within it.
 number-there : (num : Number) (v next : ℕ) → anyNumber num ≡ parsed v next → num ≡ number.Value v next
 number-there (number.Value u after) v next e = cc
 number-there number.Missing v next e = let z : _≡_ {A = ℕ} 0 1 = cc in absurd (omega arith)
 number-there number.OutOfRange v next e = let z : _≡_ {A = ℕ} 0 1 = cc in absurd (omega arith)
+number-there number.Padded v next e = let z : _≡_ {A = ℕ} 0 1 = cc in absurd (omega arith)
 
 record Bounded (most : ℕ) (read : Parsed ℕ) (v next : ℕ) : Type 0 where
   there : read ≡ parsed v next
@@ -71,22 +73,28 @@ module _ (K : ℕ) (bytes : List ℕ) where
   cell-parsed c at right value end l r v =
       then-parsed _ l ∙ (then-parsed _ r ∙ then-parsed (λ x next. parsed (record { left = c .left; right = c .right; value = x }) next) v)
 
-  -- Numbers end within the bytes.
+  -- Each number is its encoding.
   module _ (byte : Bytes bytes) where
-    number-end : (at x next : ℕ) → readNumber bytes at ≡ parsed x next → next ≤ length bytes
-    number-end at x next e = reads-within bytes at x next byte (number-there (readAt bytes at) x next e) .inside
+    number-between : (at x next : ℕ) → readNumber bytes at ≡ parsed x next → Between bytes at next (encode x)
+    number-between at x next e = reads-encodings bytes at x next byte .0 (number-there (readAt bytes at) x next e) .1
 
-    link-end : (at x next : ℕ) → readLink K bytes at ≡ parsed x next → next ≤ length bytes
-    link-end at x next e = number-end at x next (bounded K _ (readNumber bytes at) x next e .there)
+    link-between : (at x next : ℕ) → readLink K bytes at ≡ parsed x next → Between bytes at next (encode x)
+    link-between at x next e = number-between at x next (bounded K _ (readNumber bytes at) x next e .there)
 
-    cell-end : (at : ℕ) (c : ImageCell) (next : ℕ) → readCell K bytes at ≡ parsed c next → next ≤ length bytes
-    cell-end at c next e =
+    cell-between : (at : ℕ) (c : ImageCell) (next : ℕ) → readCell K bytes at ≡ parsed c next → Between bytes at next (cellBytes c)
+    cell-between at c next e =
         let l = both-parsed (readLink K bytes at) _ c next e in
         let r = both-parsed (readLink K bytes (l .next)) _ c next (l .behind) in
         let v = both-parsed (readNumber bytes (r .next)) _ c next (r .behind) in
-        let last = number-end (r .next) (v .item) (v .next) (v .here) in
-        let same : v .next ≡ next = cc (v .behind) in
-        omega arith
+        let read : ImageCell = record { left = l .item; right = r .item; value = v .item } in
+        let last : parsed read (v .next) ≡ parsed c next = v .behind in
+        let same : read ≡ c = cc in
+        let ends : v .next ≡ next = cc in
+        let bytes-read : Between bytes at (v .next) (cellBytes read) =
+        between-both
+        (between-both (link-between at (l .item) (l .next) (l .here)) (link-between (l .next) (r .item) (r .next) (r .here)))
+        (number-between (r .next) (v .item) (v .next) (v .here)) in
+        subst (λ (x : ImageCell). Between bytes at next (cellBytes x)) same (subst (λ (k : ℕ). Between bytes at k (cellBytes read)) ends bytes-read)
 
 -- The links of an image, those of its registers too, are at most the number of its cells.
 pub record LinksWithin (i : Image) : Type 0 where
@@ -146,11 +154,20 @@ module _ (R n : ℕ) (bytes : List ℕ) where
           cells = each-read (readCell K bytes) (cell-linked K bytes) K (r .behind) (i .cells) end (r .cells);
         }
 
-    pub image-end : Bytes bytes → end ≤ length bytes
-    image-end byte =
-        let first = number-end K bytes byte 0 K (r .start) (bounded n _ (readNumber bytes 0) K (r .start) (r .counted) .there) in
-        let second = each-end (readLink K bytes) (length bytes) (link-end K bytes byte) R (r .start) (i .registers) (r .behind) first (r .registers) in
-        each-end (readCell K bytes) (length bytes) (cell-end K bytes byte) K (r .behind) (i .cells) end second (r .cells)
+    image-between : Bytes bytes → Between bytes 0 end (imageBytes i)
+    image-between byte =
+        between-both
+        (between-both (number-between K bytes byte 0 K (r .start) (bounded n _ (readNumber bytes 0) K (r .start) (r .counted) .there))
+        (each-between (readLink K bytes) bytes encode (link-between K bytes byte) R (r .start) (i .registers) (r .behind) (r .registers)))
+        (each-between (readCell K bytes) bytes cellBytes (cell-between K bytes byte) K (r .behind) (i .cells) end (r .cells))
+
+-- The bytes of an image that was read are those of its numbers.
+pub reads-image-bytes : ReadsImageBytes
+reads-image-bytes R n bytes i end byte e = image-between R n bytes i end (image-read R n bytes i end e) byte
+
+pub one-image : OneImage
+one-image R n m bytes other i end end′ byte byte′ e e′ =
+    between-taken (reads-image-bytes R n bytes i end byte e) ∙ sym (between-taken (reads-image-bytes R m other i end′ byte′ e′))
 
 -- What a scan says, by the first thing that is refused.
 module _ (R n : ℕ) (bytes : List ℕ) where

@@ -2,12 +2,31 @@
 use Prim.Native.Nat.{ℕ, zero, suc, _-_, _<_, _≤_}
 use native.Mathlib.Omega.{arith}
 use mathlib.Core.Path.{_≡_, refl, sym, ap, _∙_}
-use mathlib.Core.List.{List, [], _∷_, map}
-use lib.ListN.{length, getD}
+use mathlib.Core.List.{List, [], _∷_, _++_, map, flatMap, append-assoc}
+use lib.ListN.{length, getD, take, drop, length-append}
+use lib.Seq.{take-append-seam}
+use native.Mathlib.Nat.{zero-add}
+use Rattle.leb128.specs.Leb128.{Between}
 use Rattle.answers.specs.declared.Refusal.{Refusal}
 use Rattle.image.specs.declared.Place.the-variants as place
 use Rattle.image.specs.Image.{Parsed, parsed, fault, andThen, readEach}
 use Rattle.image.specs.Steps.{placeOf}
+
+-- Bytes that stand one behind the other; and bytes of a part.
+pub between-both : {bytes : List ℕ} {at next end : ℕ} {first second : List ℕ} → Between bytes at next first → Between bytes next end second
+    → Between bytes at end (first ++ second)
+between-both {first = first} {second = second} a b =
+    record {
+      behind = omega (arith, a .behind, b .behind, length-append first second);
+      from = a .from ∙ (ap (λ l. first ++ l) (b .from) ∙ sym (append-assoc first second _));
+    }
+
+pub between-taken : {bytes : List ℕ} {end : ℕ} {here : List ℕ} → Between bytes 0 end here → take end bytes ≡ here
+between-taken {bytes} {end} {here} h =
+    ap (take end) (h .from) ∙ (ap (λ k. take k (here ++ drop end bytes)) (h .behind ∙ zero-add (length here)) ∙ take-append-seam here (drop end bytes))
+
+pub between-inside : {bytes : List ℕ} {end : ℕ} {here : List ℕ} → Between bytes 0 end here → end ≤ length bytes
+between-inside {bytes} {end} {here} h = omega (arith, h .behind, ap length (h .from), length-append here (drop end bytes))
 
 -- What follows a thing that was read, and one that is refused.
 module _ {A B : Type 0} {p : Parsed A} (rest : A → ℕ → Parsed B) where
@@ -134,10 +153,14 @@ module _ {A : Type 0} (read : ℕ → Parsed A) where
       let f = each-first left at list end e in
       rw (f .whole) (Each.more (h at (f .item) (f .next) (f .here)) (each-read h left (f .next) (f .others) end (f .rest)))
 
-  pub each-end : (most : ℕ) → ((at : ℕ) (x : A) (next : ℕ) → read at ≡ parsed x next → next ≤ most)
-      → (count at : ℕ) (list : List A) (end : ℕ) → at ≤ most → readEach read count at ≡ parsed list end → end ≤ most
-  unfolding readEach
-  each-end most h zero at list end within e = let same : at ≡ end = cc in omega arith
-  each-end most h (suc left) at list end within e =
-      let f = each-first left at list end e in
-      each-end most h left (f .next) (f .others) end (h at (f .item) (f .next) (f .here)) (f .rest)
+  -- Where each thing that is read is its own bytes, so is the list.
+  module _ (bytes : List ℕ) (code : A → List ℕ) (own : (at : ℕ) (x : A) (next : ℕ) → read at ≡ parsed x next → Between bytes at next (code x)) where
+    pub each-between : (count at : ℕ) (list : List A) (end : ℕ) → readEach read count at ≡ parsed list end → Between bytes at end (flatMap code list)
+    unfolding readEach flatMap
+    each-between zero at list end e =
+        let empty : list ≡ [] = cc in
+        let same : at ≡ end = cc in
+        rw (empty, same) (record { behind = omega arith; from = refl })
+    each-between (suc left) at list end e =
+        let f = each-first left at list end e in
+        rw (f .whole) (between-both (own at (f .item) (f .next) (f .here)) (each-between left (f .next) (f .others) end (f .rest)))

@@ -40,3 +40,7 @@ TooManyCellsExample = readImage 2 1 (2 ∷ []) ≡ fault refusal.TooManyCells
 -- A link of K + 1 is refused, though the pool has room for more cells; the fault that comes first decides.
 abbrev pub LinkRangeExample : Type 0
 LinkRangeExample = readImage 2 9 (2 ∷ 3 ∷ 128 ∷ []) ≡ fault refusal.LinkRange
+
+-- A padded number is refused as such, though it is above K too: 12 comes "after 7 and before 9" (02, S-1), and so before 8.
+abbrev pub PaddedExample : Type 0
+PaddedExample = readImage 2 9 (2 ∷ 0x83 ∷ 0x00 ∷ []) ≡ fault refusal.Padded

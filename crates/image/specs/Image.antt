@@ -58,10 +58,12 @@ andThen (parsed x next) rest = rest x next
 andThen (fault why) rest = fault why
 
 -- Any number: "are all its bytes there, the first five at most? No: 6. Is it below 2^32 in five groups? No: 7."
+-- "12 for a padded number, after 7 and before 9" (02, S-1).
 abbrev pub anyNumber : Number → Parsed ℕ
 anyNumber (number.Value v next) = parsed v next
 anyNumber number.Missing = fault refusal.Truncated
 anyNumber number.OutOfRange = fault refusal.OutOfRange
+anyNumber number.Padded = fault refusal.Padded
 
 -- The number at a place of the bytes.
 abbrev pub readNumber : List ℕ → ℕ → Parsed ℕ

@@ -1,4 +1,5 @@
 pub mod Image
+pub mod OneForm
 pub mod Check
 pub mod Steps
 pub mod Example

@@ -42,6 +42,7 @@ pub fn read_number(bytes: &[u8], at: usize) -> Field
         Number::Value { value, next } => Field::Value { value, next },
         Number::Missing => Field::Refused(Refusal::Truncated),
         Number::OutOfRange => Field::Refused(Refusal::OutOfRange),
+        Number::Padded => Field::Refused(Refusal::Padded),
     }
 }
 

@@ -52,14 +52,6 @@ pub encode-more : (v : ℕ) → v < 2 ^ 32 → 128 ≤ v → encode v ≡ (v % 1
 unfolding encode
 encode-more v fits large = groups-more 3 v large ∙ ap (λ r. (v % 128 + 128) ∷ r) (sym (enough 3 (v / 128) (omega arith)))
 
--- What stands above a number's lowest group has at most one group less, also where it is nothing.
-pub at-most-more : (more v : ℕ) → length (groups (suc more) v) ≤ suc (length (groups more (v / 128)))
-at-most-more more v =
-    elim (decLt v 128) [
-      | yes small ↦ omega (arith, one-group (suc more) v small)
-      | no large ↦ omega (arith, one-more more _ v (omega arith) refl)
-    ]
-
 -- There is at least one group, and there are no more than may be.
 groups-size : (more v : ℕ) → (1 ≤ length (groups more v)) × (length (groups more v) ≤ suc more)
 groups-size zero v = omega (arith, one-left v)

@@ -1,81 +1,110 @@
 -- The proofs of the statements in `specs/Leb128`.
 use Prim.Native.Nat.{ℕ, zero, suc, _+_, _-_, _*_, _/_, _%_, _^_, _<_, _≤_}
-use mathlib.Core.Path.{_≡_, ap, _∙_}
-use mathlib.Core.List.{List, [], _∷_, _++_, append-nil, append-assoc}
+use mathlib.Core.Path.{_≡_, refl, ap, sym, _∙_}
+use mathlib.Core.List.{List, [], _∷_, _++_}
 use native.Mathlib.Nat.{pow-suc, one-le-pow}
 use native.Mathlib.Decide.{decLt}
 use native.Mathlib.Omega.{arith}
-use lib.ListN.{length, drop, length-append, length-drop, drop-of-length-le}
-use lib.Seq.{drop-append-seam, getD-drop}
+use lib.ListN.{length, drop}
+use lib.Seq.{getD-drop, drop-drop}
 use Rattle.leb128.specs.declared.Number.the-variants.{Value}
-use Rattle.leb128.specs.Leb128.{mapValue, readGroups, readAt, groups, encode, Bytes, RoundTrip, FewestGroups, PrefixFree, EncodeInjective, OneToFiveBytes, ReadsWithin}
-use Rattle.leb128.proofs.Encoding.{groups-last, groups-more, one-left, one-group, at-most-more, encode-size}
-use Rattle.leb128.proofs.Decoding.{read-fifth, read-last, read-more, Reads, fifth, last, above, number-reads}
+use Rattle.leb128.specs.Leb128.{below, readFurther, readGroups, readAt, groups, encode, Bytes, Between, ReadsEncodings, OneToFiveBytes}
+use Rattle.leb128.proofs.Encoding.{groups-last, groups-more, encode-size}
+use Rattle.leb128.proofs.Decoding.{first-last, first-more, first-none, read-fifth, read-last, read-more, Reads, fifth, last, above, parts, unmapped, number-reads}
 
--- The groups of a number, at any place and before any bytes, are read as that number.
-reads : (more v : ℕ) (after : List ℕ) (at : ℕ) → v < 16 * 128 ^ more
-    → readGroups more (groups more v ++ after) at ≡ Value v (at + length (groups more v))
+-- A number of 128 or more is read by its lowest group and what stands above it.
+joined : (more v : ℕ) (at : ℕ) → below (v % 128 + 128) (Value (v / 128) (at + 1 + length (groups more (v / 128)))) ≡ Value v (at + suc (length (groups more (v / 128))))
+joined more v at =
+    let value : (v % 128 + 128 - 128) + 128 * (v / 128) ≡ v = omega arith in
+    let next : at + 1 + length (groups more (v / 128)) ≡ at + suc (length (groups more (v / 128))) = omega arith in
+    λ j. Value (value j) (next j)
+
+-- The groups of a number, at any place and before any bytes, are read as that number: behind a first group, if it is not 0.
+further : (more v : ℕ) (after : List ℕ) (at : ℕ) → 0 < v → v < 16 * 128 ^ more
+    → readFurther more (groups more v ++ after) at ≡ Value v (at + length (groups more v))
 unfolding groups
-reads zero v after at fits = read-fifth v after at (omega arith)
-reads (suc more) v after at fits =
+further zero v after at some fits = read-fifth v after at some (omega arith)
+further (suc more) v after at some fits =
     elim (decLt v 128) [
-      | yes small ↦ rw (groups-last (suc more) v small) (read-last v after at more small)
+      | yes small ↦ rw (groups-last (suc more) v small) (read-last v after at more some small)
       | no large ↦
-          let above = reads more (v / 128) after (at + 1) (omega (arith, pow-suc 128 more)) in
-          let value : (v % 128 + 128 - 128) + 128 * (v / 128) ≡ v = omega arith in
-          let next : (at + 1) + length (groups more (v / 128)) ≡ at + suc (length (groups more (v / 128))) = omega arith in
           rw (groups-more more v (omega arith))
-          (read-more _ _ at more (omega arith) ∙ ap (mapValue _) above ∙ (λ j. Value (value j) (next j)))
+          (read-more _ _ at more (omega arith)
+          ∙ ap (below (v % 128 + 128)) (further more (v / 128) after (at + 1) (omega arith) (omega (arith, pow-suc 128 more)))
+          ∙ joined more v at)
     ]
 
-pub round-trip : RoundTrip
-unfolding readAt encode
-round-trip v before after fits = rw (append-assoc, drop-append-seam) (reads 4 v after (length before) fits)
+-- And from the first group on.
+pub reads : (v : ℕ) (after : List ℕ) (at : ℕ) → v < 2 ^ 32 → readGroups (encode v ++ after) at ≡ Value v (at + length (encode v))
+unfolding encode
+reads v after at fits =
+    elim (decLt v 128) [
+      | yes small ↦ rw (groups-last 4 v small) (first-last v after at small)
+      | no large ↦
+          rw (groups-more 3 v (omega arith))
+          (first-more _ _ at (omega arith)
+          ∙ ap (below (v % 128 + 128)) (further 3 (v / 128) after (at + 1) (omega arith) (omega arith))
+          ∙ joined 3 v at)
+    ]
 
--- Whatever reads as a number has at least as many bytes as it has groups.
-fewest : {more : ℕ} {bytes : List ℕ} {at v next : ℕ} → Reads more bytes at v next → Bytes bytes → at + length (groups more v) ≤ next
-fewest {v = v} (fifth small ends) byte = omega (arith, one-left v)
-fewest {v = v} (last {more = more} small ends) byte = omega (arith, one-group (suc more) v (omega arith))
-fewest {v = v} (above {more = more} {high = high} large value r) byte =
-    let quotient : high ≡ v / 128 = omega (arith, byte 0) in
-    omega (arith, at-most-more more v, rw quotient at (fewest r (λ i. byte (suc i))))
+-- What was read is those groups: they stand at the front of the bytes.
+record Front (more : ℕ) (bytes : List ℕ) (at v next : ℕ) : Type 0 where
+  range : v < 16 * 128 ^ more
+  behind : next ≡ at + length (groups more v)
+  here : bytes ≡ groups more v ++ drop (length (groups more v)) bytes
 
-pub fewest-groups : FewestGroups
-unfolding readAt encode
-fewest-groups bytes at v next byte e = fewest (number-reads 4 (drop at bytes) at v next e) (λ i. rw getD-drop (byte (at + i)))
+-- A single group.
+single : (more b : ℕ) (bytes : List ℕ) (at : ℕ) → b < 128 → b < 16 * 128 ^ more → Front more (b ∷ bytes) at b (at + 1)
+single more b bytes at small fits =
+    record { range = fits; behind = rw (groups-last more b small) refl; here = rw (groups-last more b small) refl }
 
--- Whatever reads as a number has no more bytes than there are or than may be, and is in range.
-places : {more : ℕ} {bytes : List ℕ} {at v next : ℕ} → Reads more bytes at v next
-    → (at < next) × (next ≤ at + suc more) × (next ≤ at + length bytes)
-places (fifth small ends) = omega arith
-places (last small ends) = omega arith
-places (above large value r) = omega (arith, places r)
-
-in-range : {more : ℕ} {bytes : List ℕ} {at v next : ℕ} → Reads more bytes at v next → Bytes bytes → v < 16 * 128 ^ more
-in-range (fifth small ends) byte = omega arith
-in-range (last {more = more} small ends) byte = omega (arith, pow-suc 128 more, one-le-pow more 128 (omega arith))
-in-range (above {more = more} large value r) byte = omega (arith, pow-suc 128 more, byte 0, in-range r (λ i. byte (suc i)))
-
-pub reads-within : ReadsWithin
-unfolding readAt
-reads-within bytes at v next byte e =
-    let r = number-reads 4 (drop at bytes) at v next e in
+-- One group more below them.
+under : {more b : ℕ} {bytes : List ℕ} {at v next high : ℕ} → 128 ≤ b → b < 256 → v ≡ (b - 128) + 128 * high → 0 < high
+    → Front more bytes (at + 1) high next → Front (suc more) (b ∷ bytes) at v next
+under {more} {b} {bytes} {at} {v} {next} {high} large byte value some f =
+    let low : v % 128 + 128 ≡ b = omega arith in
+    let quotient : v / 128 ≡ high = omega arith in
+    let e : groups (suc more) v ≡ b ∷ groups more high = groups-more more v (omega arith) ∙ λ j. low j ∷ groups more (quotient j) in
     record {
-      most = places r .1;
-      inside = omega (arith, places r, length-drop at bytes);
-      value = in-range r (λ i. rw getD-drop (byte (at + i)));
+      range = omega (arith, f .range, pow-suc 128 more);
+      behind = rw e (omega (arith, f .behind));
+      here = rw e (ap (λ l. b ∷ l) (f .here));
     }
 
-pub prefix-free : PrefixFree
-prefix-free v u more fits fits′ e =
-    let first = round-trip v [] more fits in
-    let second = round-trip u [] [] fits′ in
-    let same : v ≡ u = cc (append-nil (encode u)) in
-    let size = ap (λ x. length (encode x)) same in
-    (same, drop-of-length-le more {i = 0} (omega (arith, ap length e, length-append (encode v) more)))
+exact : {more : ℕ} {bytes : List ℕ} {at v next : ℕ} → Reads more bytes at v next → Bytes bytes → (0 < v) × Front more bytes at v next
+exact (fifth small ends) byte = (omega arith, rw (ends .0, ends .1) (single 0 _ _ _ (omega arith) (omega arith)))
+exact (last {more = more} small ends) byte =
+    (omega arith, rw (ends .0, ends .1) (single (suc more) _ _ _ (small .1) (omega (arith, pow-suc 128 more, one-le-pow more 128 (omega arith)))))
+exact (above large value r) byte =
+    let f = exact r (λ i. byte (suc i)) in (omega (arith, f .0), under large (byte 0) value (f .0) (f .1))
 
-pub one-to-one : EncodeInjective
-one-to-one v u fits fits′ e = prefix-free v u [] fits fits′ (append-nil (encode v) ∙ e) .0
+-- And so from the first group on.
+front : (bytes : List ℕ) (at v next : ℕ) → Bytes bytes → readGroups bytes at ≡ Value v next → Front 4 bytes at v next
+front [] at v next byte e = let z : _≡_ {A = ℕ} 0 1 = cc (first-none at) in absurd (omega arith)
+front (b ∷ bytes) at v next byte e =
+    elim (decLt b 128) [
+      | yes small ↦
+          let ends = parts (sym (first-last b bytes at small) ∙ e) in
+          rw (ends .0, ends .1) (single 4 b bytes at small (omega arith))
+      | no large ↦
+          let high = unmapped _ (readFurther 3 bytes (at + 1)) v next (sym (first-more b bytes at (omega arith)) ∙ e) in
+          let f = exact (number-reads 3 bytes (at + 1) (high .0) next (high .1)) (λ i. byte (suc i)) in
+          under (omega arith) (byte 0) (high .2) (f .0) (f .1)
+    ]
+
+pub encoding-read : (bytes : List ℕ) (at v next : ℕ) → v < 2 ^ 32 → Between bytes at next (encode v) → readAt bytes at ≡ Value v next
+unfolding readAt
+encoding-read bytes at v next fits h = ap (λ l. readGroups l at) (h .from) ∙ reads v (drop next bytes) at fits ∙ ap (Value v) (sym (h .behind))
+
+pub reads-encodings : ReadsEncodings
+unfolding readAt encode
+reads-encodings bytes at v next byte = (
+  λ e.
+      let f = front (drop at bytes) at v next (λ i. rw getD-drop (byte (at + i))) e in
+      let rest = drop-drop (length (groups 4 v)) at bytes ∙ ap (λ k. drop k bytes) (sym (f .behind)) in
+      (f .range, record { behind = f .behind; from = f .here ∙ ap (λ l. groups 4 v ++ l) rest }),
+  λ h. encoding-read bytes at v next (h .0) (h .1),
+)
 
 -- The groups of a number that is not too large are bytes.
 bytes-cons : (b : ℕ) (bytes : List ℕ) → b < 256 → Bytes bytes → Bytes (b ∷ bytes)

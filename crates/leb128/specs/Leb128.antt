@@ -1,12 +1,13 @@
 -- Numbers in groups of seven bits, lowest first (unsigned LEB128 of 32 bits), as document 01 has them in "Images", and what is proved of them.
 use Prim.Native.Nat.{ℕ, zero, suc, _+_, _-_, _*_, _/_, _%_, _^_, _<_, _≤_}
 use mathlib.Core.Path.{_≡_}
+use mathlib.Core.Logic.{_↔_}
 use mathlib.Core.List.{List, [], _∷_, _++_}
 use mathlib.Core.Bool.{true, false, cond}
 use lib.ListN.{length, getD, take, drop}
-use lib.Dec.{ltb, leb}
+use lib.Dec.{eqb, ltb, leb}
 use Rattle.leb128.specs.declared.Number.{Number}
-use Rattle.leb128.specs.declared.Number.the-variants.{Value, Missing, OutOfRange}
+use Rattle.leb128.specs.declared.Number.the-variants.{Value, Missing, OutOfRange, Padded}
 use Rattle.leb128.specs.declared.Written.{Written}
 use Rattle.leb128.specs.declared.Written.the-variants.{Next, NoRoom}
 
@@ -15,22 +16,40 @@ abbrev pub mapValue : (ℕ → ℕ) → Number → Number
 mapValue f (Value value next) = Value (f value) next
 mapValue f Missing = Missing
 mapValue f OutOfRange = OutOfRange
+mapValue f Padded = Padded
 
--- Reads a number off the front of a list whose first byte has the place `at`; up to `more` groups may follow its first one:
+-- A group that ends a number, behind others: "A number whose last group is 0 is from now on accepted only if it is the single byte 00" (02, S-1).
+abbrev pub lastGroup : ℕ → ℕ → Number
+lastGroup b at = cond (eqb b 0) Padded (Value b (at + 1))
+
+-- A group that another follows: its seven bits stand below what is read behind it.
+abbrev pub below : ℕ → Number → Number
+below b = mapValue (λ high. (b - 128) + 128 * high)
+
+-- Reads the groups behind a number's first one off the front of a list whose first byte has the place `at`; up to `more` may follow the next one:
 -- "the byte's top bit (80 hexadecimal) says that another group follows. A reader takes up to five groups, the fifth at most 0F."
-unfoldable pub readGroups : ℕ → List ℕ → ℕ → Number
-readGroups more [] at = Missing
-readGroups zero (b ∷ bytes) at = cond (ltb b 16) (Value b (at + 1)) OutOfRange
-readGroups (suc more) (b ∷ bytes) at =
+unfoldable pub readFurther : ℕ → List ℕ → ℕ → Number
+readFurther more [] at = Missing
+readFurther zero (b ∷ bytes) at = cond (ltb b 16) (lastGroup b at) OutOfRange
+readFurther (suc more) (b ∷ bytes) at =
+    elim (ltb b 128) [
+      | true ↦ lastGroup b at
+      | false ↦ below b (readFurther more bytes (at + 1))
+    ]
+
+-- Reads a number: its first group, and then up to four more.
+unfoldable pub readGroups : List ℕ → ℕ → Number
+readGroups [] at = Missing
+readGroups (b ∷ bytes) at =
     elim (ltb b 128) [
       | true ↦ Value b (at + 1)
-      | false ↦ mapValue (λ high. (b - 128) + 128 * high) (readGroups more bytes (at + 1))
+      | false ↦ below b (readFurther 3 bytes (at + 1))
     ]
 
 -- The number at a place of the bytes: "are all its bytes there, the first five at most? No: 6", which is `Missing`.
--- "Is it below 2^32 in five groups? No: 7", which is `OutOfRange`.
+-- "Is it below 2^32 in five groups? No: 7", which is `OutOfRange`. "12 for a padded number, after 7" (02, S-1), which is `Padded`.
 unfoldable pub readAt : List ℕ → ℕ → Number
-readAt bytes at = readGroups 4 (drop at bytes) at
+readAt bytes at = readGroups (drop at bytes) at
 
 -- The groups of a number, where up to `more` may follow the first; 128, the top bit, on each that another follows.
 -- "The writer uses the fewest groups": what is below 128 is the last.
@@ -56,23 +75,15 @@ writeAt out at v =
 abbrev pub Bytes : List ℕ → Type 0
 Bytes bytes = (i : ℕ) → getD bytes i 0 < 256
 
--- What was written is read again, wherever it stands and whatever stands around it.
-abbrev pub RoundTrip : Type 0
-RoundTrip =
-    (v : ℕ) (before after : List ℕ) → v < 2 ^ 32
-    → readAt (before ++ encode v ++ after) (length before) ≡ Value v (length before + length (encode v))
+-- The bytes from the place `at` up to the place `next` are `here`.
+pub record Between (bytes : List ℕ) (at next : ℕ) (here : List ℕ) : Type 0 where
+  pub behind : next ≡ at + length here
+  pub from : drop at bytes ≡ here ++ drop next bytes
 
--- "The writer uses the fewest groups": no bytes that read as v are fewer than those of its encoding.
-abbrev pub FewestGroups : Type 0
-FewestGroups = (bytes : List ℕ) (at v next : ℕ) → Bytes bytes → readAt bytes at ≡ Value v next → at + length (encode v) ≤ next
-
--- No encoding starts another: if the bytes of v, with more behind them, are those of u, then v is u and there is nothing behind them.
-abbrev pub PrefixFree : Type 0
-PrefixFree = (v u : ℕ) (more : List ℕ) → v < 2 ^ 32 → u < 2 ^ 32 → encode v ++ more ≡ encode u → (v ≡ u) × (more ≡ [])
-
--- Two numbers with one encoding are equal.
-abbrev pub EncodeInjective : Type 0
-EncodeInjective = (v u : ℕ) → v < 2 ^ 32 → u < 2 ^ 32 → encode v ≡ encode u → v ≡ u
+-- What reads as v, up to the place `next`, is exactly the encoding of v, whatever stands around it: each number has one spelling. So what was
+-- written is read again, and no other bytes read as the same number.
+abbrev pub ReadsEncodings : Type 0
+ReadsEncodings = (bytes : List ℕ) (at v next : ℕ) → Bytes bytes → (readAt bytes at ≡ Value v next) ↔ ((v < 2 ^ 32) × Between bytes at next (encode v))
 
 -- An encoding is one to five bytes.
 pub record Encoding (v : ℕ) : Type 0 where
@@ -83,13 +94,3 @@ pub record Encoding (v : ℕ) : Type 0 where
 -- So is every number below 2^32.
 abbrev pub OneToFiveBytes : Type 0
 OneToFiveBytes = (v : ℕ) → v < 2 ^ 32 → Encoding v
-
--- "A reader takes up to five groups": what it reads as a number stands within the bytes, and is "below 2^32".
-pub record ReadInside (bytes : List ℕ) (at v next : ℕ) : Type 0 where
-  pub most : next ≤ at + 5
-  pub inside : next ≤ length bytes
-  pub value : v < 2 ^ 32
-
--- So is every number that is read.
-abbrev pub ReadsWithin : Type 0
-ReadsWithin = (bytes : List ℕ) (at v next : ℕ) → Bytes bytes → readAt bytes at ≡ Value v next → ReadInside bytes at v next

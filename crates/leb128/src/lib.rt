@@ -11,6 +11,8 @@ pub enum Number {
     Missing,
     // The fifth group is above 0F.
     OutOfRange,
+    // The last group is 0, and not the only one.
+    Padded,
 }
 
 // What a writer did.
@@ -28,9 +30,19 @@ const FIFTH: u32 = 268435456;
 pub fn read_number(bytes: &[u8], at: usize) -> Number
     ensures { λ r. ⌜ r ≡ readAt (now (bytes .entry)) at ⌝ }
 {
-    let mut value: u32 = 0;
-    let mut weight: u32 = 1;
-    let mut i = at;
+    if bytes.len() <= at {
+        return Number::Missing;
+    }
+    let first = bytes[at] as u32;
+    if first < 128 {
+        return Number::Value {
+            value: first,
+            next: at + 1,
+        };
+    }
+    let mut value = first - 128;
+    let mut weight: u32 = 128;
+    let mut i = at + 1;
     while weight < FIFTH {
         if bytes.len() <= i {
             return Number::Missing;
@@ -39,6 +51,9 @@ pub fn read_number(bytes: &[u8], at: usize) -> Number
         value += weight * (group % 128);
         i += 1;
         if group < 128 {
+            if group == 0 {
+                return Number::Padded;
+            }
             return Number::Value { value, next: i };
         }
         weight *= 128;
@@ -46,14 +61,16 @@ pub fn read_number(bytes: &[u8], at: usize) -> Number
     if bytes.len() <= i {
         return Number::Missing;
     }
-    let group = bytes[i] as u32;
-    if group < 16 {
-        Number::Value {
-            value: value + FIFTH * group,
-            next: i + 1,
-        }
-    } else {
-        Number::OutOfRange
+    let fifth = bytes[i] as u32;
+    if 16 <= fifth {
+        return Number::OutOfRange;
+    }
+    if fifth == 0 {
+        return Number::Padded;
+    }
+    Number::Value {
+        value: value + FIFTH * fifth,
+        next: i + 1,
     }
 }
 

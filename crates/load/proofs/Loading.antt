@@ -21,7 +21,8 @@ use Rattle.image.specs.declared.Scan.{Scan}
 use Rattle.image.specs.declared.Scan.the-variants as scan
 use Rattle.image.specs.Image.{Image, Parsed, parsed, fault, readCount, readLink, readCell, readEach, readImage}
 use Rattle.image.specs.Steps.{scanOf}
-use Rattle.image.proofs.Images.{image-read, image-few, image-registers, image-end, scanned, scanned-fault}
+use Rattle.image.proofs.Reading.{between-inside}
+use Rattle.image.proofs.Images.{image-read, image-few, image-registers, reads-image-bytes, scanned, scanned-fault}
 use Rattle.load.specs.declared.Loaded.{Loaded}
 use Rattle.load.specs.Load.{putFields, putEach, putImage, loadedWords, loadImage, loadOf}
 use Rattle.load.specs.Steps.{WhereRead, MarkedFirst}
@@ -205,7 +206,7 @@ load-end w bytes byte = go (ltb 0 n) (readImage registerCount n bytes) refl
         → (cond t (loadImage registerCount n read (length bytes) w) (record { verdict = 1; end = length bytes }, w)) .0 .end ≤ length bytes
     go false read e = omega arith
     go true (fault why) e = omega arith
-    go true (parsed i end) e = image-end registerCount n bytes i end (image-read registerCount n bytes i end e) byte
+    go true (parsed i end) e = between-inside (reads-image-bytes registerCount n bytes i end byte e)
 
 -- The part of the bytes from there on.
 pub load-part : (bytes : List ℕ) (end at : ℕ) → end ≡ at → take (length bytes - end) (drop end bytes) ≡ drop at bytes

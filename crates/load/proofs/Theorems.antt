@@ -63,6 +63,7 @@ refusal-positive refusal.LinkRange = omega arith
 refusal-positive refusal.TooManyCells = omega arith
 refusal-positive refusal.NoRoom = omega arith
 refusal-positive refusal.TooLarge = omega arith
+refusal-positive refusal.Padded = omega arith
 
 pub load-is-well-formed : LoadIsWellFormed
 load-is-well-formed w bytes = go (ltb 0 n) refl (readImage registerCount n bytes) refl

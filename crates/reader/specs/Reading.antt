@@ -8,3 +8,4 @@ abbrev pub placeBehind : Number → ℕ → ℕ
 placeBehind (number.Value v next) at = next
 placeBehind number.Missing at = at
 placeBehind number.OutOfRange at = at
+placeBehind number.Padded at = at

@@ -18,6 +18,7 @@ fn place_behind(number: Number, at: usize) -> usize
         Number::Value { value: _, next } => next,
         Number::Missing => at,
         Number::OutOfRange => at,
+        Number::Padded => at,
     }
 }
 

@@ -4,7 +4,7 @@ use native.Mathlib.Omega.{arith}
 use mathlib.Core.Path.{_≡_, refl, sym, ap, _∙_}
 use mathlib.Core.List.{List, [], _++_}
 use mathlib.Core.Bool.{Bool, true, false}
-use lib.ListN.{length, getD, drop}
+use lib.ListN.{length, getD, take, drop}
 use lib.Dec.{leb, ltb}
 use lib.Seq.{drop-append-seam, ext-getD}
 use borrow.Author.Tests.{lt-ltb, le-leb, ltb-true, leb-true}
@@ -21,14 +21,14 @@ use Rattle.questions.proofs.WellFormed.{WellFormed, well-formed-read, well-form
 use Rattle.questions.proofs.PoolGraph.{pool-within}
 use Rattle.reversal.specs.Reached.{reachedCells, reachedCount}
 use Rattle.image.specs.Image.{numberIn, Image, savedCell, savedImage, imageBytes, imageOf, parsed, readImage}
-use Rattle.image.proofs.Reading.{each-at}
+use Rattle.image.proofs.Reading.{between-taken, each-at}
 use Rattle.image.proofs.Images as images
 use Rattle.image.proofs.Decoding.{Encodable, encodable-links, image-encoded}
 use Rattle.load.specs.declared.Loaded.{Loaded}
 use Rattle.load.specs.Load.{loadedWords, loadOf}
 use Rattle.load.proofs.Putting.{noCell}
 use Rattle.load.proofs.LoadedPool.{loaded-register, loaded-cell, loaded-cells, loaded-free, loaded-well-formed}
-use Rattle.save.specs.Save.{saveImage}
+use Rattle.save.specs.Save.{saveImage, saveOf}
 use Rattle.save.specs.RoundTrip.{Words, Renumbered, Restored, SaveThenLoad, LoadThenSave}
 use Rattle.numbering.proofs.Numbering.{place-none, number-at}
 use Rattle.save.proofs.SavedImage.{image-registers, image-cells, image-register, image-cell, image-encodable}
@@ -86,8 +86,13 @@ module _ (R m : ℕ) (i : Image) (few : length (i .cells) ≤ m) (all : length (
       let same : savedImage R pool order ≡ i = λ j. record { registers = same-registers j; cells = same-cells j } in
       ap (λ (l : List ℕ). imageBytes (savedImage R pool l)) visited ∙ ap imageBytes same
 
-pub load-then-save : LoadThenSave
-load-then-save words bytes i end some e visited s out long =
+-- Save of the words loaded from an image that was read.
+saved-loaded : (words bytes : List ℕ) (i : Image) (end : ℕ)
+    → let m = cellCountOfLength registerCount (length words) in
+    let v = loadedWords registerCount m i words in
+    0 < m → readImage registerCount m bytes ≡ parsed i end → reachedCells registerCount m v ≡ tabulate (length (i .cells)) suc
+    → (s out : List ℕ) → 2 * m ≤ length s → saveOf v s out ≡ saveImage (imageBytes i) s out
+saved-loaded words bytes i end some e visited s out long =
     let m = cellCountOfLength registerCount (length words) in
     let sized = length-sized registerCount (length words) some in
     let read = images.image-read registerCount m bytes i end e in
@@ -98,6 +103,20 @@ load-then-save words bytes i end some e visited s out long =
     let whole = well-formed-made registerCount m _ (loaded-well-formed registerCount m i few all words (sized .room) links) in
     rw (cells, lt-ltb 0 m some, le-leb (2 * m) (length s) long, whole)
     (ap (λ (x : List ℕ). saveImage x s out) (saved-again registerCount m i few all links words (sized .room) visited))
+
+pub load-then-save : LoadThenSave
+load-then-save words bytes i end byte some e visited s out long = go (loadOf words bytes) (simp (lt-ltb 0 m some, e)) visited
+  where
+    m : ℕ
+    m = cellCountOfLength registerCount (length words)
+
+    go : (loaded : Loaded × List ℕ) → loaded ≡ (record { verdict = 0; end = end }, loadedWords registerCount m i words)
+        → reachedCells registerCount m (loaded .1) ≡ tabulate (length (i .cells)) suc
+        → saveOf (loaded .1) s out ≡ saveImage (take (loaded .0 .end) bytes) s out
+    go loaded is visited =
+        rw is
+        (saved-loaded words bytes i end some e (rw is at visited) s out long
+        ∙ ap (λ (x : List ℕ). saveImage x s out) (sym (between-taken (images.reads-image-bytes registerCount m bytes i end byte e))))
 
 -- The image of the pool w of n cells, loaded into words of a pool.
 module _ (n : ℕ) (w words : List ℕ) (some : 0 < cellCountOfLength registerCount (length words))
@@ -158,7 +177,7 @@ module _ (n : ℕ) (w words : List ℕ) (some : 0 < cellCountOfLength registerCo
             loaded-free registerCount m image room all words (sized .room) (sized .least) ∙ ap (λ (k : ℕ). freeCells (λ i. leb i k) m 1) number;
         again =
             λ s long.
-            load-then-save words (imageOf registerCount n w ++ []) image _ some (image-read []) visited s out long
+            saved-loaded words (imageOf registerCount n w ++ []) image _ some (image-read []) visited s out long
             ∙ rw (le-leb (length (imageOf registerCount n w)) (length out) fits);
       })
 

@@ -3,7 +3,7 @@ use Prim.Native.Nat.{ℕ, suc, _*_, _<_, _≤_, _^_}
 use mathlib.Core.Path.{_≡_}
 use mathlib.Core.List.{List, [], _∷_}
 use mathlib.Core.Bool.{true}
-use lib.ListN.{length, getD, drop, replicate}
+use lib.ListN.{length, getD, take, drop, replicate}
 use lib.Dec.{leb}
 use Rattle.pool.specs.Words.{tabulate}
 use Rattle.pool.specs.Layout.{registerCount, cellCountOfLength, cellCount, register, left, right, value}
@@ -11,8 +11,9 @@ use Rattle.questions.specs.Validity.{wellFormed}
 use Rattle.pool.specs.Retain.{freeList, freeCells}
 use Rattle.answers.specs.Outcome.{answered}
 use Rattle.reversal.specs.Reached.{reachedCells, reachedCount}
-use Rattle.image.specs.Image.{numberIn, Image, imageBytes, parsed, readImage}
-use Rattle.load.specs.Load.{loadedWords, loadOf}
+use Rattle.leb128.specs.Leb128.{Bytes}
+use Rattle.image.specs.Image.{numberIn, Image, parsed, readImage}
+use Rattle.load.specs.Load.{loadOf}
 use Rattle.save.specs.Save.{saveImage, saveOf}
 
 -- Every element of the list is a 32-bit word.
@@ -59,12 +60,11 @@ SaveThenLoad =
     0 < m → reachedCount registerCount n w ≤ m
     → Restored n w out size bytes m (loaded .0 .verdict) (drop (loaded .0 .end) bytes) (loaded .1)
 
--- Load, then save: of an image whose cells are numbered in the order of the visits, save of the loaded words writes the same numbers.
+-- Load, then save: what was loaded from an image whose cells are numbered in the order of the visits is saved as the very bytes that were read.
 abbrev pub LoadThenSave : Type 0
 LoadThenSave =
-    (words bytes : List ℕ) (i : Image) (end : ℕ)
+    (words bytes : List ℕ) (i : Image) (end : ℕ) → Bytes bytes
     → let m = cellCountOfLength registerCount (length words) in
-    0 < m → readImage registerCount m bytes ≡ parsed i end
-    → let v = loadedWords registerCount m i words in
-    reachedCells registerCount m v ≡ tabulate (length (i .cells)) suc
-    → (s out : List ℕ) → 2 * m ≤ length s → saveOf v s out ≡ saveImage (imageBytes i) s out
+    let loaded = loadOf words bytes in
+    0 < m → readImage registerCount m bytes ≡ parsed i end → reachedCells registerCount m (loaded .1) ≡ tabulate (length (i .cells)) suc
+    → (s out : List ℕ) → 2 * m ≤ length s → saveOf (loaded .1) s out ≡ saveImage (take (loaded .0 .end) bytes) s out

@@ -34,6 +34,7 @@ fn show(number: Number) {
         }
         Number::Missing => print::label(b"no number: the bytes end"),
         Number::OutOfRange => print::label(b"no number: 2^32 or more"),
+        Number::Padded => print::label(b"no number: more groups than it needs"),
     }
     print::line_end();
 }
@@ -48,7 +49,7 @@ fn show_two(two: Two) {
     print::line_end();
 }
 
-// The numbers of the customer's examples, 127, 128, 300 and 4294967295, and then one whose last byte is missing.
+// The numbers of the customer's examples, 127, 128, 300 and 4294967295, then one whose last byte is missing, and 5 written as 85 00, which is refused.
 pub fn read_in_turn() {
     let bytes = b"\x7f\x80\x01\xac\x02\xff\xff\xff\xff\x0f\xff";
     let two = read_two(bytes, 0);
@@ -57,4 +58,6 @@ pub fn read_in_turn() {
     show_two(four);
     let end = read_two(bytes, four.at);
     show_two(end);
+    let padded = read_two(b"\x85\x00", 0);
+    show_two(padded);
 }

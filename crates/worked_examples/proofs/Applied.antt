@@ -3,7 +3,7 @@ use native.Mathlib.Omega.{arith}
 use mathlib.Core.Path.{refl}
 use mathlib.Core.List.{[], _∷_, _++_}
 use lib.ListN.{replicate}
-use Rattle.leb128.proofs.Theorems.{round-trip, fewest-groups, reads-within, prefix-free, one-to-one, one-to-five-bytes}
+use Rattle.leb128.proofs.Theorems.{reads-encodings, one-to-five-bytes}
 use Rattle.graph.specs.Dfs.{marks}
 use Rattle.graph.specs.Marking.{outside}
 use Rattle.graph.proofs.Theorems.{preorder-reached, preorder-distinct, preorder-length, preorder-depth, preorder-agree, marked-reached, marked-count}
@@ -30,6 +30,7 @@ use Rattle.invariant.proofs.Memory.{refused-when-full}
 use Rattle.reference.proofs.Theorems.{equivalence, equivalence-at-limit, never-malformed}
 use Rattle.reference.proofs.RunEquivalence.{run-equivalence}
 use Rattle.load.proofs.Theorems.{check-is-load, load-is-well-formed}
+use Rattle.image.proofs.Images.{reads-image-bytes, one-image}
 use Rattle.save.proofs.RoundTrip.{load-then-save, save-then-load}
 use Rattle.script.specs.declared.Line.the-variants as line
 use Rattle.script.specs.Reader.{newReader}
@@ -37,7 +38,7 @@ use Rattle.script.proofs.Scanning.{parts-read}
 use Rattle.replies.proofs.Decimals.{decimals-read-back, fewest-digits}
 use Rattle.runner.specs.Work.{initial}
 use Rattle.runner.proofs.Whole.{starts-whole, parts-join, last-line-ends}
-use Rattle.worked_examples.specs.Instances.{three, threeCollected, two, graph, roots, Swapped, image, twoCells, words, scratch, output, calls, list, lent, out, padded, lines, progress, largest}
+use Rattle.worked_examples.specs.Instances.{around, three, threeCollected, two, graph, roots, Swapped, image, twoCells, words, scratch, output, calls, list, lent, out, padded, lines, progress, largest}
 use Rattle.worked_examples.proofs.Instances.{pool-instance, reversal-instance, graph-instance, number-instance, image-instance, batch-instance, script-instance}
 
 pub applied : Unit {0}
@@ -80,17 +81,16 @@ applied =
     let t = stack-cases 2 (graph three) (2 ∷ []) .1 2 [] .left (g .left .0) (g .left .1) in
     let t = stack-cases 2 (graph three) (1 ∷ []) .1 2 [] .none (g .none .0) (g .none .1) in
     let t = stack-cases 2 (graph three) (1 ∷ []) .1 3 [] .right (g .right .0) (g .right .1) in
-    let t = round-trip 4294967295 [] [] (k .largest) in
     let t = one-to-five-bytes 4294967295 (k .largest) in
-    let t = prefix-free 4294967295 4294967295 [] (k .largest) (k .largest) (k .same) in
-    let t = one-to-one 4294967295 4294967295 (k .largest) (k .largest) refl in
-    let t = fewest-groups (0x80 ∷ 0x00 ∷ []) 0 0 2 (k .bytes) (k .read) in
-    let t = reads-within (0x80 ∷ 0x00 ∷ []) 0 0 2 (k .bytes) (k .read) in
+    let t = reads-encodings around 1 300 3 (k .bytes) .0 (k .read) in
+    let t = reads-encodings around 1 300 3 (k .bytes) .1 (k .encoded) in
     let t = decimals-read-back 4294967295 (k .largest) in
     let t = check-is-load 2 image words (i .size) in
     let t = load-is-well-formed words image (i .accepted) in
     let t = save-then-load three scratch output 24 (replicate 6 0) (image ++ 9 ∷ 9 ∷ []) words (i .words32) (i .saved) (i .target) (i .fit) in
-    let t = load-then-save words image twoCells 24 (i .target) (i .read) (i .ordered) scratch output (i .room) in
+    let t = load-then-save words image twoCells 24 (i .bytes) (i .target) (i .read) (i .ordered) scratch output (i .room) in
+    let t = reads-image-bytes registerCount _ image twoCells 24 (i .bytes) (i .read) in
+    let t = one-image registerCount _ 3 image (image ++ 9 ∷ 9 ∷ []) twoCells 24 24 (i .bytes) (i .other-bytes) (i .read) (i .other-read) in
     let t = runs-one-after-the-other list calls (freshWords registerCount 3 lent) out (b .program) (b .room) in
     let t = run-equivalence 3 2 lent list out calls (p .some) (p .most) (b .exact) (b .program) (b .room) in
     let t = never-malformed 3 lent calls (p .some) (p .most) (b .exact) (answered (1 ∷ 3 ∷ [])) (b .answer) in

@@ -2,12 +2,12 @@
 use Prim.Native.Nat.{ℕ, zero, suc, _<_, _≤_}
 use native.Mathlib.Omega.{arith}
 use mathlib.Core.Path.{_≡_, refl}
-use mathlib.Core.List.{List, [], _∷_, List·Memᴰ, List·Memᴰ·head, List·Memᴰ·tail, flatMap}
+use mathlib.Core.List.{List, [], _∷_, _++_, List·Memᴰ, List·Memᴰ·head, List·Memᴰ·tail, flatMap}
 use mathlib.Core.Bool.{true}
 use lib.ListN.{length, getD, replicate, getD-replicate, length-replicate}
 use lib.Dec.{ltb}
 use borrow.Author.Tests.{ltb-true}
-use Rattle.leb128.specs.Leb128.{groups, encode, readGroups, readAt}
+use Rattle.leb128.specs.Leb128.{groups, encode, readFurther, readGroups, readAt}
 use Rattle.graph.specs.Graph.{Reach, Within}
 use Rattle.graph.specs.Preorder.{elem, visit, visits, preorder}
 use Rattle.graph.specs.Dfs.{mark, marks, Dfs}
@@ -34,7 +34,7 @@ use Rattle.script.specs.Lines.{all, command}
 use Rattle.script.specs.Reader.{spaceOf, letterOf, digitOf, feedOf, endOf, begunOf}
 use Rattle.replies.specs.Replies.{digits, decimal}
 use Rattle.script.specs.Scripts.{nextLine}
-use Rattle.worked_examples.specs.Instances.{three, threeCollected, two, graph, roots, Swapped, PoolInstance, ReversalInstance, GraphInstance, NumberInstance, ImageInstance, BatchInstance, ScriptInstance}
+use Rattle.worked_examples.specs.Instances.{three, threeCollected, two, graph, roots, Swapped, around, image, PoolInstance, ReversalInstance, GraphInstance, NumberInstance, ImageInstance, BatchInstance, ScriptInstance}
 use Rattle.reversal.specs.Reached.{visitsOf}
 
 -- Every element of a list that is tested whole is below a bound.
@@ -175,12 +175,17 @@ graph-instance =
     }
 
 pub number-instance : NumberInstance
-unfolding all groups encode readGroups readAt
+unfolding all groups encode readFurther readGroups readAt
 number-instance =
-    record { largest = omega arith; same = refl; bytes = below 256 (omega arith) (0x80 ∷ 0x00 ∷ []) refl; read = refl; fewer = omega arith }
+    record {
+      largest = omega arith;
+      bytes = below 256 (omega arith) around refl;
+      read = refl;
+      encoded = (omega arith, record { behind = refl; from = refl });
+    }
 
 pub image-instance : ImageInstance
-unfolding all elem visit visits preorder visitsOf groups encode readGroups readAt tabulate every cellCountOfLength count setCount cellCount register setRegister cell setCell lowestFree retain placeFrom flatMap readEach readImage putEach
+unfolding all elem visit visits preorder visitsOf groups encode readFurther readGroups readAt tabulate every cellCountOfLength count setCount cellCount register setRegister cell setCell lowestFree retain placeFrom flatMap readEach readImage putEach
 image-instance =
     record {
       size = refl;
@@ -194,6 +199,9 @@ image-instance =
       read = refl;
       ordered = refl;
       room = omega arith;
+      bytes = below 256 (omega arith) image refl;
+      other-bytes = below 256 (omega arith) (image ++ 9 ∷ 9 ∷ []) refl;
+      other-read = refl;
     }
 
 pub batch-instance : BatchInstance

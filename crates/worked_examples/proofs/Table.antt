@@ -1,6 +1,6 @@
 -- The table of worked examples holds: each case is computed from the definitions.
 use mathlib.Core.Path.{refl}
-use Rattle.leb128.specs.Leb128.{groups, encode, readGroups, readAt}
+use Rattle.leb128.specs.Leb128.{groups, encode, readFurther, readGroups, readAt}
 use Rattle.graph.specs.Preorder.{elem, visit, visits, preorder}
 use Rattle.pool.specs.Words.{tabulate, every}
 use Rattle.pool.specs.Layout.{cellCountOfLength, count, cellCount, register, cell}
@@ -10,5 +10,5 @@ use Rattle.worked_examples.specs.Table.{All, WorkedExamples}
 use Rattle.reversal.specs.Reached.{visitsOf}
 
 pub worked-examples : WorkedExamples
-unfolding All groups encode readGroups readAt elem visit visits preorder visitsOf tabulate every cellCountOfLength count cellCount register cell readEach readImage run runs
-worked-examples = (refl, (refl, (refl, (refl, (refl, (refl, (refl, (refl, (refl, (refl, tt))))))))))
+unfolding All groups encode readFurther readGroups readAt elem visit visits preorder visitsOf tabulate every cellCountOfLength count cellCount register cell readEach readImage run runs
+worked-examples = (refl, (refl, (refl, (refl, (refl, (refl, (refl, (refl, (refl, (refl, (refl, (refl, (refl, (refl, (refl, (refl, tt))))))))))))))))

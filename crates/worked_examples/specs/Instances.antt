@@ -5,7 +5,7 @@ use mathlib.Core.Path.{_≡_}
 use mathlib.Core.List.{List, [], _∷_, _++_, List·Memᴰ}
 use mathlib.Core.Bool.{true, false}
 use lib.ListN.{length, getD, drop, replicate}
-use Rattle.leb128.specs.Leb128.{encode, readAt, Bytes}
+use Rattle.leb128.specs.Leb128.{encode, readAt, Bytes, Between}
 use Rattle.leb128.specs.declared.Number.the-variants as number
 use Rattle.graph.specs.Graph.{Graph, Reach, Within}
 use Rattle.graph.specs.Dfs.{marks, Dfs, DfsAll}
@@ -29,7 +29,7 @@ use Rattle.batch.specs.Program.{programOf, programOfCalls}
 use Rattle.batch.specs.Run.{runOf, afterAll}
 use Rattle.reference.specs.Equivalence.{poolAnswers}
 use Rattle.image.specs.Image.{Image, parsed, readImage}
-use Rattle.load.specs.Load.{loadedWords, loadOf}
+use Rattle.load.specs.Load.{loadOf}
 use Rattle.save.specs.Save.{saveOf}
 use Rattle.save.specs.RoundTrip.{Words}
 use Rattle.script.specs.declared.Line.the-variants as line
@@ -118,14 +118,16 @@ pub record GraphInstance : Type 0 where
   pub none : (isUnmarked (1 ∷ []) (graph three .left 2) ≡ false) × (isUnmarked (1 ∷ []) (graph three .right 2) ≡ false)
   pub right : (isUnmarked (1 ∷ []) (graph three .left 3) ≡ false) × (isUnmarked (1 ∷ []) (graph three .right 3) ≡ true)
 
--- LEB128: `RoundTrip`, `OneToFiveBytes` and `DecimalsReadBack` (of scripts) of the largest number; `PrefixFree` and `OneToOne`, whose numbers can
--- only be equal; `FewestGroups` and `ReadsWithin` of two bytes that are read as 0, whose encoding has one.
+-- The number 300, with a byte before it and one behind it.
+abbrev pub around : List ℕ
+around = 0x05 ∷ 0xAC ∷ 0x02 ∷ 0x00 ∷ []
+
+-- LEB128: `OneToFiveBytes` and `DecimalsReadBack` (of scripts) of the largest number; `ReadsEncodings`, both ways.
 pub record NumberInstance : Type 0 where
   pub largest : 4294967295 < 2 ^ 32
-  pub same : encode 4294967295 ++ [] ≡ encode 4294967295
-  pub bytes : Bytes (0x80 ∷ 0x00 ∷ [])
-  pub read : readAt (0x80 ∷ 0x00 ∷ []) 0 ≡ number.Value 0 2
-  pub fewer : 0 + length (encode 0) < 2
+  pub bytes : Bytes around
+  pub read : readAt around 1 ≡ number.Value 300 3
+  pub encoded : (300 < 2 ^ 32) × Between around 1 3 (encode 300)
 
 -- The bytes of an image of two cells, what it holds, and words to load it into.
 abbrev pub image : List ℕ
@@ -162,8 +164,12 @@ pub record ImageInstance : Type 0 where
   pub fit : reachedCount registerCount (cellCount registerCount three) three ≤ cellCountOfLength registerCount (length words)
   -- `LoadThenSave`: its cells are numbered in the order of the visits
   pub read : readImage registerCount (cellCountOfLength registerCount (length words)) image ≡ parsed twoCells 24
-  pub ordered : reachedCells registerCount (cellCountOfLength registerCount (length words)) (loadedWords registerCount (cellCountOfLength registerCount (length words)) twoCells words) ≡ tabulate 2 suc
+  pub ordered : reachedCells registerCount (cellCountOfLength registerCount (length words)) (loadOf words image .1) ≡ tabulate 2 suc
   pub room : 2 * cellCountOfLength registerCount (length words) ≤ length scratch
+  -- `ReadsImageBytes`, `OneImage`: it is read with the same numbers from two byte strings, for pools of two sizes
+  pub bytes : Bytes image
+  pub other-bytes : Bytes (image ++ 9 ∷ 9 ∷ [])
+  pub other-read : readImage registerCount 3 (image ++ 9 ∷ 9 ∷ []) ≡ parsed twoCells 24
 
 -- Two calls, five words each, and room for one word more than their answers.
 abbrev pub calls : List Call

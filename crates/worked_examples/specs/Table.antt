@@ -1,4 +1,4 @@
--- The starred cases of document 01 ("Strips flown on paper") as one table, and the sentence that every case of it holds.
+-- The starred cases of document 01 ("Strips flown on paper") and those that 02 names, as one table, and the sentence that every case of it holds.
 use Prim.Native.Nat.{ℕ}
 use mathlib.Core.Path.{_≡_}
 use mathlib.Core.List.{List, [], _∷_, _++_}
@@ -11,11 +11,11 @@ use Rattle.stack_marker.specs.StackCollect.{stackOf}
 use Rattle.stack_marker.specs.StackExample.{leafPool}
 use Rattle.image.specs.Check.{checkOf}
 
--- A case: the bytes of a number; bytes that a pool of one cell refuses as an image; a pool, and what its collection keeps and visits; a pool and a number
+-- A case: the bytes of a number; bytes, and what the check of them as an image for a pool of one cell answers; a pool, and what its collection keeps and visits; a pool and a number
 -- of stack words, and what the collection with them keeps and whether they are enough (1) or not (0); and what percent of n cells is kept.
 pub data Case : Type 0 where
   number : ℕ → List ℕ → Case
-  image-refused : List ℕ → ℕ → Case
+  checked : List ℕ → ℕ → Case
   collection : List ℕ → ℕ → ℕ → Case
   stack : List ℕ → ℕ → ℕ → ℕ → Case
   percent : ℕ → ℕ → ℕ → Case
@@ -23,7 +23,7 @@ pub data Case : Type 0 where
 -- What a case claims, by the definitions that the contracts cite.
 abbrev pub Holds : Case → Type 0
 Holds (number v bytes) = encode v ≡ bytes
-Holds (image-refused bytes k) = checkOf bytes 1 ≡ k
+Holds (checked bytes k) = checkOf bytes 1 ≡ k
 Holds (collection w kept visits) = (collectOf w) .0 ≡ answered (kept ∷ visits ∷ [])
 Holds (stack w size kept enough) = (stackOf w (replicate size 0)) .0 ≡ answered (kept ∷ enough ∷ [])
 Holds (percent kept n p) = occupancyOf kept n ≡ answered (p ∷ [])
@@ -43,7 +43,15 @@ table =
     ∷ number 128 (0x80 ∷ 0x01 ∷ [])
     ∷ number 300 (0xAC ∷ 0x02 ∷ [])
     ∷ number 4294967295 (0xFF ∷ 0xFF ∷ 0xFF ∷ 0xFF ∷ 0x0F ∷ [])
-    ∷ image-refused (0xFF ∷ 0xFF ∷ 0xFF ∷ 0xFF ∷ 0x10 ∷ []) 7
+    ∷ checked (0xFF ∷ 0xFF ∷ 0xFF ∷ 0xFF ∷ 0x10 ∷ []) 7
+    -- 02, S-1: "A number whose last group is 0 is .. accepted only if it is the single byte 00", and 85 00, at the place of K; 12 comes after 6 and 7, and
+    -- before 9
+    ∷ checked (0x85 ∷ 0x00 ∷ []) 12
+    ∷ checked (0x80 ∷ 0x00 ∷ []) 12
+    ∷ checked (0x80 ∷ 0x80 ∷ 0x80 ∷ 0x80 ∷ 0x00 ∷ []) 12
+    ∷ checked (0x80 ∷ 0x80 ∷ 0x80 ∷ 0x80 ∷ 0x80 ∷ []) 7
+    ∷ checked (0x80 ∷ []) 6
+    ∷ checked (replicate 17 0x00) 0
     -- "N = 1, one cell linked to itself: kept 1, visits 3", "All registers nil: 0, 0"
     ∷ collection selfLinked 1 3
     ∷ collection unreached 0 0

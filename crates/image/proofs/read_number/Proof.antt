@@ -17,6 +17,9 @@ enum-told c = search needs
 enum-told-2 : tie.Need-enum-told-2
 enum-told-2 c = search needs
 
+enum-told-3 : tie.Need-enum-told-3
+enum-told-3 c = search needs
+
 returns : tie.Need-returns
 returns c = ap anyNumber (sym (c .before .value .given .1) ∙ c .before .before .before .number-at .ensures)
 
@@ -26,6 +29,9 @@ returns-2 c = ap anyNumber (sym (c .enum-told .given .1) ∙ c .before .before .
 returns-3 : tie.Need-returns-3
 returns-3 c = ap anyNumber (sym (c .enum-told2 .given .1) ∙ c .before .before .number-at .ensures)
 
+returns-4 : tie.Need-returns-4
+returns-4 c = ap anyNumber (sym (c .enum-told3 .given .1) ∙ c .before .before .number-at .ensures)
+
 pub read-number-spec : {M : Type 1} → statement M
 read-number-spec =
     tie.close
@@ -34,6 +40,8 @@ read-number-spec =
     enum-known-value
     enum-told
     enum-told-2
+    enum-told-3
     returns
     returns-2
-    returns-3)
+    returns-3
+    returns-4)
