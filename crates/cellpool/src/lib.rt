@@ -22,22 +22,8 @@ ghost use Rattle.cellpool.specs.Interface.{givingNone, giving, givingTwo
 fn store(answer: Answer, place: &mut u32) -> u32
     ensures { λ q. ⌜ (q, now (place .exit)) ≡ number (answerOutcome answer) (now (place .entry)) ⌝ }
 {
-    match answer {
-        Answer::Done => 0,
-        Answer::Allocated { visits } => {
-            *place = visits;
-            0
-        }
-        Answer::Number(x) => {
-            *place = x;
-            0
-        }
-        Answer::Pair(x, _) => {
-            *place = x;
-            0
-        }
-        Answer::Refused(refusal) => refusal.number(),
-    }
+    let mut second = 0;
+    store_two(answer, place, &mut second)
 }
 
 // The same of an answer that gives two numbers.

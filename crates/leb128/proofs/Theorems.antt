@@ -35,7 +35,7 @@ further (suc more) v after at some fits =
     ]
 
 -- And from the first group on.
-pub reads : (v : ℕ) (after : List ℕ) (at : ℕ) → v < 2 ^ 32 → readGroups (encode v ++ after) at ≡ Value v (at + length (encode v))
+reads : (v : ℕ) (after : List ℕ) (at : ℕ) → v < 2 ^ 32 → readGroups (encode v ++ after) at ≡ Value v (at + length (encode v))
 unfolding encode
 reads v after at fits =
     elim (decLt v 128) [

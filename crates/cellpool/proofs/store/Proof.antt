@@ -1,53 +1,15 @@
--- `cellpool::store` meets its contract: in each arm the answer decides.
+-- `cellpool::store` meets its contract: what is stored of two numbers, without the second.
 use borrow.Author.Needs.{needs}
+use Prim.Native.Nat.{ℕ}
+use mathlib.Core.Path.{ap}
 use Rattle.cellpool.proofs.store.Statement.{statement}
 use Rattle.cellpool.proofs.store.Tie as tie
 
-enum-told : tie.Need-enum-told
-enum-told c = search needs
-
-enum-known-answer : tie.Need-enum-known-answer
-enum-known-answer c = search needs
-
-enum-known-answer-2 : tie.Need-enum-known-answer-2
-enum-known-answer-2 c = search needs
-
-enum-known-answer-3 : tie.Need-enum-known-answer-3
-enum-known-answer-3 c = search needs
-
-enum-known-answer-4 : tie.Need-enum-known-answer-4
-enum-known-answer-4 c = search needs
-
-number-requires : tie.Need-number-requires
-number-requires c κs = search needs
+store-two-requires : tie.Need-store-two-requires
+store-two-requires c κs = search needs
 
 returns : tie.Need-returns
-returns c = simp (c .enum-told .given .1)
-
-returns-2 : tie.Need-returns-2
-returns-2 c = simp (c .before .answer .given .1)
-
-returns-3 : tie.Need-returns-3
-returns-3 c = simp (c .before .answer2 .given .1)
-
-returns-4 : tie.Need-returns-4
-returns-4 c = simp (c .before .answer3 .given .1)
-
-returns-5 : tie.Need-returns-5
-returns-5 c = simp (c .before .before .answer4 .given .1, c .number .ensures)
+returns c = ap (λ (x : ℕ × ℕ × ℕ). (x .0, x .1)) (c .store-two .ensures)
 
 pub store-spec : {M : Type 1} → statement M
-store-spec =
-    tie.close
-    (tie.spec
-    enum-told
-    enum-known-answer
-    enum-known-answer-2
-    enum-known-answer-3
-    enum-known-answer-4
-    number-requires
-    returns
-    returns-2
-    returns-3
-    returns-4
-    returns-5)
+store-spec = tie.close (tie.spec store-two-requires returns)
