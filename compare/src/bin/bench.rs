@@ -46,6 +46,10 @@ fn now() -> Duration {
 /// Cells of the pools, but for the growth with their number.
 const CELLS: usize = 4000;
 
+/// Random graphs that take turns: a processor's branch prediction learns one that comes again and again by heart, or does not,
+/// by how the code happens to lie.
+const RANDOM_GRAPHS: usize = 16;
+
 struct Bench {
     pools: Vec<(&'static str, &'static dyn Interface)>,
     samples: usize,
@@ -112,49 +116,54 @@ impl Bench {
         }
     }
 
-    /// Repeat `run`, which must leave what it needs to run again.
-    fn repeat(&self, mut run: impl FnMut(&dyn Interface)) -> Figures {
+    /// Repeat `run` on one item after the other, each of which it must leave as it needs it to run again.
+    fn repeat<T>(&self, items: &mut [T], mut run: impl FnMut(&dyn Interface, &mut T)) -> Figures {
+        let count = items.len();
         self.measure(|pool, repeats| {
             let start = now();
-            (0..repeats).for_each(|_| run(pool));
+            (0..repeats).for_each(|place| run(pool, &mut items[place % count]));
             now() - start
         })
     }
 
     /// A collection leaves the words of a collected pool as they are.
-    fn collect(&self, words: &mut [u32]) -> Figures {
-        self.repeat(|pool| {
+    fn collect(&self, graphs: &mut [Vec<u32>]) -> Figures {
+        self.repeat(graphs, |pool, words| {
             let answer = pool.collect(black_box(words));
             assert!(answer.is_ok_and(|(kept, visits)| visits == 3 * kept));
         })
     }
 
-    fn stack(&self, words: &mut [u32], length: usize) -> (Figures, u32) {
+    fn stack(&self, graphs: &mut [Vec<u32>], length: usize) -> (Figures, u32) {
         let mut stack = vec![0; length];
         let mut enough = 0;
-        let figures = self.repeat(|pool| {
+        let figures = self.repeat(graphs, |pool, words| {
             enough = pool.collect_stack(black_box(words), &mut stack).expect("the pool is well-formed").1;
         });
         (figures, enough)
     }
 
-    fn save(&self, words: &mut [u32]) -> (Figures, Vec<u8>) {
-        let n = words[0] as usize;
-        let (mut scratch, mut out, mut bytes) = (vec![0; 2 * n], vec![0; 34 + 9 * n], 0);
-        let figures = self.repeat(|pool| {
-            bytes = pool.save(black_box(words), &mut scratch, &mut out).expect("the output is long enough");
+    fn save(&self, graphs: &mut [Vec<u32>]) -> (Figures, Vec<Vec<u8>>) {
+        let n = graphs[0][0] as usize;
+        let (mut scratch, mut out) = (vec![0; 2 * n], vec![0; 34 + 9 * n]);
+        let figures = self.repeat(graphs, |pool, words| {
+            pool.save(black_box(words), &mut scratch, &mut out).expect("the output is long enough");
         });
-        out.truncate(bytes);
-        (figures, out)
+        let image = |words: &mut Vec<u32>| {
+            let bytes = PlainRust.save(words, &mut scratch, &mut out).expect("the output is long enough");
+            out[..bytes].to_vec()
+        };
+        let images = graphs.iter_mut().map(image).collect();
+        (figures, images)
     }
 
-    fn load(&self, n: usize, image: &[u8]) -> Figures {
+    fn load(&self, n: usize, images: &mut [Vec<u8>]) -> Figures {
         let mut words = vec![0; words_for(n)];
-        self.repeat(|pool| assert_eq!(pool.load(&mut words, black_box(image)), (Ok(()), image.len())))
+        self.repeat(images, |pool, image| assert_eq!(pool.load(&mut words, black_box(image)), (Ok(()), image.len())))
     }
 
-    fn check(&self, n: usize, image: &[u8]) -> Figures {
-        self.repeat(|pool| assert_eq!(pool.check_image(black_box(image), n as u32), Ok(())))
+    fn check(&self, n: usize, images: &mut [Vec<u8>]) -> Figures {
+        self.repeat(images, |pool, image| assert_eq!(pool.check_image(black_box(image), n as u32), Ok(())))
     }
 
     /// One of `count` calls that are timed together; `prepare` is not timed.
@@ -180,14 +189,23 @@ impl Bench {
     }
 }
 
+/// Pools that have been collected, to be worked on in turn.
+fn graphs(shape: Shape, n: usize, random: &mut Random) -> Vec<Vec<u32>> {
+    let graph = |_| {
+        let mut words = shape.words(n, random);
+        PlainRust.collect(&mut words).expect("the pool is well-formed");
+        words
+    };
+    (0..if shape == Shape::Random { RANDOM_GRAPHS } else { 1 }).map(graph).collect()
+}
+
 fn collect(bench: &Bench, random: &mut Random) {
     let n = CELLS;
     println!("### Collect by link reversal, {n} cells\n");
     println!("| graph | library, µs |{}", bench.others());
     bench.rule(1, 1);
     for shape in SHAPES {
-        let mut words = shape.words(n, random);
-        let figures = bench.collect(&mut words);
+        let figures = bench.collect(&mut graphs(shape, n, random));
         println!("| {} | {:.1} |{}", shape.name(), figures.library / 1e3, figures.ratios());
     }
 }
@@ -198,10 +216,10 @@ fn stack(bench: &Bench, random: &mut Random) {
     println!("| graph | stack words | enough | library, µs | library's reversal / stack |{}", bench.others());
     bench.rule(3, 2);
     for shape in SHAPES {
-        let words = shape.words(n, random);
-        let reversal = bench.collect(&mut words.clone());
+        let mut graphs = graphs(shape, n, random);
+        let reversal = bench.collect(&mut graphs);
         for length in [n, 16] {
-            let (figures, enough) = bench.stack(&mut words.clone(), length);
+            let (figures, enough) = bench.stack(&mut graphs, length);
             println!(
                 "| {} | {length} | {} | {:.1} | {:.2} |{}",
                 shape.name(),
@@ -243,9 +261,8 @@ fn images(bench: &Bench, random: &mut Random) {
     println!("| graph | function | library, ns a cell |{}", bench.others());
     bench.rule(2, 1);
     for shape in [Shape::Balanced, Shape::LeftChain, Shape::Random] {
-        let mut words = shape.words(n, random);
-        let (save, image) = bench.save(&mut words);
-        let (load, check) = (bench.load(n, &image), bench.check(n, &image));
+        let (save, mut images) = bench.save(&mut graphs(shape, n, random));
+        let (load, check) = (bench.load(n, &mut images), bench.check(n, &mut images));
         for (name, figures) in [("save", save), ("load", load), ("check", check)] {
             println!("| {} | {name} | {:.1} |{}", shape.name(), figures.library / n as f64, figures.ratios());
         }
@@ -260,11 +277,11 @@ fn growth(bench: &Bench, random: &mut Random) {
     for shape in [Shape::Balanced, Shape::LeftChain, Shape::Ladder, Shape::Random] {
         let mut rows = ["collect", "collect with a stack", "save", "load"].map(|name| (name, String::new()));
         for n in sizes {
-            let mut words = shape.words(n, random);
-            let (save, image) = bench.save(&mut words);
-            let load = bench.load(n, &image);
-            let collect = bench.collect(&mut words);
-            let (stack, _) = bench.stack(&mut words, n);
+            let mut graphs = graphs(shape, n, random);
+            let (save, mut images) = bench.save(&mut graphs);
+            let load = bench.load(n, &mut images);
+            let collect = bench.collect(&mut graphs);
+            let (stack, _) = bench.stack(&mut graphs, n);
             for (row, figures) in rows.iter_mut().zip([collect, stack, save, load]) {
                 row.1 += &format!(" {:.1} ({:.2}) |", figures.library / n as f64, figures.ratios[0]);
             }
@@ -381,7 +398,10 @@ fn main() {
         assert!(names.contains(&name.as_str()), "no section `{name}`; the sections are {}", names.join(", "));
     }
     let bench = Bench::new();
-    println!("Median of {} samples; every cell of a graph is reached, except in the random one.", bench.samples);
+    println!(
+        "Median of {} samples; every cell of a graph is reached, except in random ones, of which {RANDOM_GRAPHS} take turns.",
+        bench.samples
+    );
     for (name, section) in SECTIONS {
         if wanted.is_empty() || wanted.iter().any(|other| other == name) {
             println!();
