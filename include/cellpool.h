@@ -77,8 +77,10 @@
  *
  * 2.0.0: cellpool_load and cellpool_check_image refuse padded numbers with 12, which 1.0.0 accepted. What cellpool_save
  * writes has not changed, and is accepted by both.
+ * 3.0.0: cellpool_collect_stack takes no stack word for a cell with two equal links, where 2.0.0 took one: *enough may be
+ * 1 where it was 0. A stack that was enough still is, and the cells kept are the same.
  */
-#define CELLPOOL_VERSION_MAJOR 2
+#define CELLPOOL_VERSION_MAJOR 3
 #define CELLPOOL_VERSION_MINOR 0
 #define CELLPOOL_VERSION_PATCH 0
 #define CELLPOOL_VERSION (10000 * CELLPOOL_VERSION_MAJOR + 100 * CELLPOOL_VERSION_MINOR + CELLPOOL_VERSION_PATCH)
@@ -212,7 +214,9 @@ uint32_t cellpool_collect_tally(uint32_t *words, size_t len, uint32_t *collectio
                                 uint32_t *kept, uint32_t *visits);
 
 /* As cellpool_collect, marking with a stack of stack_len lent words, which end 0. Where they are too few, link
-   reversal does the work. *enough becomes 1 if they were enough, else 0. Refused: 1, 3. */
+   reversal does the work. *enough becomes 1 if they were enough, else 0. A word is held for a cell whose links lead to
+   two different cells, both not marked yet, until it is the turn of the right one; two equal links take no word, and
+   neither does a link beside nil. (N - 1) / 2 words, rounded down, are enough for every pool of N cells. Refused: 1, 3. */
 CELLPOOL_MUST_USE
 uint32_t cellpool_collect_stack(uint32_t *words, size_t len, uint32_t *stack, size_t stack_len, uint32_t *kept,
                                 uint32_t *enough);

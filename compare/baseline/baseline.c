@@ -89,24 +89,23 @@ static int mark_with_stack(uint32_t *words, uint32_t *stack, size_t stack_len) {
         cell(words, node)[STATE] = MARKED;
         for (;;) {
             uint32_t left = cell(words, node)[LEFT], right = cell(words, node)[RIGHT];
-            int go_left = unmarked(words, left), go_right = unmarked(words, right);
-            if (go_left && go_right) {
-                if (height == stack_len) return 0;
-                cell(words, left)[STATE] = MARKED;
-                cell(words, right)[STATE] = MARKED;
-                stack[height++] = right;
+            if (unmarked(words, left)) {
+                /* Two equal unmarked links are one. */
+                if (right != left && unmarked(words, right)) {
+                    if (height == stack_len) return 0;
+                    cell(words, right)[STATE] = MARKED;
+                    stack[height++] = right;
+                }
                 node = left;
-            } else if (go_left) {
-                cell(words, left)[STATE] = MARKED;
-                node = left;
-            } else if (go_right) {
-                cell(words, right)[STATE] = MARKED;
+            } else if (unmarked(words, right)) {
                 node = right;
-            } else if (height == 0) {
-                break;
-            } else {
+            } else if (height > 0) {
                 node = stack[--height];
+                continue;
+            } else {
+                break;
             }
+            cell(words, node)[STATE] = MARKED;
         }
     }
     return 1;

@@ -408,9 +408,10 @@ static void forms_of_collect(Input *input) {
          memcmp(words_of(LIBRARY), collected, bytes) == 0 && other.number[1] == first.number[1])
     DEMAND(AGAIN(TALLY) && other.number[3] == first.number[3]);
     if (cells <= CELLPOOL_MOST_RECURSIVE) DEMAND(AGAIN(RECURSIVE) && other.number[3] == first.number[3]);
-    /* The stack is enough from one length on, which is at most the number of cells kept. */
+    /* The stack is enough from one length on: every entry that is held was pushed with another cell beside it. */
     lend_filled(STACK, kept, sizeof(uint32_t), 0x5A);
     size_t needed = answer == 0 ? stack_needed(start, kept) : 1;
+    DEMAND(answer != 0 || needed == 0 || 2 * needed < kept);
     size_t lengths[] = {needed > 0 ? needed - 1 : 0, needed, needed + 1, input->size % (kept + 1), cells + (size_t)1};
     for (size_t i = 0; i < sizeof lengths / sizeof *lengths; i++) {
         lend_filled(STACK, lengths[i], sizeof(uint32_t), 0x5A);

@@ -66,7 +66,7 @@ static uint8_t *space(size_t bytes, size_t front) {
     return all;
 }
 
-/* A pool of two cells: register 0 holds cell 2, whose links both lead to cell 1. It needs one stack word. Register 1 is nil. */
+/* A pool of two cells: register 0 holds cell 2, whose links both lead to cell 1. It needs no stack word. Register 1 is nil. */
 enum { N = 2, LEN = CELLPOOL_WORDS(N), SCRATCH = CELLPOOL_SCRATCH(N) };
 static uint32_t pool[LEN], scratch[SCRATCH], stack[1], numbers[4];
 static size_t sizes[1];
@@ -86,14 +86,18 @@ static uint32_t *changed(size_t place, uint32_t content) {
     return pool;
 }
 
-/* The largest pool as a chain with equal links: the stack marker pushes cells 2, 3, 4 and so on. */
-static uint32_t chain[CELLPOOL_WORDS(4000)];
+/* The largest pool as a fork, each cell of an odd number with the next as its right and the one behind that as its left: the
+   stack marker pushes cells 2, 4, 6 and so on, 1,999 of them. */
+static uint32_t largest[CELLPOOL_WORDS(4000)];
 
-static void set_up_chain(void) {
-    memset(chain, 0, sizeof chain);
-    chain[0] = 4000;
-    chain[2] = 1;
-    for (uint32_t i = 1; i < 4000; i++) chain[18 + 4 * (i - 1) + 1] = chain[18 + 4 * (i - 1) + 2] = i + 1;
+static void set_up_largest(void) {
+    memset(largest, 0, sizeof largest);
+    largest[0] = 4000;
+    largest[2] = 1;
+    for (uint32_t i = 1; i < 4000; i += 2) {
+        largest[CELLPOOL_WORDS(i - 1) + 1] = i + 2 < 4000 ? i + 2 : 0;
+        largest[CELLPOOL_WORDS(i - 1) + 2] = i + 1;
+    }
 }
 
 /* The image of the small one. */
@@ -109,10 +113,10 @@ static size_t page, room;
 /* The last call touched what is behind the first page of this block. */
 static int behind(void) { return touched >= (uint8_t *)front + page && touched < (uint8_t *)front + room; }
 
-/* That page is full of what the stack marker pushes for the chain. */
+/* That page is full of what the stack marker pushes for the fork. */
 static int pending(void) {
     for (uint32_t i = 0; i < page / sizeof *front; i++)
-        if (front[i] != i + 2) return 0;
+        if (front[i] != 2 * i + 2) return 0;
     return 1;
 }
 
@@ -143,7 +147,10 @@ static void no_elements(void) {
     refused_words(0);
     set_up();
     EXPECT(0, cellpool_collect_stack(pool, LEN, none, 0, numbers, numbers + 1));
-    DEMAND(numbers[0] == N && numbers[1] == 0);
+    DEMAND(numbers[0] == N && numbers[1] == 1);
+    set_up_largest();
+    EXPECT(0, cellpool_collect_stack(largest, CELLPOOL_WORDS(4000), none, 0, numbers, numbers + 1));
+    DEMAND(numbers[0] == 4000 && numbers[1] == 0);
     EXPECT(10, cellpool_save(pool, LEN, none, 0, no_bytes, 0, sizes));
     EXPECT(10, cellpool_save(pool, LEN, scratch, SCRATCH, no_bytes, 0, sizes));
     EXPECT(6, cellpool_load(pool, LEN, no_bytes, 0, sizes));
@@ -193,9 +200,9 @@ static void long_blocks(size_t upper) {
     EXPECT(3, cellpool_save(changed(3, 3), LEN, none, upper + SCRATCH - 1, no_bytes, upper, sizes));
 
     /* Stack: it is long enough. The access behind its first page comes when that is full. */
-    set_up_chain();
+    set_up_largest();
     memset(front, 0x55, page);
-    EXPECT(TOUCHED, cellpool_collect_stack(chain, CELLPOOL_WORDS(4000), front, upper, numbers, numbers + 1));
+    EXPECT(TOUCHED, cellpool_collect_stack(largest, CELLPOOL_WORDS(4000), front, upper, numbers, numbers + 1));
     DEMAND(behind() && pending());
 
     /* All of it is to end 0, where the pool is well-formed; else it is left. */

@@ -9,7 +9,7 @@ use crate::{cell_at, Interface, Tally, CELL, FREE, HEADER, MOST_CELLS, MOST_RECU
 pub struct PlainRust;
 
 /// State of a marked cell.
-const MARKED: u32 = 3;
+pub const MARKED: u32 = 3;
 /// The virtual root: no cell.
 const ROOT: u32 = u32::MAX;
 
@@ -90,7 +90,7 @@ fn unmarked(words: &[u32], link: u32) -> bool {
 }
 
 /// Mark by link reversal from every register; answers the visits.
-pub fn mark_by_reversal(words: &mut [u32]) -> u32 {
+fn mark_by_reversal(words: &mut [u32]) -> u32 {
     let mut visits = 0;
     for register in REGISTER_0..HEADER {
         if !unmarked(words, words[register]) {
@@ -127,33 +127,27 @@ fn mark_with_stack(words: &mut [u32], stack: &mut [u32]) -> bool {
         loop {
             let at = cell_at(node);
             let (l, r) = (words[at + LEFT], words[at + RIGHT]);
-            match (unmarked(words, l), unmarked(words, r)) {
-                (false, false) => {
-                    if height == 0 {
-                        break;
-                    }
-                    height -= 1;
-                    node = stack[height];
-                }
-                (false, true) => {
-                    words[cell_at(r)] = MARKED;
-                    node = r;
-                }
-                (true, false) => {
-                    words[cell_at(l)] = MARKED;
-                    node = l;
-                }
-                (true, true) => {
+            if unmarked(words, l) {
+                // Two equal unmarked links are one.
+                if r != l && unmarked(words, r) {
                     if height == stack.len() {
                         return false;
                     }
-                    words[cell_at(l)] = MARKED;
                     words[cell_at(r)] = MARKED;
                     stack[height] = r;
                     height += 1;
-                    node = l;
                 }
+                node = l;
+            } else if unmarked(words, r) {
+                node = r;
+            } else if height > 0 {
+                height -= 1;
+                node = stack[height];
+                continue;
+            } else {
+                break;
             }
+            words[cell_at(node)] = MARKED;
         }
     }
     true
@@ -174,7 +168,7 @@ fn mark_recursively(words: &mut [u32], link: u32, depth: u32) {
 }
 
 /// Free every unmarked cell and rebuild the ascending chain; answers the kept cells.
-fn sweep(words: &mut [u32], n: u32) -> u32 {
+pub fn sweep(words: &mut [u32], n: u32) -> u32 {
     let (mut kept, mut next) = (0, 0);
     for i in (1..=n).rev() {
         let at = cell_at(i);

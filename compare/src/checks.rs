@@ -161,7 +161,8 @@ fn largest_pool_filled(pool: &dyn Interface, _: &mut Random, _: usize) -> Outcom
     Ok(())
 }
 
-/// Every pool of one or two cells with small numbers, and every well-formed pool of three used cells.
+/// Every pool of one or two cells with small numbers, and every well-formed pool of three used cells, which needs one stack
+/// word at most.
 fn small_pools(pool: &dyn Interface, random: &mut Random, _: usize) -> Outcome {
     let digits = |mut code: usize, bases: &[usize]| -> Vec<u32> {
         let digit = |&base: &usize| {
@@ -217,7 +218,9 @@ fn small_pools(pool: &dyn Interface, random: &mut Random, _: usize) -> Outcome {
         }
         one_call(pool, &mut words.clone(), Call::Collect)?;
         one_call(pool, &mut words.clone(), Call::New { r: 0, a: 1, b: 0, v: 5 })?;
-        stack_collect(pool, &words, code % 3, random)?;
+        for length in 0..3 {
+            stack_collect(pool, &words, length, random)?;
+        }
         save(pool, &words, 6, 26, random)?;
     }
     Ok(())
@@ -250,7 +253,7 @@ fn filled(random: &mut Random, length: usize) -> impl Iterator<Item = u32> {
 
 /// The words that the stack marker needs, or a small number.
 fn stack_needed(words: &[u32], random: &mut Random) -> usize {
-    decoded(words).map_or_else(|| random.below(3), |pool| pool.stack_needed().0)
+    decoded(words).map_or_else(|| random.below(3), |pool| pool.stack_needed())
 }
 
 /// A length with up to 20,000 elements behind those needed, and now and then one that differs by 2^16 from one that is
@@ -317,25 +320,29 @@ fn stack_collect(pool: &dyn Interface, words: &[u32], length: usize, random: &mu
     equal_words(what, &found_stack, &expected_stack)
 }
 
-/// A chain with equal links of every length, collected by reversal, and with one stack word less than it needs, with as many,
-/// with one more, and with any number: so every length of a stack is tried where it is just too short and where it is just
-/// enough. What is expected is known without the model.
+/// Pools of every number of used cells for which the stack marker holds as many entries as it can, with one stack word less
+/// than that, with as many, and with any number: so every length of a stack is tried where it is just too short and where it
+/// is just enough. Chains of equal links of every length, with no stack word. All are collected by reversal too. What is
+/// expected is known without the model.
 fn every_stack_length(pool: &dyn Interface, random: &mut Random, _: usize) -> Outcome {
     for used in 1..=MOST_CELLS {
         let n = if random.once_in(2) { used } else { random.between(used, MOST_CELLS) };
-        let words = generate::equal_chain(random, used, n);
-        let mut found = words.clone();
-        let what = || format!("collect of {used} cells of {n}");
-        equal(what, pool.collect(&mut found), Ok((used as u32, 3 * used as u32)))?;
-        equal_words(what, &found, &words)?;
+        let most = (used - 1) / 2;
         let any = random.below(n + 4);
-        for length in [used.saturating_sub(2), used - 1, used, any] {
-            let (mut found, mut stack) = (words.clone(), filled(random, length).collect::<Vec<u32>>());
-            let what = || format!("stack collect of {used} cells of {n} with {length} words");
-            let answer = pool.collect_stack(&mut found, &mut stack);
-            equal(what, answer, Ok((used as u32, u32::from(length >= used - 1))))?;
+        for (entries, lengths) in [(0, &[0][..]), (most, &[most.saturating_sub(1), most, any])] {
+            let words = generate::fork_and_chain(random, entries, used, n);
+            let mut found = words.clone();
+            let what = || format!("collect of {used} cells of {n}");
+            equal(what, pool.collect(&mut found), Ok((used as u32, 3 * used as u32)))?;
             equal_words(what, &found, &words)?;
-            equal(what, stack.iter().find(|&&word| word != 0), None)?;
+            for &length in lengths {
+                let (mut found, mut stack) = (words.clone(), filled(random, length).collect::<Vec<u32>>());
+                let what = || format!("stack collect of {used} cells of {n}, {entries} entries, with {length} words");
+                let answer = pool.collect_stack(&mut found, &mut stack);
+                equal(what, answer, Ok((used as u32, u32::from(length >= entries))))?;
+                equal_words(what, &found, &words)?;
+                equal(what, stack.iter().find(|&&word| word != 0), None)?;
+            }
         }
     }
     Ok(())
@@ -562,7 +569,7 @@ fn every_function(pool: &dyn Interface, words: &[u32], random: &mut Random) -> O
 
 /// A small pool with a stack, a scratch, an output and bytes of every length up to beyond what the largest pool needs.
 fn every_lent_length(pool: &dyn Interface, random: &mut Random, _: usize) -> Outcome {
-    let words = Shape::EqualChain.words(3, random);
+    let words = Shape::Fork.words(3, random);
     let mut image = image(&words, random);
     let (bytes, longest) = (image.len(), 5 * (1 + REGISTERS + 3 * MOST_CELLS) + 10);
     image.resize(longest, random.word() as u8);

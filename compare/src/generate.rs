@@ -141,10 +141,15 @@ pub fn last_held(random: &mut Random, n: usize) -> Vec<u32> {
     words
 }
 
-/// A chain of `used` cells with equal links in a pool of `n`, whose other cells form the ascending chain: a collection keeps
-/// every word, and the stack marker needs one word less than there are cells in the chain.
-pub fn equal_chain(random: &mut Random, used: usize, n: usize) -> Vec<u32> {
+/// A pool of `n` cells for which the stack marker holds `entries` entries at once: a fork of so many branches, each to a cell
+/// with both links to itself, and where it ends a chain of equal links. They are `used` cells, at least 2 * `entries` + 1. The
+/// others form the ascending chain, so that a collection keeps every word.
+pub fn fork_and_chain(random: &mut Random, entries: usize, used: usize, n: usize) -> Vec<u32> {
     let mut words = Shape::EqualChain.words(used, random);
+    for i in (1..2 * entries as u32).step_by(2) {
+        words[cell_at(i) + 1..][..2].copy_from_slice(&[i + 2, i + 1]);
+        words[cell_at(i + 1) + 1..][..2].copy_from_slice(&[i + 1, i + 1]);
+    }
     words[0] = n as u32;
     words[1] = if used < n { used as u32 + 1 } else { 0 };
     for i in used + 1..=n {

@@ -2,8 +2,8 @@
 //!
 //! The words are decoded into a structure, changed there, and encoded again only where the call is accepted: so a
 //! refusal changes nothing by construction. The marker goes by breadth with a set; visits are three for each kept
-//! cell; the stack marker is Algorithm 2 of source document 003 on a list without limit. A refusal comes from its cause,
-//! and the model answers with either.
+//! cell; the stack marker is Algorithm 2 of source document 003 on a list without limit, where two equal unmarked links
+//! are one. A refusal comes from its cause, and the model answers with either.
 
 use crate::cause::{Cause, Link, Name, Place};
 use crate::{Interface, Tally, CELL, FREE, HEADER, MOST_CELLS, MOST_RECURSIVE, REGISTERS, USED};
@@ -45,6 +45,17 @@ pub fn cells_for(len: usize) -> Result<usize, Cause> {
         return Err(Cause::Form);
     }
     limited(cells / CELL)
+}
+
+/// What the stack marker has before it.
+pub struct InHand<'a> {
+    /// The register that it started from.
+    pub register: usize,
+    pub cell: u32,
+    /// Whether the left and the right link of the cell lead to an unmarked one.
+    pub unmarked: (bool, bool),
+    /// What it holds, the newest entry last.
+    pub entries: &'a [u32],
 }
 
 /// A set of links.
@@ -231,43 +242,41 @@ impl Pool {
         kept.len() as u32
     }
 
-    /// The most entries that Algorithm 2 of source document 003 ever holds, and how many cells it marks.
-    pub fn stack_needed(&self) -> (usize, usize) {
+    /// Algorithm 2 of source document 003, where two equal unmarked links are one. Each cell in hand is shown.
+    pub fn mark_with_stack(&self, mut show: impl FnMut(InHand)) {
         let mut marked = Set::new(self.n());
         marked.insert(0);
-        let mut most = 0;
-        for register in self.registers {
-            if !marked.insert(register) {
+        for (register, link) in self.registers.into_iter().enumerate() {
+            if !marked.insert(link) {
                 continue;
             }
             let mut entries = Vec::new();
-            let mut current = register;
-            loop {
-                let Cell { left, right, .. } = *self.cell(current);
-                match (marked.contains(left), marked.contains(right)) {
-                    (true, true) => match entries.pop() {
-                        Some(next) => current = next,
-                        None => break,
-                    },
-                    (true, false) => {
-                        marked.insert(right);
-                        current = right;
-                    }
-                    (false, true) => {
-                        marked.insert(left);
-                        current = left;
-                    }
-                    (false, false) => {
-                        marked.insert(left);
-                        marked.insert(right);
+            let mut next = Some(link);
+            while let Some(cell) = next {
+                let Cell { left, right, .. } = *self.cell(cell);
+                let unmarked = (!marked.contains(left), !marked.contains(right));
+                show(InHand { register, cell, unmarked, entries: &entries });
+                marked.insert(left);
+                marked.insert(right);
+                next = match unmarked {
+                    (false, false) => entries.pop(),
+                    (false, true) => Some(right),
+                    (true, false) => Some(left),
+                    (true, true) if left == right => Some(left),
+                    (true, true) => {
                         entries.push(right);
-                        most = most.max(entries.len());
-                        current = left;
+                        Some(left)
                     }
-                }
+                };
             }
         }
-        (most, (1..=self.n()).filter(|&i| marked.contains(i)).count())
+    }
+
+    /// The most entries that the stack marker ever holds: those of a push are still there with the next cell in hand.
+    pub fn stack_needed(&self) -> usize {
+        let mut most = 0;
+        self.mark_with_stack(|hand| most = most.max(hand.entries.len()));
+        most
     }
 
     /// The saved image of a well-formed pool.
@@ -512,7 +521,7 @@ impl<R: From<Cause>> Interface<R> for Model {
     fn collect_stack(&self, words: &mut [u32], stack: &mut [u32]) -> Result<(u32, u32), R> {
         let pool = Pool::decode(words)?;
         pool.require_well_formed()?;
-        let (needed, _) = pool.stack_needed();
+        let needed = pool.stack_needed();
         let kept = self.collected(words)?;
         stack.fill(0);
         Ok((kept, u32::from(needed <= stack.len())))

@@ -2,7 +2,7 @@
 
 mod common;
 
-use cellpool_compare::baseline::PlainRust;
+use cellpool_compare::baseline::{sweep, PlainRust, MARKED};
 use cellpool_compare::cause::Place;
 use cellpool_compare::checks::{self, Comparison};
 use cellpool_compare::random::Random;
@@ -31,6 +31,23 @@ enum Misread {
     PaddedFirst,
 }
 
+/// What is wrong in how the stack marker treats two equal links, none of them nil.
+#[derive(Clone, Copy, Debug, PartialEq, Eq)]
+enum Equal {
+    /// They are two where they are unmarked: the right one is pushed.
+    Two,
+    /// Only the answer is that of the marker which pushes the right one.
+    TwoInAnswer,
+    /// They are none where they are unmarked: the cell is not marked.
+    Neither,
+    /// They are gone to, marked or not. The stack is not enough where this does not end.
+    MarkedToo,
+    /// The stack is not enough where it is full, also if the two unmarked links are equal.
+    FullFirst,
+    /// Where they are marked the marking of a register ends, with entries held.
+    MarkedLast,
+}
+
 #[derive(Clone, Copy, Debug, PartialEq, Eq)]
 enum Fault {
     Correct,
@@ -38,6 +55,8 @@ enum Fault {
     At(&'static str, usize),
     /// The function reads numbers so.
     Reads(&'static str, Misread),
+    /// The stack marker treats equal links so.
+    Links(Equal),
     CollectKeepsAll,
     CollectLosesFreeCell,
     CollectLosesCellInWindow,
@@ -142,9 +161,18 @@ const fn other_orders(function: &'static str) -> [Fault; 3] {
     ]
 }
 
+/// A stack marker that is wrong on equal links, which small pools show, and chains of such links.
+const EQUAL_LINKS: [Fault; 5] = [
+    Links(Equal::Two),
+    Links(Equal::TwoInAnswer),
+    Links(Equal::Neither),
+    Links(Equal::MarkedToo),
+    Links(Equal::FullFirst),
+];
+
 /// The faults that each comparison finds. Those of the first one show in the answers to a list of calls, without a look at
 /// the words, and no others do.
-const FOUND_BY: [(Comparison, &[Fault]); 20] = [
+const FOUND_BY: [(Comparison, &[Fault]); 23] = [
     (
         checks::REFERENCE,
         &[
@@ -191,12 +219,16 @@ const FOUND_BY: [(Comparison, &[Fault]); 20] = [
             StackNotCleared,
             StackLeavesFarWord,
             StackFallbackSwapsLinks,
+            Links(Equal::MarkedLast),
             RecursiveChecksLinksFirst,
             RecursiveLimitOneLess,
             RecursiveLimitOneMore,
         ],
     ),
     (checks::STACK_LENGTHS, &[StackEnoughAtOneLength, StackTooShortAtOneLength]),
+    (checks::COLLECTIONS, &EQUAL_LINKS),
+    (checks::SMALL_POOLS, &EQUAL_LINKS),
+    (checks::STACK_LENGTHS, &EQUAL_LINKS),
     (
         checks::LENT_LENGTHS,
         &[SaveRefusesOneScratchLength, SaveRefusesOneOutputLength, LoadRefusesOneLength, CheckRefusesOneLength],
@@ -416,6 +448,55 @@ fn misread(
     (answer, numbers[..count].concat().len())
 }
 
+/// Mark with a stack of so many words, with this fault or none. Answers whether they were enough.
+fn mark_with_stack(fault: Option<Equal>, words: &mut [u32], most: usize) -> bool {
+    let unmarked = |words: &[u32], link: u32| link != 0 && words[cell_at(link)] == USED;
+    let mut steps = 0;
+    for register in 2..HEADER {
+        let mut node = words[register];
+        if !unmarked(words, node) {
+            continue;
+        }
+        words[cell_at(node)] = MARKED;
+        let mut entries = Vec::new();
+        loop {
+            let (left, right) = (words[cell_at(node) + 1], words[cell_at(node) + 2]);
+            let (go_left, go_right) = (unmarked(words, left), unmarked(words, right));
+            let equal = left == right && left != 0;
+            let full_first = fault == Some(Equal::FullFirst) && go_left && go_right && entries.len() == most;
+            steps += 1;
+            if full_first || steps > words.len() {
+                return false;
+            }
+            let (go_left, go_right) = match fault {
+                _ if !equal => (go_left, go_right),
+                Some(Equal::Two | Equal::TwoInAnswer) => (go_left, go_right),
+                Some(Equal::Neither) => (false, false),
+                Some(Equal::MarkedToo) => (true, false),
+                _ => (go_left, false),
+            };
+            if go_left && go_right {
+                if entries.len() == most {
+                    return false;
+                }
+                words[cell_at(right)] = MARKED;
+                entries.push(right);
+            }
+            if go_left || go_right {
+                node = if go_left { left } else { right };
+                words[cell_at(node)] = MARKED;
+            } else if fault == Some(Equal::MarkedLast) && equal {
+                break;
+            } else if let Some(entry) = entries.pop() {
+                node = entry;
+            } else {
+                break;
+            }
+        }
+    }
+    true
+}
+
 impl Interface for Faulty {
     fn fresh(&self, words: &mut [u32]) -> Result<u32, u32> {
         self.refuses("fresh", words)?;
@@ -606,8 +687,21 @@ impl Interface for Faulty {
         let lent = stack.to_vec();
         let shorter = usize::from(self.0 == StackTooShortEarly);
         let length = self.cut(StackLengthCut, lent.len()).saturating_sub(shorter);
+        let mut marked = words.to_vec();
         let (kept, enough) = PlainRust.collect_stack(words, &mut stack[..length])?;
         stack.fill(0);
+        if let Correct | Links(_) = self.0 {
+            let fault = match self.0 {
+                Links(fault) => Some(fault),
+                _ => None,
+            };
+            let enough = mark_with_stack(fault, &mut marked, length);
+            if !enough || fault == Some(Equal::TwoInAnswer) {
+                return Ok((kept, u32::from(enough)));
+            }
+            words.copy_from_slice(&marked);
+            return Ok((sweep(words, cells(words)), 1));
+        }
         match self.0 {
             StackEnoughAtOneLength if length == 1_000 => return Ok((kept, 1)),
             StackTooShortAtOneLength if length == 1_234 => return Ok((kept, 0)),
@@ -769,7 +863,7 @@ mod in_c {
     use cellpool_compare::random::seed;
 
     /// What finds the fault, the text, and what stands in its place.
-    const CHANGES: [(&str, &str, &str); 45] = [
+    const CHANGES: [(&str, &str, &str); 54] = [
         // Lengths cut to 32 or 16 bits.
         ("lengths", "cells_of(size_t len)", "cells_of(uint32_t len)"),
         ("lengths", "size_of(const uint32_t *words, size_t len)", "size_of(const uint32_t *words, uint32_t len)"),
@@ -786,6 +880,9 @@ mod in_c {
         ("lengths", "return n != 0 && words[0] == n", "return words[0] == n"),
         ("lengths", "if (size <= out_len) {", "if (size <= out_len) {\nout[out_len - 1] |= 0;"),
         ("lengths", "*rest = bytes_len;", "*rest = bytes_len;\n(void)*(volatile const uint8_t *)bytes;"),
+        // Of two equal links one pushed, or written where it would be.
+        ("lengths", "right != left && unmarked", "unmarked"),
+        ("lengths", "if (right != left && unmarked", "stack[height] = right;\nif (right != left && unmarked"),
         // Results of refused calls touched.
         ("results", "uint32_t *cells) {", "uint32_t *cells) {\n*cells += 0;"),
         ("results", "uint32_t v, uint32_t *visits) {", "uint32_t v, uint32_t *visits) {\n*visits += 0;"),
@@ -811,6 +908,25 @@ mod in_c {
         ("fuzz", "(height == stack_len) return 0;", "(height == stack_len) return stack_len == 5;"),
         ("fuzz", "byte > 0x0F", "byte > 0x1F"),
         ("fuzz", "link > k ?", "link > k + 1 ?"),
+        // Two equal links: one pushed; not marked; gone to where they are marked, three times in a row at most; looked at after the
+        // stack is found full; the end where they are marked.
+        ("fuzz", "right != left && unmarked", "unmarked"),
+        (
+            "fuzz",
+            "right = cell(words, node)[RIGHT];",
+            "right = cell(words, node)[RIGHT];\nif (left == right) left = right = 0;",
+        ),
+        (
+            "fuzz",
+            "if (unmarked(words, left)) {",
+            "static int again;\nif (unmarked(words, left) || (left == right && left != 0 && ++again % 4 != 0)) {",
+        ),
+        (
+            "fuzz",
+            "if (right != left && unmarked",
+            "if (height == stack_len && unmarked(words, right)) return 0;\nif (right != left && unmarked",
+        ),
+        ("fuzz", "} else if (height > 0) {", "} else if (height > 0 && (left != right || left == 0)) {"),
         // Padded numbers accepted, all or some; no 0 accepted; padded numbers asked about too late, and too early.
         ("fuzz", "place > 0 && byte == 0 ?", "0 ?"),
         ("fuzz", "place > 0 && byte == 0 ?", "place == 1 && byte == 0 ?"),
@@ -829,6 +945,8 @@ mod in_c {
         ("fuzz both", "place > 0 && byte == 0 ?", "place == 1 && byte == 0 ?"),
         ("fuzz both", "place > 0 && byte == 0 ?", "place > 0 && place < 4 && byte == 0 ?"),
         ("fuzz both", "place > 0 && byte == 0 ?", "byte == 0 ?"),
+        ("fuzz both", "right != left && unmarked", "unmarked"),
+        ("fuzz both", "} else if (height > 0) {", "} else if (height > 0 && (left != right || left == 0)) {"),
     ];
 
     #[test]

@@ -3,11 +3,11 @@
 use cellpool_compare::cause::{Cause, Link, Name, Place};
 use cellpool_compare::checks::{self, Comparison};
 use cellpool_compare::generate::{self, Shape, SHAPES};
-use cellpool_compare::model::{groups, parse, Model, Pool};
+use cellpool_compare::model::{groups, parse, Cell, Model, Pool};
 use cellpool_compare::random::{rounds, seed, Random};
 use cellpool_compare::{Interface, Tally, USED};
 use std::cell::RefCell;
-use std::collections::BTreeMap;
+use std::collections::{BTreeMap, BTreeSet};
 
 fn random(stream: u64) -> Random {
     Random::new(seed().wrapping_mul(1_000).wrapping_add(100 + stream))
@@ -36,9 +36,12 @@ fn three_markers_of_the_model_agree() {
         let reached = pool.reached();
         assert_eq!(reached, pool.reached_recursively());
         assert_eq!(reached, pool.depth_first().into_iter().collect());
-        let (needed, marked) = pool.stack_needed();
-        assert_eq!(marked, reached.len());
-        assert!(needed <= reached.len().saturating_sub(1), "at most one word less than the cells reached");
+        let mut in_hand = Vec::new();
+        pool.mark_with_stack(|hand| in_hand.push(hand.cell));
+        in_hand.sort_unstable();
+        assert!(in_hand.iter().eq(&reached), "each cell that is reached is in hand once");
+        // A push marks two cells, and the first cell was marked before.
+        assert!(pool.stack_needed() <= reached.len().saturating_sub(1) / 2);
     }
 }
 
@@ -60,22 +63,39 @@ fn the_depth_first_order_is_that_of_the_recursive_procedure() {
     }
 }
 
+/// The pool with equal links told apart: the right one leads to a leaf of its own. The stack marker needs as many words for it as
+/// it did for the pool when two equal unmarked links were both unmarked, and one of them was pushed.
+fn told_apart(pool: &Pool) -> Pool {
+    let mut pool = pool.clone();
+    for place in 0..pool.cells.len() {
+        let Cell { state, left, right, .. } = pool.cells[place];
+        if state == USED && left == right && left != 0 {
+            pool.cells.push(Cell { state: USED, left: 0, right: 0, value: 0 });
+            pool.cells[place].right = pool.n();
+        }
+    }
+    pool
+}
+
 #[test]
 fn stack_words_of_the_known_shapes() {
     let mut random = random(3);
-    for (shape, n, needed) in [
-        (Shape::LeftChain, 3_000, 0),
-        (Shape::RightChain, 3_000, 1),
-        (Shape::PseudoChain, 3_000, 999),
-        (Shape::Fork, 3_000, 1_499),
-        (Shape::Ladder, 3_000, 1_499),
-        (Shape::EqualChain, 3_000, 2_999),
-        (Shape::Balanced, 2_047, 10),
-        (Shape::Balanced, 4_095 - 2_048, 10),
+    // What is needed, and what was when two equal unmarked links were two.
+    for (shape, n, needed, before) in [
+        (Shape::LeftChain, 3_000, 0, 0),
+        (Shape::RightChain, 2, 0, 1),
+        (Shape::RightChain, 3_000, 1, 1),
+        (Shape::PseudoChain, 3_000, 999, 999),
+        (Shape::Fork, 3_000, 1_499, 1_499),
+        (Shape::Ladder, 3_000, 1_499, 1_499),
+        (Shape::EqualChain, 1, 0, 0),
+        (Shape::EqualChain, 2, 0, 1),
+        (Shape::EqualChain, 3_000, 0, 2_999),
+        (Shape::Balanced, 2_047, 10, 10),
     ] {
         let words = shape.words(n, &mut random);
         let pool = Pool::decode(&words).expect("the size is right");
-        assert_eq!(pool.stack_needed(), (needed, n), "{}", shape.name());
+        assert_eq!((pool.stack_needed(), told_apart(&pool).stack_needed()), (needed, before), "{}", shape.name());
     }
 }
 
@@ -162,6 +182,44 @@ impl Counting {
     }
 }
 
+/// The links that the stack marker meets, up to where so many words are too few, and whether they are enough only since two
+/// equal unmarked links are one.
+fn met(pool: &Pool, words: usize) -> BTreeSet<&'static str> {
+    let mut met = BTreeSet::new();
+    let mut too_few = false;
+    // The register from which a cell came in hand.
+    let mut from = vec![None; pool.cells.len() + 1];
+    pool.mark_with_stack(|hand| {
+        too_few |= hand.entries.len() > words;
+        if too_few {
+            return;
+        }
+        from[hand.cell as usize] = Some(hand.register);
+        let Cell { left, right, .. } = *pool.cell(hand.cell);
+        met.insert(match hand.unmarked {
+            (true, true) if left != right => "two unmarked links",
+            (true, true) if hand.entries.len() < words => "equal unmarked links, words left",
+            (true, true) if words > 0 => "equal unmarked links, no word left",
+            (true, true) => "equal unmarked links, no word lent",
+            (true, false) | (false, true) if left != 0 && right != 0 => "an unmarked link and a marked one",
+            (false, false) if left == right && !hand.entries.is_empty() => match from[left as usize] {
+                _ if left == 0 => "entries held, both links nil",
+                _ if left == hand.cell => "entries held, equal links to the cell itself",
+                None => "entries held, equal links to one of them",
+                Some(register) if register < hand.register => {
+                    "entries held, equal links to a cell of an earlier register"
+                }
+                Some(_) => "entries held, equal links to another marked cell",
+            },
+            _ => return,
+        });
+    });
+    if !too_few && told_apart(pool).stack_needed() > words {
+        met.insert("enough since equal links are one");
+    }
+    met
+}
+
 fn done<T>(_: &T) -> &'static str {
     "done"
 }
@@ -224,6 +282,11 @@ impl Interface for Counting {
         self.count("tally", answer, kind)
     }
     fn collect_stack(&self, words: &mut [u32], stack: &mut [u32]) -> Result<(u32, u32), u32> {
+        if let Some(pool) = Pool::decode(words).ok().filter(Pool::well_formed) {
+            for kind in met(&pool, stack.len()) {
+                *self.0.borrow_mut().entry(("stack marker", Ok(kind))).or_default() += 1;
+            }
+        }
         let answer = Model.collect_stack(words, stack);
         let kind = |&(kept, enough): &(u32, u32)| match enough {
             0 => "too short",
@@ -251,7 +314,8 @@ impl Interface for Counting {
     }
 }
 
-/// The kinds of accepted answers of every function, and the causes of its refusals by the document's questions.
+/// The kinds of accepted answers of every function, and the causes of its refusals by the document's questions; also what the
+/// stack marker meets.
 fn answers() -> Vec<(&'static str, Vec<&'static str>, Vec<Cause>)> {
     use Cause::*;
     use Name::*;
@@ -305,6 +369,23 @@ fn answers() -> Vec<(&'static str, Vec<&'static str>, Vec<Cause>)> {
         ("collect", vec!["done"], collect()),
         ("tally", vec!["done", "collections stop", "visits stop", "both stop"], collect()),
         ("stack", vec!["done", "enough for many cells", "too short"], collect()),
+        (
+            "stack marker",
+            vec![
+                "two unmarked links",
+                "equal unmarked links, words left",
+                "equal unmarked links, no word left",
+                "equal unmarked links, no word lent",
+                "an unmarked link and a marked one",
+                "entries held, both links nil",
+                "entries held, equal links to the cell itself",
+                "entries held, equal links to one of them",
+                "entries held, equal links to a cell of an earlier register",
+                "entries held, equal links to another marked cell",
+                "enough since equal links are one",
+            ],
+            vec![],
+        ),
         ("recursive", vec!["done"], [collect(), vec![TooLarge]].concat()),
         ("save", vec!["done"], [collect(), vec![Scratch, Output]].concat()),
         ("load", vec!["done", "bytes behind"], [length(), image()].concat()),

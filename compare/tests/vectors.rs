@@ -337,32 +337,71 @@ fn a_cell_linked_to_itself_and_nil_registers() {
     });
 }
 
+/// A stack collection that changes no word of the pool, with stacks of these lengths: it keeps so many cells, and the stack is
+/// enough from so many words on.
+fn stack_collections(pool: &dyn Interface, words: &[u32], kept: u32, needed: usize, lengths: &[usize]) {
+    for &length in lengths {
+        let (mut lent, mut stack) = (words.to_vec(), vec![7; length]);
+        let answer = pool.collect_stack(&mut lent, &mut stack);
+        assert_eq!(answer, Ok((kept, u32::from(length >= needed))), "{kept} cells, {length} words");
+        assert_eq!(lent, words);
+        assert_eq!(stack, vec![0; length]);
+    }
+}
+
 #[test]
-fn both_links_to_one_leaf_need_one_stack_word() {
+fn both_links_to_one_leaf_need_no_stack_word() {
     on_all(|pool| {
         let words = pool_words(0, &[0, 2], &[[0, 0, 0, 5], [0, 1, 1, 6]]);
-        for length in 0..3 {
-            let (mut lent, mut stack) = (words.clone(), vec![7; length]);
-            assert_eq!(pool.collect_stack(&mut lent, &mut stack), Ok((2, u32::from(length >= 1))));
-            assert_eq!(lent, words);
-            assert_eq!(stack, vec![0; length]);
+        stack_collections(pool, &words, 2, 0, &[0, 1, 2]);
+    });
+}
+
+#[test]
+fn links_to_two_leaves_need_one_stack_word() {
+    on_all(|pool| {
+        let words = pool_words(0, &[0, 3], &[[0, 0, 0, 4], [0, 0, 0, 5], [0, 1, 2, 6]]);
+        stack_collections(pool, &words, 3, 1, &[0, 1, 2]);
+        // One of the leaves is marked by an earlier register: then none.
+        let words = pool_words(0, &[2, 3], &[[0, 0, 0, 4], [0, 0, 0, 5], [0, 1, 2, 6]]);
+        stack_collections(pool, &words, 3, 0, &[0, 1]);
+    });
+}
+
+#[test]
+fn a_chain_with_equal_links_needs_no_stack_word() {
+    on_all(|pool| {
+        for n in [1, 2, 3, 64, 500, 4_000] {
+            let cells: Vec<[u32; 4]> = (1..=n).map(|i| [0, (i + 1) % (n + 1), (i + 1) % (n + 1), i]).collect();
+            let words = pool_words(0, &[1], &cells);
+            stack_collections(pool, &words, n, 0, &[0, 1, n as usize]);
         }
     });
 }
 
 #[test]
-fn a_chain_with_equal_links_needs_one_word_less_than_its_cells() {
+fn equal_links_are_followed_where_every_stack_word_is_taken() {
     on_all(|pool| {
-        for n in [2, 3, 64, 500, 4_000] {
-            let cells: Vec<[u32; 4]> = (1..=n).map(|i| [0, (i + 1) % (n + 1), (i + 1) % (n + 1), i]).collect();
-            let words = pool_words(0, &[1], &cells);
-            for (length, enough) in [(n as usize - 2, 0), (n as usize - 1, 1), (n as usize, 1)] {
-                let (mut lent, mut stack) = (words.clone(), vec![7; length]);
-                assert_eq!(pool.collect_stack(&mut lent, &mut stack), Ok((n, enough)), "{n} cells, {length} words");
-                assert_eq!(lent, words);
-                assert!(stack.iter().all(|&word| word == 0));
-            }
+        // Cell 1 leads to 2 and 3: 3 is pushed. Then both links of 2 lead to 4, both of 4 to 5, and of 5 to nil; 3 is popped, which
+        // leads to 4 and 6: 4 is marked.
+        let cells = [[0, 2, 3, 1], [0, 4, 4, 2], [0, 4, 6, 3], [0, 5, 5, 4], [0, 0, 0, 5], [0, 6, 6, 6]];
+        stack_collections(pool, &pool_words(0, &[1], &cells), 6, 1, &[0, 1, 2]);
+    });
+}
+
+#[test]
+fn equal_links_to_a_marked_cell_are_not_followed_again() {
+    on_all(|pool| {
+        // Register 0 holds cell 6. Cell 1, in register 1, leads to 2 and 3: 3 is pushed. Both links of 2 lead to a marked cell: the
+        // one before it, itself, the one that is pushed, or that of the other register. So 3 is popped, which leads to 4, and 4 to
+        // 5 and 3: 5 is reached, and one word is enough.
+        for link in [1, 2, 3, 6] {
+            let cells = [[0, 2, 3, 1], [0, link, link, 2], [0, 4, 4, 3], [0, 5, 3, 4], [0, 5, 5, 5], [0, 0, 0, 6]];
+            stack_collections(pool, &pool_words(0, &[6, 1], &cells), 6, 1, &[0, 1, 2]);
         }
+        // The pushed cell leads to two others: 3 is popped before 5 is pushed, and one word is enough.
+        let cells = [[0, 2, 3, 1], [0, 3, 3, 2], [0, 4, 5, 3], [0, 0, 0, 4], [0, 0, 0, 5]];
+        stack_collections(pool, &pool_words(0, &[1], &cells), 5, 1, &[0, 1, 2]);
     });
 }
 

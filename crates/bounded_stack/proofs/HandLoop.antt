@@ -1,41 +1,42 @@
 -- The loop that takes one cell after the other in hand: what it keeps, and that it ends.
-use Prim.Native.Nat.{ℕ, suc, _+_, _*_, _-_, _<_, _≤_}
+use Prim.Native.Nat.{ℕ, _+_, _-_, _<_, _≤_}
 use native.Mathlib.Omega.{arith}
 use mathlib.Core.Path.{_≡_, refl, sym, ap, _∙_}
-use mathlib.Core.Logic.{inr}
-use mathlib.Core.List.{List, [], _∷_, _++_, List·Memᴰ, List·Memᴰ·head}
-use mathlib.Core.Bool.{Bool, true, false, true≢false, false≢true, not}
+use mathlib.Core.Logic.{_↔_, inr, ⊎-elim}
+use mathlib.Core.List.{List, [], _∷_, _++_, List·Memᴰ}
+use mathlib.Core.Bool.{Bool, true, false, true≢false, false≢true, cond, not, _&&_}
 use lib.ListN.{length, getD, set, length-set}
-use lib.Dec.{eqb}
+use lib.Dec.{eqb, leb}
 use Rattle.graph.specs.Graph.{Graph}
 use Rattle.graph.specs.Marking.{markedCount}
+use Rattle.graph.specs.Dfs.{marks}
 use Rattle.graph.proofs.Lists.{has-member, member-has, each-nil}
 use Rattle.graph.specs.Preorder.{elem}
-use Rattle.graph.proofs.Count.{marked-le}
+use Rattle.graph.proofs.Marks.{marks-member, marks-cases, marks-keeps}
+use Rattle.graph.proofs.Count.{marked-le, marked-same}
 use Rattle.pool.specs.Layout.{poolLength, left, right, state, graphOf, rootsOf}
 use Rattle.pool.specs.States.{isUsed, markCell}
 use Rattle.pool.proofs.States.{marked-not-used}
 use Rattle.questions.proofs.WellFormed.{WellFormed, well-formed-read}
 use Rattle.pool.proofs.Sizes.{both}
-use Rattle.questions.proofs.PoolGraph.{Used, pool-within}
 use Rattle.reversal.specs.Reversal.{unmarked}
 use Rattle.reversal.specs.ReversalTheorem.{markAll}
 use Rattle.reversal.proofs.MarkAll.{length-markAll, state-markAll-same, state-markAll-other}
 use Rattle.reversal.proofs.PoolMarks.{stateMarks, stateMarks-used, stateMarks-other}
 use Rattle.bounded_stack.specs.Steps.{onwardIn, Started, runFromCell, Ran}
 use Rattle.stack_algorithm.specs.Steps.{Settled}
-use Rattle.stack_algorithm.proofs.Fresh.{marked-more, Passing, passing}
-use Rattle.stack_algorithm.proofs.Going.{Going, weight-most, begin}
+use Rattle.stack_algorithm.proofs.Fresh.{marked-all, Passing, passing}
+use Rattle.stack_algorithm.proofs.Going.{Going, begin}
 use Rattle.bounded_stack.proofs.Simulation.{entries, entries-length, entries-push, entries-pop, Running, running-length, running-cell, running-new, running-turn, running-end, running-deep, running-undone}
 
 -- Where nothing is pending.
-pub settled-going : (n : ℕ) {g : Graph} {roots seen : List ℕ} → Settled g roots seen → Going n g roots seen []
-settled-going n {seen = seen} s =
-    record { cells = s .cells; held = each-nil (λ x. List·Memᴰ x seen); closed = λ x mem. inr (s .closed x mem); few = omega arith }
+pub settled-going : {g : Graph} {roots seen : List ℕ} → Settled g roots seen → Going g roots seen []
+settled-going {seen = seen} s =
+    record { cells = s .cells; distinct = s .distinct; held = each-nil (λ x. List·Memᴰ x seen); closed = λ x mem. inr (s .closed x mem); few = omega arith }
 
--- How many turns are left at most: two for each cell that is not marked, and one for each entry of the stack.
+-- How many turns are left at most behind this one: one for each cell that is not marked, and one for each entry of the stack.
 abbrev pub turnsLeft : ℕ → ℕ → List ℕ → ℕ → ℕ
-turnsLeft R n words top = 2 * (n - markedCount n (stateMarks R n words)) + top
+turnsLeft R n words top = n - markedCount n (stateMarks R n words) + top
 
 -- What the loop keeps, with the stack's entries below `top` in the lent words.
 pub record Hand (R n p : ℕ) (words₀ stack₀ words stack : List ℕ) (hand top : ℕ) : Type 0 where
@@ -58,9 +59,9 @@ module _ (R n p : ℕ) (words₀ : List ℕ) (room : poolLength R n ≤ length w
         lent = refl;
         fits = omega arith;
         run = λ h.
-            let first : Going n (graphOf R (h .pool)) (rootsOf R (h .pool)) (h .seen ++ p ∷ []) (p ∷ []) =
-            rw (h .fresh) at (begin (pool-within (well h)) (settled-going n (h .settled)) p λ some. h .reached) in
-            record { seen = h .seen ++ p ∷ []; turns = 2 * n; words = h .words; going = first; few = weight-most first; last = refl; deep = refl };
+            let first : Going (graphOf R (h .pool)) (rootsOf R (h .pool)) (h .seen ++ p ∷ []) (p ∷ []) =
+            rw (h .fresh) at (begin (settled-going (h .settled)) p λ some. h .reached) in
+            record { seen = h .seen ++ p ∷ []; turns = n; words = h .words; going = first; enough = omega (arith, first .few); last = refl; deep = refl };
       }
 
   module _ (stack₀ words stack : List ℕ) (hand top : ℕ) (s : Hand R n p words₀ stack₀ words stack hand top) where
@@ -128,43 +129,41 @@ module _ (R n p : ℕ) (words₀ : List ℕ) (room : poolLength R n ≤ length w
 
     -- a turn leaves fewer
     module _ (h : Started R n p words₀) where
-      spent-more : (new : List ℕ) → new ≡ onwardIn R words hand → (x : ℕ) → List·Memᴰ x new
-          → suc (markedCount n (stateMarks R n words)) ≤ markedCount n (stateMarks R n (markAll R words new))
-      spent-more new links x mem =
-          let facts : Passing (unmarked R words) (left R words hand) (right R words hand) new =
-          rw links (passing (unmarked R words) (left R words hand) (right R words hand)) in
+      -- as many cells more are marked as the loop goes on to
+      marked-more : (new : List ℕ) → new ≡ onwardIn R words hand
+          → markedCount n (stateMarks R n (markAll R words new)) ≡ length new + markedCount n (stateMarks R n words)
+      marked-more new links =
+          sym (marked-same n (marks (stateMarks R n words) new) (stateMarks R n (markAll R words new)) (λ x low high. alike x low high (elem x new) refl))
+          ∙ marked-all n (stateMarks R n words) (facts .distinct) λ x mem.
           let (low, high) = hand-new new links h x mem in
-          marked-more n (stateMarks R n words) (stateMarks R n (markAll R words new)) keeps x low high
-          (stateMarks-used R n words (record { positive = low; bounded = high; state = both (not (eqb x 0)) (isUsed (state R words x)) (facts .passes x mem) .1 }))
-          (stateMarks-other R n (markAll R words new) x (λ u. true≢false (sym (u .state) ∙ marked x low high mem)))
+          (low, high, stateMarks-used R n words (record { positive = low; bounded = high; state = both (not (eqb x 0)) (isUsed (state R words x)) (facts .passes x mem) .1 }))
         where
+          facts : Passing (unmarked R words) (left R words hand) (right R words hand) new
+          facts = rw links (passing (unmarked R words) (left R words hand) (right R words hand))
+
           positive : (y : ℕ) → List·Memᴰ y new → 0 < y
           positive y k = hand-new new links h y k .0
 
-          marked : (y : ℕ) → 0 < y → y ≤ n → List·Memᴰ y new → isUsed (state R (markAll R words new) y) ≡ false
-          marked y low high k = marked-not-used (state R (markAll R words new) y) (state-markAll-same R y low new positive k words (omega (arith, hand-cell h .4)))
-
-          keeps : (y : ℕ) → 0 < stateMarks R n words y → 0 < stateMarks R n (markAll R words new) y
-          keeps y above = stateMarks-other R n (markAll R words new) y (λ u. go u (elem y new) refl)
-            where
-              go : Used R n (markAll R words new) y → (b : Bool) → elem y new ≡ b → ⊥
-              go u true k = true≢false (sym (u .state) ∙ marked y (u .positive) (u .bounded) (member-has y new k))
-              go u false k =
-                  let same = state-markAll-other R y (u .positive) new positive (λ m. true≢false (sym (has-member y m) ∙ k)) words in
-                  omega (arith, stateMarks-used R n words (record { positive = u .positive; bounded = u .bounded; state = sym (ap isUsed same) ∙ u .state }))
+          alike : (x : ℕ) → 0 < x → x ≤ n → (t : Bool) → elem x new ≡ t
+              → (0 < marks (stateMarks R n words) new x) ↔ (0 < stateMarks R n (markAll R words new) x)
+          alike x low high true e =
+              let mem = member-has x new e in
+              let marked = marked-not-used (state R (markAll R words new) x) (state-markAll-same R x low new positive mem words (omega (arith, hand-cell h .4))) in
+              (λ _. stateMarks-other R n (markAll R words new) x (λ u. true≢false (sym (u .state) ∙ marked)), λ _. marks-member (stateMarks R n words) x mem)
+          alike x low high false e =
+              let out : List·Memᴰ x new → ⊥ = λ mem. true≢false (sym (has-member x mem) ∙ e) in
+              let same : stateMarks R n (markAll R words new) x ≡ stateMarks R n words x =
+              ap (λ (k : ℕ). cond (leb 1 x && leb x n && isUsed k) 0 1) (state-markAll-other R x low new positive out words) in (
+                λ k. rw same (⊎-elim (λ mem. absurd (out mem)) (λ above. above) (marks-cases (stateMarks R n words) new x k)),
+                λ k. marks-keeps (stateMarks R n words) new x (rw same at k),
+              )
 
       pub less-push : (l r : ℕ) (w₁ w₂ : List ℕ) → l ∷ r ∷ [] ≡ onwardIn R words hand → w₁ ≡ markCell R words l → w₂ ≡ markCell R w₁ r
           → turnsLeft R n w₂ (top + 1) < turnsLeft R n words top
       unfolding markAll
       less-push l r w₁ w₂ links e₁ e₂ =
-          rw (e₂, e₁)
-          (omega (
-            arith,
-            spent-more (l ∷ r ∷ []) links l (List·Memᴰ·head refl),
-            marked-le n (stateMarks R n (markAll R words (l ∷ r ∷ []))),
-          ))
+          rw (e₂, e₁) (omega (arith, marked-more (l ∷ r ∷ []) links, marked-le n (stateMarks R n (markAll R words (l ∷ r ∷ [])))))
 
       pub less-go : (x : ℕ) (w₁ : List ℕ) → x ∷ [] ≡ onwardIn R words hand → w₁ ≡ markCell R words x → turnsLeft R n w₁ top < turnsLeft R n words top
       unfolding markAll
-      less-go x w₁ links e₁ =
-          rw e₁ (omega (arith, spent-more (x ∷ []) links x (List·Memᴰ·head refl), marked-le n (stateMarks R n (markAll R words (x ∷ [])))))
+      less-go x w₁ links e₁ = rw e₁ (omega (arith, marked-more (x ∷ []) links, marked-le n (stateMarks R n (markAll R words (x ∷ [])))))

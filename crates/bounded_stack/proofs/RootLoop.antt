@@ -1,5 +1,5 @@
 -- The loop over the registers: it makes the runs of the definition, in the order of the registers.
-use Prim.Native.Nat.{ℕ, _+_, _*_, _<_, _≤_, max}
+use Prim.Native.Nat.{ℕ, _+_, _<_, _≤_, max}
 use native.Mathlib.Omega.{arith}
 use native.Mathlib.Numerals.{add-one}
 use mathlib.Core.Path.{_≡_, refl, sym, ap, _∙_}
@@ -24,13 +24,13 @@ use Rattle.stack_algorithm.specs.Stack.{isUnmarked, run, taken, runs, holding}
 use Rattle.stack_algorithm.specs.Steps.{Settled}
 use Rattle.bounded_stack.specs.Steps.{Started, runFromCell, poolRun, Ran}
 use Rattle.stack_algorithm.proofs.Fresh.{fresh-true}
-use Rattle.stack_algorithm.proofs.Going.{Going, going-first, begin, weight-most, ended}
+use Rattle.stack_algorithm.proofs.Going.{Going, going-first, begin, ended}
 use Rattle.bounded_stack.proofs.Simulation.{test, leb-max}
 use Rattle.stack_algorithm.proofs.Cases.{run-none}
 use Rattle.bounded_stack.proofs.HandLoop.{settled-going}
 
-going-settled : {n : ℕ} {g : Graph} {roots seen : List ℕ} → Going n g roots seen [] → Settled g roots seen
-going-settled s = record { cells = s .cells; closed = λ x mem. ⊎-elim (λ k. absurd (List·Memᴰ·not-nil k)) (λ k. k) (s .closed x mem) }
+going-settled : {g : Graph} {roots seen : List ℕ} → Going g roots seen [] → Settled g roots seen
+going-settled s = record { cells = s .cells; distinct = s .distinct; closed = λ x mem. ⊎-elim (λ k. absurd (List·Memᴰ·not-nil k)) (λ k. k) (s .closed x mem) }
 
 -- What the loop keeps: some cells of the pool are marked, and the runs from the registers from k on lead to the same end.
 pub record Registers (R n : ℕ) (pool stack₀ w stack : List ℕ) (k : ℕ) : Type 0 where
@@ -39,9 +39,9 @@ pub record Registers (R n : ℕ) (pool stack₀ w stack : List ℕ) (k : ℕ) : 
   pub seen : List ℕ
   pub words : w ≡ markAll R pool seen
   pub settled : Settled (graphOf R pool) (rootsOf R pool) seen
-  pub last : runs (2 * n) (graphOf R pool) seen (drop k (rootsOf R pool)) .0 ≡ poolRun R n pool .0
+  pub last : runs n (graphOf R pool) seen (drop k (rootsOf R pool)) .0 ≡ poolRun R n pool .0
   pub deep :
-      leb (poolRun R n pool .1) (length stack₀) ≡ leb (runs (2 * n) (graphOf R pool) seen (drop k (rootsOf R pool)) .1) (length stack₀)
+      leb (poolRun R n pool .1) (length stack₀) ≡ leb (runs n (graphOf R pool) seen (drop k (rootsOf R pool)) .1) (length stack₀)
 
 pub registers-first : (R n : ℕ) (pool stack₀ : List ℕ) → Registers R n pool stack₀ pool stack₀ 0
 unfolding markAll
@@ -51,7 +51,7 @@ registers-first R n pool stack₀ =
       lent = refl;
       seen = [];
       words = refl;
-      settled = going-settled (going-first n (graphOf R pool) (rootsOf R pool));
+      settled = going-settled (going-first (graphOf R pool) (rootsOf R pool));
       last = refl;
       deep = refl;
     }
@@ -76,9 +76,9 @@ module _ (R n : ℕ) (pool : List ℕ) (well : wellFormed R n pool ≡ true) (ro
       record {
         answer =
             sym (s .deep
-            ∙ (ap (λ (l : List ℕ). leb (runs (2 * n) (graphOf R pool) (s .seen) l .1) (length stack₀)) none ∙ le-leb 0 (length stack₀) (omega arith)));
+            ∙ (ap (λ (l : List ℕ). leb (runs n (graphOf R pool) (s .seen) l .1) (length stack₀)) none ∙ le-leb 0 (length stack₀) (omega arith)));
         marked = λ e.
-            s .words ∙ ap (markAll R pool) (sym (ap (λ (l : List ℕ). runs (2 * n) (graphOf R pool) (s .seen) l .0) none) ∙ s .last);
+            s .words ∙ ap (markAll R pool) (sym (ap (λ (l : List ℕ). runs n (graphOf R pool) (s .seen) l .0) none) ∙ s .last);
         undone = λ e. absurd (true≢false e);
       }
 
@@ -99,16 +99,16 @@ module _ (R n : ℕ) (pool : List ℕ) (well : wellFormed R n pool ≡ true) (ro
     tested = ap (λ (x : List ℕ). unmarked R x p) (s .words) ∙ test R n pool facts room (s .seen) (s .settled .cells) p reach
 
     -- the run from this register, which leads to `first`, and those from the others
-    module _ (first : List ℕ × ℕ) (made : run (2 * n) (graphOf R pool) (s .seen ++ taken (s .seen) p) (taken (s .seen) p) ≡ first) where
-      apart : runs (2 * n) (graphOf R pool) (s .seen) (drop k (rootsOf R pool))
-          ≡ holding (first .1) (runs (2 * n) (graphOf R pool) (first .0) (drop (k + 1) (rootsOf R pool)))
+    module _ (first : List ℕ × ℕ) (made : run n (graphOf R pool) (s .seen ++ taken (s .seen) p) (taken (s .seen) p) ≡ first) where
+      apart : runs n (graphOf R pool) (s .seen) (drop k (rootsOf R pool))
+          ≡ holding (first .1) (runs n (graphOf R pool) (first .0) (drop (k + 1) (rootsOf R pool)))
       unfolding runs
       apart =
-          ap (runs (2 * n) (graphOf R pool) (s .seen)) from
-          ∙ ap (λ (f : List ℕ × ℕ). holding (f .1) (runs (2 * n) (graphOf R pool) (f .0) (drop (k + 1) (rootsOf R pool)))) made
+          ap (runs n (graphOf R pool) (s .seen)) from
+          ∙ ap (λ (f : List ℕ × ℕ). holding (f .1) (runs n (graphOf R pool) (f .0) (drop (k + 1) (rootsOf R pool)))) made
 
       deeper : leb (poolRun R n pool .1) (length stack₀)
-          ≡ leb (max (first .1) (runs (2 * n) (graphOf R pool) (first .0) (drop (k + 1) (rootsOf R pool)) .1)) (length stack₀)
+          ≡ leb (max (first .1) (runs n (graphOf R pool) (first .0) (drop (k + 1) (rootsOf R pool)) .1)) (length stack₀)
       deeper = s .deep ∙ ap (λ (x : List ℕ × ℕ). leb (x .1) (length stack₀)) apart
 
       next : (w' stack' : List ℕ) → w' ≡ markAll R pool (first .0) → length stack' ≡ length stack₀ → Settled (graphOf R pool) (rootsOf R pool) (first .0)
@@ -122,14 +122,14 @@ module _ (R n : ℕ) (pool : List ℕ) (well : wellFormed R n pool ≡ true) (ro
             settled = settled;
             last = sym (ap (λ (x : List ℕ × ℕ). x .0) apart) ∙ s .last;
             deep =
-                deeper ∙ leb-max (first .1) (runs (2 * n) (graphOf R pool) (first .0) (drop (k + 1) (rootsOf R pool)) .1) (length stack₀) enough;
+                deeper ∙ leb-max (first .1) (runs n (graphOf R pool) (first .0) (drop (k + 1) (rootsOf R pool)) .1) (length stack₀) enough;
           }
 
     -- the link is marked: nothing is done
     pub registers-skip : unmarked R w p ≡ false → Registers R n pool stack₀ w stack (k + 1)
     registers-skip e =
         let marked : isUnmarked (s .seen) p ≡ false = sym tested ∙ e in
-        next (s .seen, 0) (rw (marked, append-nil (s .seen)) (run-none (2 * n) (graphOf R pool) (s .seen))) w stack (s .words) (s .lent) (s .settled)
+        next (s .seen, 0) (rw (marked, append-nil (s .seen)) (run-none n (graphOf R pool) (s .seen))) w stack (s .words) (s .lent) (s .settled)
         (omega arith)
 
     module _ (e : unmarked R w p ≡ true) where
@@ -155,15 +155,15 @@ module _ (R n : ℕ) (pool : List ℕ) (well : wellFormed R n pool ≡ true) (ro
             }
 
         abbrev first : List ℕ × ℕ
-        first = run (2 * n) (graphOf R pool) (s .seen ++ p ∷ []) (p ∷ [])
+        first = run n (graphOf R pool) (s .seen ++ p ∷ []) (p ∷ [])
 
-        made : run (2 * n) (graphOf R pool) (s .seen ++ taken (s .seen) p) (taken (s .seen) p) ≡ first
+        made : run n (graphOf R pool) (s .seen ++ taken (s .seen) p) (taken (s .seen) p) ≡ first
         made = rw fresh
 
         settled : Settled (graphOf R pool) (rootsOf R pool) (first .0)
         settled =
-            let going = rw fresh at (begin (pool-within facts) (settled-going n (s .settled)) p reach) in
-            going-settled (ended (pool-within facts) (2 * n) (s .seen ++ p ∷ []) (p ∷ []) going (weight-most going) .going)
+            let going = rw fresh at (begin (settled-going (s .settled)) p reach) in
+            going-settled (ended (pool-within facts) n (s .seen ++ p ∷ []) (p ∷ []) going (omega (arith, going .few)) .going)
 
         module _ (w' : List ℕ) (enough : Bool)
             (ran : (h : Started R n p w₁) → Ran R n (length stack) (h .pool) w' (runFromCell R n p w₁ h) enough) where
@@ -183,7 +183,7 @@ module _ (R n : ℕ) (pool : List ℕ) (well : wellFormed R n pool ≡ true) (ro
               record {
                 answer =
                     sym (deeper first made
-                    ∙ lt-leb (max (first .1) (runs (2 * n) (graphOf R pool) (first .0) (drop (k + 1) (rootsOf R pool)) .1)) (length stack₀)
+                    ∙ lt-leb (max (first .1) (runs n (graphOf R pool) (first .0) (drop (k + 1) (rootsOf R pool)) .1)) (length stack₀)
                     (omega (arith, leb-false (first .1) (length stack) (sym (ran-first .answer) ∙ no'), s .lent)));
                 marked = λ e'. absurd (false≢true e');
                 undone = λ e'. ran-first .undone no';

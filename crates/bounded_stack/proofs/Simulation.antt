@@ -8,7 +8,7 @@ use mathlib.Core.Bool.{Bool, true, false, true≢false}
 use lib.ListN.{length, getD, set}
 use lib.Seq.{getD-set-same, getD-set-other}
 use lib.Dec.{leb}
-use borrow.Author.Tests.{le-leb, lt-leb, leb-true, leb-false, ne-eqb}
+use borrow.Author.Tests.{le-leb, lt-leb, leb-true, leb-false, eq-eqb, ne-eqb}
 use Rattle.graph.specs.Graph.{Reach, Within}
 use Rattle.graph.specs.Preorder.{elem}
 use Rattle.graph.proofs.Lists.{Each, has-member, member-has}
@@ -25,13 +25,21 @@ use Rattle.stack_algorithm.specs.Stack.{isUnmarked, unmarkedLinks, onward, run}
 use Rattle.bounded_stack.specs.Steps.{cleared, onwardIn}
 use Rattle.stack_algorithm.proofs.Fresh.{member-fresh, other-fresh}
 use Rattle.stack_algorithm.proofs.Cases.{run-none}
-use Rattle.stack_algorithm.proofs.Going.{Going, weight, turn, turn-less}
+use Rattle.stack_algorithm.proofs.Going.{Going, Lasting, turn, turn-lasting, seen-most}
 use Rattle.bounded_stack.proofs.Cleared.{cleared-marks}
 
 -- the two tests decide which links the marker goes on to
 pub look-made : (R p : ℕ) (w : List ℕ) (l r : ℕ) {a b : Bool} → l ≡ left R w p → r ≡ right R w p → a ≡ unmarked R w l → b ≡ unmarked R w r
     → unmarkedLinks a b l r ≡ onwardIn R w p
 look-made R p w l r el er ea eb = rw (ea, eb, el, er)
+
+-- where both are unmarked, whether they are equal does
+pub look-equal : (R p : ℕ) (w : List ℕ) (l r : ℕ) → l ≡ left R w p → r ≡ right R w p → true ≡ unmarked R w l → l ≡ r → l ∷ [] ≡ onwardIn R w p
+look-equal R p w l r el er ea same = rw (eq-eqb l r same) at (look-made R p w l r {a = true} {b = true} el er ea (ea ∙ ap (unmarked R w) same))
+
+pub look-both : (R p : ℕ) (w : List ℕ) (l r : ℕ) → l ≡ left R w p → r ≡ right R w p → true ≡ unmarked R w l → true ≡ unmarked R w r → (l ≡ r → ⊥)
+    → l ∷ r ∷ [] ≡ onwardIn R w p
+look-both R p w l r el er ea eb apart = rw (ne-eqb l r apart) at (look-made R p w l r {a = true} {b = true} el er ea eb)
 
 -- the entries below `top` of the lent words, the top one first
 unfoldable pub entries : List ℕ → ℕ → List ℕ
@@ -64,8 +72,8 @@ pub record Running (R n : ℕ) (pool : List ℕ) (lent : ℕ) (end : List ℕ ×
   pub seen : List ℕ
   pub turns : ℕ
   pub words : w ≡ markAll R pool seen
-  pub going : Going n (graphOf R pool) (rootsOf R pool) seen pending
-  pub few : weight n seen pending ≤ turns
+  pub going : Going (graphOf R pool) (rootsOf R pool) seen pending
+  pub enough : Lasting n turns seen pending
   pub last : run turns (graphOf R pool) seen pending .0 ≡ end .0
   pub deep : leb (end .1) lent ≡ leb (run turns (graphOf R pool) seen pending .1) lent
 
@@ -143,15 +151,15 @@ module _ (R n : ℕ) (pool : List ℕ) (well : WellFormed R n pool) (room : pool
         new = ap (λ (v : List ℕ). onwardIn R v p) (s .words) ∙ links (s .seen) (s .going .cells) p (running-reached s)
 
         go : (turns : ℕ) → s .turns ≡ turns → Running R n pool lent end (markAll R w (onwardIn R w p)) (onwardIn R w p ++ stack)
-        go zero e = absurd (omega (arith, s .few))
+        go zero e = absurd (omega (arith, s .enough, seen-most within (s .going)))
         go (suc turns) e =
             rw new
             (record {
               seen = s .seen ++ onward (graphOf R pool) (s .seen) p;
               turns = turns;
               words = ap (λ (v : List ℕ). markAll R v (onward (graphOf R pool) (s .seen) p)) (s .words) ∙ sym (markAll-append R pool (s .seen) (onward (graphOf R pool) (s .seen) p));
-              going = turn within (s .going);
-              few = omega (arith, turn-less within (s .going), s .few);
+              going = turn (s .going);
+              enough = turn-lasting (s .going) n turns (omega (arith, s .enough));
               last = ap (λ (k : ℕ). run k (graphOf R pool) (s .seen) (p ∷ stack) .0) (sym e) ∙ s .last;
               deep =
                   s .deep
@@ -173,7 +181,7 @@ module _ (R n : ℕ) (pool : List ℕ) (well : WellFormed R n pool) (room : pool
     running-deep {p} {stack} s over = go (s .turns) refl
       where
         go : (turns : ℕ) → s .turns ≡ turns → leb (end .1) lent ≡ false
-        go zero e = absurd (omega (arith, s .few))
+        go zero e = absurd (omega (arith, s .enough, seen-most within (s .going)))
         go (suc turns) e =
             s .deep
             ∙ (ap (λ (k : ℕ). leb (run k (graphOf R pool) (s .seen) (p ∷ stack) .1) lent) e

@@ -1,5 +1,5 @@
 -- What the loops of the stack marker may rely on, and their results.
-use Prim.Native.Nat.{ℕ, zero, suc, _*_}
+use Prim.Native.Nat.{ℕ, zero, suc}
 use mathlib.Core.Path.{_≡_}
 use mathlib.Core.List.{List, [], _∷_, _++_}
 use mathlib.Core.Bool.{Bool, true, false, cond}
@@ -45,7 +45,7 @@ pub record Started (R n p : ℕ) (w : List ℕ) : Type 0 where
 
 -- The run from p with an unlimited stack.
 abbrev pub runFromCell : (R n p : ℕ) (w : List ℕ) → Started R n p w → List ℕ × ℕ
-runFromCell R n p w h = run (2 * n) (graphOf R (h .pool)) (h .seen ++ p ∷ []) (p ∷ [])
+runFromCell R n p w h = run n (graphOf R (h .pool)) (h .seen ++ p ∷ []) (p ∷ [])
 
 -- The run from the registers of a pool, with an unlimited stack.
 abbrev pub poolRun : ℕ → ℕ → List ℕ → List ℕ × ℕ

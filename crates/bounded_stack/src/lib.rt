@@ -8,14 +8,14 @@ ghost use Rattle.pool.specs.Layout.{registerCount, poolLength, left, right};
 ghost use Rattle.questions.specs.Validity.{wellFormed};
 ghost use Rattle.bounded_stack.specs.Steps.{cleared, linksOf, onwardIn, Started, runFromCell, poolRun, Ran};
 
-// Where the marker goes on to from a cell: with both links unmarked it goes to the left one and pushes the right one.
+// Where the marker goes on to from a cell: with two links unmarked it goes to the left one and pushes the right one.
 enum Onward {
     Nowhere,
     To(u32),
     Both(u32, u32),
 }
 
-// Looks at both links of a cell.
+// Looks at both links of a cell. Two equal unmarked links are one.
 fn look(words: &[u32], n: u32, p: u32) -> Onward
     requires { ⌜ (0 < p) × (p ≤ n) × (left registerCount (now words) p ≤ n) × (right registerCount (now words) p ≤ n) × (poolLength registerCount n ≤ length (now words)) ⌝ }
     ensures { λ r. ⌜ linksOf r ≡ onwardIn registerCount (now (words .entry)) p ⌝ }
@@ -23,7 +23,9 @@ fn look(words: &[u32], n: u32, p: u32) -> Onward
     let left = pool::link_of(words, p, Pool::LEFT);
     let right = pool::link_of(words, p, Pool::RIGHT);
     if reversal::is_unmarked(words, left) {
-        if reversal::is_unmarked(words, right) {
+        if left == right {
+            Onward::To(left)
+        } else if reversal::is_unmarked(words, right) {
             Onward::Both(left, right)
         } else {
             Onward::To(left)

@@ -1,52 +1,56 @@
--- The chain with equal links: every turn pushes one entry until the last cell is in hand.
-use Prim.Native.Nat.{ℕ, zero, suc, _+_, _*_, _-_, _<_, _≤_}
+-- Equal links are one: where every reached cell has two equal links, a cell in hand leaves one pending at most, and nothing is ever pushed.
+use Prim.Native.Nat.{ℕ, zero, suc, _<_, _≤_}
 use native.Mathlib.Omega.{arith}
 use mathlib.Core.Path.{_≡_, refl}
-use mathlib.Core.List.{List, [], _∷_, _++_, List·Memᴰ·eq-of-singleton}
+use mathlib.Core.List.{List, [], _∷_, _++_, List·Memᴰ·head, List·Memᴰ·tail}
 use mathlib.Core.Bool.{Bool, true, false, cond}
-use lib.ListN.{length}
-use lib.Dec.{ltb}
-use borrow.Author.Tests.{lt-ltb, ltb-true}
-use Rattle.graph.specs.Graph.{Within}
-use Rattle.graph.specs.Preorder.{elem}
+use lib.ListN.{length, length-append}
+use borrow.Author.Tests.{eq-eqb}
+use Rattle.graph.specs.Graph.{Graph, Reach}
 use Rattle.graph.proofs.Lists.{Each, each-nil, each-cons, each-append}
-use Rattle.stack_algorithm.specs.Stack.{isUnmarked, onward, run, runs}
-use Rattle.stack_algorithm.specs.StackTheorem.{chain, ChainNeeds}
-use Rattle.stack_algorithm.proofs.Fresh.{other-fresh}
-use Rattle.stack_algorithm.proofs.Going.{stack-bound}
+use Rattle.stack_algorithm.specs.Stack.{isUnmarked, unmarkedLinks, onward, run, taken, runs}
+use Rattle.stack_algorithm.specs.StackTheorem.{EqualLinksNeedNone, chain, ChainNeeds}
+use Rattle.stack_algorithm.proofs.Fresh.{fresh-true}
+use Rattle.stack_algorithm.proofs.Going.{links-reached}
 
--- the cells up to i are marked and i is in hand, so both of its links are unmarked
-chain-onward : (n i : ℕ) (seen : List ℕ) → i < n → Each (λ x. x ≤ i) seen → onward (chain n) seen i ≡ suc i ∷ suc i ∷ []
-chain-onward n i seen less below =
-    let fresh : isUnmarked seen (suc i) ≡ true = other-fresh seen (suc i) (omega arith) λ mem. omega (arith, below (suc i) mem) in
-    rw (lt-ltb i n less, fresh)
+one-link : (a b : Bool) (l r : ℕ) → l ≡ r → length (unmarkedLinks a b l r) ≤ 1
+one-link true true l r e = rw (eq-eqb l r e) (omega arith)
+one-link true false l r e = omega arith
+one-link false true l r e = omega arith
+one-link false false l r e = omega arith
 
--- with d cells behind it, d more entries come
-chain-down : (n d i turns : ℕ) (seen stack : List ℕ) → i + d ≡ n → suc (length stack) ≡ i → Each (λ x. x ≤ i) seen → d < turns
-    → n - 1 ≤ run turns (chain n) seen (i ∷ stack) .1
-unfolding run
-chain-down n d i zero seen stack last held below many = absurd (omega arith)
-chain-down n zero i (suc turns) seen stack last held below many = omega arith
-chain-down n (suc d) i (suc turns) seen stack last held below many =
-    rw (chain-onward n i seen (omega arith) below)
-    (omega (
-      arith,
-      chain-down n d (suc i) turns (seen ++ (suc i ∷ suc i ∷ [])) (suc i ∷ stack) (omega arith) (omega arith)
-          (each-append (λ x. x ≤ suc i) seen (λ x mem. omega (arith, below x mem))
-          (each-cons (λ x. x ≤ suc i) (omega arith) (each-cons (λ x. x ≤ suc i) (omega arith) (each-nil (λ x. x ≤ suc i)))))
-          (omega arith),
-    ))
+module _ (g : Graph) (roots : List ℕ) (equal : (x : ℕ) → Reach g roots x → g .left x ≡ g .right x) where
+  run-holds-none : (turns : ℕ) (seen pending : List ℕ) → Each (Reach g roots) pending → length pending ≤ 1 → run turns g seen pending .1 ≡ 0
+  unfolding run
+  run-holds-none zero seen pending reached one = refl
+  run-holds-none (suc turns) seen [] reached one = refl
+  run-holds-none (suc turns) seen (p ∷ stack) reached one =
+      let here = reached p (List·Memᴰ·head refl) in
+      let link = one-link (isUnmarked seen (g .left p)) (isUnmarked seen (g .right p)) (g .left p) (g .right p) (equal p here) in
+      omega (
+        arith,
+        run-holds-none turns (seen ++ onward g seen p) (onward g seen p ++ stack)
+            (each-append (Reach g roots) (onward g seen p) (links-reached seen here) λ x mem. reached x (List·Memᴰ·tail mem))
+            (rw (length-append (onward g seen p) stack) (omega arith)),
+      )
 
-chain-within : (n : ℕ) → 1 ≤ n → Within n (chain n) (1 ∷ [])
-chain-within n some = record { root = λ x mem. rw (List·Memᴰ·eq-of-singleton mem) some; left = λ x reach. link x (ltb x n) refl; right = λ x reach. link x (ltb x n) refl }
-  where
-    link : (x : ℕ) (t : Bool) → ltb x n ≡ t → cond t (suc x) 0 ≤ n
-    link x true e = ltb-true x n e
-    link x false e = omega arith
+  runs-hold-none : (turns : ℕ) (ps seen : List ℕ) → Each (λ x. 0 < x → Reach g roots x) ps → runs turns g seen ps .1 ≡ 0
+  unfolding runs
+  runs-hold-none turns [] seen reach = refl
+  runs-hold-none turns (p ∷ ps) seen reach =
+      let (reached, one) = first (isUnmarked seen p) refl in
+      omega (
+        arith,
+        run-holds-none turns (seen ++ taken seen p) (taken seen p) reached one,
+        runs-hold-none turns ps (run turns g (seen ++ taken seen p) (taken seen p) .0) (λ x mem. reach x (List·Memᴰ·tail mem)),
+      )
+    where
+      first : (t : Bool) → isUnmarked seen p ≡ t → Each (Reach g roots) (cond t (p ∷ []) []) × (length (cond t (p ∷ []) []) ≤ 1)
+      first true e = (each-cons (Reach g roots) (reach p (List·Memᴰ·head refl) (fresh-true seen p e .0)) (each-nil (Reach g roots)), omega arith)
+      first false e = (each-nil (Reach g roots), omega arith)
+
+pub equal-links-need-none : EqualLinksNeedNone
+equal-links-need-none n g roots equal = runs-hold-none g roots equal n roots [] λ x mem. Reach.root mem
 
 pub chain-needs : ChainNeeds
-unfolding runs elem
-chain-needs n some =
-    let least = chain-down n (n - 1) 1 (2 * n) (1 ∷ []) [] (omega arith) refl (each-cons (λ x. x ≤ 1) (omega arith) (each-nil (λ x. x ≤ 1))) (omega arith) in
-    let most = stack-bound n (chain n) (1 ∷ []) (chain-within n some) in
-    omega arith
+chain-needs n = equal-links-need-none n (chain n) (1 ∷ []) λ x reach. refl

@@ -1,5 +1,5 @@
--- Marking with a stack that has no limit (01, "Marking with a lent stack", after Kurokawa's Algorithm 2).
-use Prim.Native.Nat.{ℕ, zero, suc, _*_, max}
+-- Marking with a stack that has no limit (01, "Marking with a lent stack", after Kurokawa's Algorithm 2; 02, S-2, "Two links, one branch").
+use Prim.Native.Nat.{ℕ, zero, suc, max}
 use mathlib.Core.List.{List, [], _∷_, _++_}
 use mathlib.Core.Bool.{Bool, true, false, cond, _||_, not}
 use lib.ListN.{length}
@@ -11,10 +11,10 @@ use Rattle.graph.specs.Preorder.{elem}
 abbrev pub isUnmarked : List ℕ → ℕ → Bool
 isUnmarked seen x = not (eqb x 0 || elem x seen)
 
--- "Look at both links": those of the left link l and the right link r that are unmarked, by whether each is. "Two equal unmarked links are both
--- unmarked."
+-- "Look at both links": those of the left link l and the right link r that are unmarked, by whether each is. "Two equal unmarked links now count as
+-- one unmarked link" (02, S-2).
 abbrev pub unmarkedLinks : Bool → Bool → ℕ → ℕ → List ℕ
-unmarkedLinks true true l r = l ∷ r ∷ []
+unmarkedLinks true true l r = cond (eqb l r) (l ∷ []) (l ∷ r ∷ [])
 unmarkedLinks true false l r = l ∷ []
 unmarkedLinks false true l r = r ∷ []
 unmarkedLinks false false l r = []
@@ -46,11 +46,11 @@ runs turns g seen (p ∷ ps) =
     let first = run turns g (seen ++ taken seen p) (taken seen p) in
     holding (first .1) (runs turns g (first .0) ps)
 
--- The marker on a graph of n cells: a cell is taken in hand twice at most, where it is both links of another.
+-- The marker on a graph of n cells: a cell is taken in hand once at most.
 abbrev pub stackRun : ℕ → Graph → List ℕ → List ℕ × ℕ
-stackRun n g roots = runs (2 * n) g [] roots
+stackRun n g roots = runs n g [] roots
 
--- The cells that it marks, and the most entries that its stack ever holds.
+-- The cells that it marks.
 abbrev pub stackMarked : ℕ → Graph → List ℕ → List ℕ
 stackMarked n g roots = stackRun n g roots .0
 

@@ -19,9 +19,11 @@ use Rattle.reversal.specs.Reached.{isReached}
 use Rattle.collector.proofs.CollectTheorem.{collection-keeps-the-reached, collection-marks-and-sweeps}
 use Rattle.reversal.proofs.Roots.{run-from-roots, run-over-pool}
 use Rattle.reversal.proofs.Run.{run-from-link}
-use Rattle.stack_algorithm.proofs.Chain.{chain-needs}
+use Rattle.stack_algorithm.specs.StackTheorem.{chain}
+use Rattle.stack_marker.specs.StackExample.{forkPool}
+use Rattle.stack_algorithm.proofs.Chain.{equal-links-need-none}
 use Rattle.stack_marker.proofs.StackCollects.{stack-collects}
-use Rattle.stack_algorithm.proofs.Going.{stack-ends, stack-marks-the-reached, stack-bound}
+use Rattle.stack_algorithm.proofs.Going.{stack-ends, stack-marks-the-reached, stack-marks-once, stack-bound}
 use Rattle.stack_algorithm.proofs.Cases.{stack-cases}
 use Rattle.calls.specs.declared.Call.the-variants as call
 use Rattle.batch.proofs.Whole.{runs-one-after-the-other}
@@ -60,7 +62,6 @@ applied =
     let t = equivalence 3 2 lent calls (p .some) (p .most) (b .exact) in
     let t = equivalence-at-limit 3 lent calls (p .some) (p .most) (b .exact) in
     let t = reached-pools 3 lent calls (p .some) (p .most) (b .exact) in
-    let t = chain-needs 3 (p .some) in
     let t = run-from-link registerCount 3 (graph three) (outside 3) 1 (1 ∷ 2 ∷ []) three (r .agreement) (r .dfs) (r .unmarked) in
     let t = run-from-roots registerCount 3 (graph three) (outside 3) (roots three) (1 ∷ 2 ∷ []) three (r .agreement) (r .all) (g .within .root) in
     let t = preorder-reached 3 (graph three) (roots three) (g .within) in
@@ -74,10 +75,13 @@ applied =
     let t = length-paired 3 (graph three) (roots three) 2 (graph two) (roots two) (g .within) (g .within-two) (g .lengths) (g .paired) in
     let t = preorder-paired 3 (graph three) (roots three) 2 (graph two) (roots two) (g .within) (g .within-two) (g .lengths) (g .paired) in
     let t = pairing-kept (graph three) (roots three) (graph two) (roots two) Swapped (g .relation) (g .related-roots) (g .related-links) in
-    let t = stack-ends 3 (graph three) (roots three) (g .within) 7 (g .turns) in
+    let t = stack-ends 3 (graph three) (roots three) (g .within) 4 (g .turns) in
     let t = stack-marks-the-reached 3 (graph three) (roots three) (g .within) in
+    let t = stack-marks-once 3 (graph three) (roots three) (g .within) in
     let t = stack-bound 3 (graph three) (roots three) (g .within) in
-    let t = stack-cases 2 (graph three) (1 ∷ []) .1 1 [] .both (g .both .0) (g .both .1) in
+    let t = stack-cases 2 (graph three) (1 ∷ []) .1 1 [] .equal (g .equal .0) (g .equal .1) (g .equal .2) in
+    let t = stack-cases 2 (graph forkPool) (1 ∷ []) .1 1 [] .both (g .both .0) (g .both .1) (g .both .2) in
+    let t = equal-links-need-none 3 (chain 3) (1 ∷ []) (g .equal-links) in
     let t = stack-cases 2 (graph three) (2 ∷ []) .1 2 [] .left (g .left .0) (g .left .1) in
     let t = stack-cases 2 (graph three) (1 ∷ []) .1 2 [] .none (g .none .0) (g .none .1) in
     let t = stack-cases 2 (graph three) (1 ∷ []) .1 3 [] .right (g .right .0) (g .right .1) in

@@ -168,10 +168,13 @@ graph-instance =
       paired = pairing-kept (graph three) (roots three) (graph two) (roots two) Swapped relation related-roots related-links;
       turns = omega arith;
       run = refl;
-      both = (refl, refl);
+      run-fork = refl;
+      equal = (refl, refl, refl);
       left = (refl, refl);
       none = (refl, refl);
       right = (refl, refl);
+      both = (refl, refl, λ e. omega (arith, e));
+      equal-links = λ x reach. refl;
     }
 
 pub number-instance : NumberInstance

@@ -21,7 +21,9 @@ use Rattle.collector.specs.Collect.{collectOf}
 use Rattle.reversal.specs.ReversalTheorem.{Agreement}
 use Rattle.recursive_marker.specs.Steps.{Markable}
 use Rattle.stack_algorithm.specs.Stack.{isUnmarked, stackRun}
+use Rattle.stack_algorithm.specs.StackTheorem.{chain}
 use Rattle.stack_marker.specs.StackCollect.{stackOf}
+use Rattle.stack_marker.specs.StackExample.{forkPool}
 use Rattle.calls.specs.declared.Call.{Call}
 use Rattle.calls.specs.declared.Call.the-variants as call
 use Rattle.batch.specs.declared.Ran.the-variants as ran
@@ -62,7 +64,7 @@ abbrev pub roots : List ℕ → List ℕ
 roots = rootsOf registerCount
 
 -- `CollectionKeepsTheReached`, `CollectionMarksAndSweeps`, `RunOverPool`, `RetainedFreeList`, `StackCollects`; and `FreshIsWellFormed`,
--- `FreshIsFree`, `Equivalence`, `EquivalenceAtLimit`, `ReachedPools` and `ChainNeeds`, which ask for no more than a number of cells.
+-- `FreshIsFree`, `Equivalence`, `EquivalenceAtLimit` and `ReachedPools`, which ask for no more than a number of cells. (`ChainNeeds` asks for nothing.)
 pub record PoolInstance : Type 0 where
   pub some : 0 < 3
   pub most : 3 ≤ cellLimit
@@ -72,9 +74,9 @@ pub record PoolInstance : Type 0 where
   -- A collection frees cell 3. Where all cells are reached it changes nothing.
   pub answer : collectOf three ≡ (answered (2 ∷ 6 ∷ []), threeCollected)
   pub full : collectOf two ≡ (answered (2 ∷ 6 ∷ []), two)
-  -- With a lent stack of one word it does the same; none is not enough.
+  -- With a lent stack of one word it does the same, and also with none, as the two links that are unmarked are equal.
   pub stack : stackOf three (9 ∷ []) ≡ (answered (2 ∷ 1 ∷ []), threeCollected, 0 ∷ [])
-  pub no-stack : stackOf three [] ≡ (answered (2 ∷ 0 ∷ []), threeCollected, [])
+  pub no-stack : stackOf three [] ≡ (answered (2 ∷ 1 ∷ []), threeCollected, [])
 
 -- `RunFromLink`, from link 1, and `RunFromRoots` (that the roots are cells is `within .root` of GraphInstance).
 pub record ReversalInstance : Type 0 where
@@ -109,14 +111,21 @@ pub record GraphInstance : Type 0 where
   pub within-two : Within 2 (graph two) (roots two)
   pub lengths : length (roots three) ≡ length (roots two)
   pub paired : OneToOne (Paired (graph three) (roots three) (graph two) (roots two))
-  -- `StackEnds`, `StackMarksTheReached`, `StackBound`: cell 2 is met twice, and pushed once
-  pub turns : 2 * 3 ≤ 7
-  pub run : stackRun 3 (graph three) (roots three) ≡ (1 ∷ 2 ∷ 2 ∷ [], 1)
-  -- `StackCases`: of cell 1 both links are unmarked, of cell 2 the left one or none, of cell 3 the right one
-  pub both : (isUnmarked (1 ∷ []) (graph three .left 1) ≡ true) × (isUnmarked (1 ∷ []) (graph three .right 1) ≡ true)
+  -- `StackEnds`, `StackMarksTheReached`, `StackMarksOnce`, `StackBound`: cell 2 is both links of cell 1, and not pushed; of two leaves one is
+  pub turns : 3 ≤ 4
+  pub run : stackRun 3 (graph three) (roots three) ≡ (1 ∷ 2 ∷ [], 0)
+  pub run-fork : stackRun 3 (graph forkPool) (roots forkPool) ≡ (1 ∷ 2 ∷ 3 ∷ [], 1)
+  -- `StackCases`: of cell 1 both links are unmarked, and equal; of cell 2 the left one is or none, of cell 3 the right one; of a cell with two
+  -- leaves both are, and not equal
+  pub equal : (isUnmarked (1 ∷ []) (graph three .left 1) ≡ true) × (isUnmarked (1 ∷ []) (graph three .right 1) ≡ true)
+      × (graph three .left 1 ≡ graph three .right 1)
   pub left : (isUnmarked (2 ∷ []) (graph three .left 2) ≡ true) × (isUnmarked (2 ∷ []) (graph three .right 2) ≡ false)
   pub none : (isUnmarked (1 ∷ []) (graph three .left 2) ≡ false) × (isUnmarked (1 ∷ []) (graph three .right 2) ≡ false)
   pub right : (isUnmarked (1 ∷ []) (graph three .left 3) ≡ false) × (isUnmarked (1 ∷ []) (graph three .right 3) ≡ true)
+  pub both : (isUnmarked (1 ∷ []) (graph forkPool .left 1) ≡ true) × (isUnmarked (1 ∷ []) (graph forkPool .right 1) ≡ true)
+      × (graph forkPool .left 1 ≡ graph forkPool .right 1 → ⊥)
+  -- `EqualLinksNeedNone`
+  pub equal-links : (x : ℕ) → Reach (chain 3) (1 ∷ []) x → chain 3 .left x ≡ chain 3 .right x
 
 -- The number 300, with a byte before it and one behind it.
 abbrev pub around : List ℕ

@@ -8,7 +8,7 @@ use Rattle.answers.specs.Outcome.{answered}
 use Rattle.occupancy.specs.Occupancy.{occupancyOf}
 use Rattle.collector.specs.Collect.{collectOf}
 use Rattle.stack_marker.specs.StackCollect.{stackOf}
-use Rattle.stack_marker.specs.StackExample.{leafPool}
+use Rattle.stack_marker.specs.StackExample.{leafPool, forkPool}
 use Rattle.image.specs.Check.{checkOf}
 
 -- A case: the bytes of a number; bytes, and what the check of them as an image for a pool of one cell answers; a pool, and what its collection keeps and visits; a pool and a number
@@ -55,9 +55,12 @@ table =
     -- "N = 1, one cell linked to itself: kept 1, visits 3", "All registers nil: 0, 0"
     ∷ collection selfLinked 1 3
     ∷ collection unreached 0 0
-    -- "A cell with both links to one leaf: one stack word is enough, none is not."
+    -- "A cell with both links to one leaf: one stack word is enough", and 02, S-2: "the case of the leaf with two equal links becomes enough with none"
     ∷ stack leafPool 1 2 1
-    ∷ stack leafPool 0 2 0
+    ∷ stack leafPool 0 2 1
+    -- links to two leaves: one stack word is enough, none is not
+    ∷ stack forkPool 1 3 1
+    ∷ stack forkPool 0 3 0
     -- "Gauge 1 of 3: 33"
     ∷ percent 1 3 33
     ∷ []

@@ -53,19 +53,14 @@ fn chain(words: &mut [u32]) {
     calls::new(words, 0, 0, 0, 5);
 }
 
-// "Halving the stack bound: a chain with equal links needs N − 1 words." The pool is as it was after either, and so it collects the same.
+// "The chain of such cells needs no stack word where 01 said N − 1". The pool is as it was after each, and so it collects the same.
 fn equal_links() {
     let mut words = [0u32; 38];
-    let mut four = [0u32; 4];
-    let mut three = [0u32; 3];
+    let mut stack = [0u32; 1];
     chain(&mut words);
     show(
-        b"chain of 5 with equal links, 4 stack words: ",
-        stack_marker::collect_stack(&mut words, &mut four),
-    );
-    show(
-        b"chain of 5 with equal links, 3 stack words: ",
-        stack_marker::collect_stack(&mut words, &mut three),
+        b"chain of 5 with equal links, no stack word: ",
+        stack_marker::collect_stack(&mut words, &mut stack[..0]),
     );
     show(b"and then by reversal: ", collector::collect(&mut words));
     show(
@@ -74,18 +69,22 @@ fn equal_links() {
     );
 }
 
-// "Treating 003's listings as exact: Algorithm 5 reads cdr from car, and tests "both marked" twice." Register 0 leads to a cell with two leaves, of which
-// the right one must not be lost; register 1 to a cell whose right link alone leads on.
+// Fills a fresh pool of five: register 0 leads to a cell with two leaves, 1 and 2, and register 1 to a cell whose right link alone leads on, to 4.
+fn leaves(words: &mut [u32]) {
+    Pool::fresh(words);
+    calls::new(words, 1, 15, 15, 1);
+    calls::new(words, 2, 15, 15, 2);
+    calls::new(words, 0, 1, 2, 3);
+    calls::new(words, 2, 15, 15, 4);
+    calls::new(words, 1, 15, 2, 5);
+    calls::clear(words, 2);
+}
+
+// "Treating 003's listings as exact: Algorithm 5 reads cdr from car, and tests "both marked" twice." No right leaf must be lost.
 fn both_links_are_read() {
     let mut words = [0u32; 38];
     let mut stack = [0u32; 1];
-    Pool::fresh(&mut words);
-    calls::new(&mut words, 1, 15, 15, 1);
-    calls::new(&mut words, 2, 15, 15, 2);
-    calls::new(&mut words, 0, 1, 2, 3);
-    calls::new(&mut words, 2, 15, 15, 4);
-    calls::new(&mut words, 1, 15, 2, 5);
-    calls::clear(&mut words, 2);
+    leaves(&mut words);
     show(
         b"a cell with two leaves, and one with a right leaf, 1 stack word: ",
         stack_marker::collect_stack(&mut words, &mut stack),
@@ -99,19 +98,22 @@ fn both_links_are_read() {
     show(b"that of the other right leaf: ", calls::value(&words, 2));
 }
 
-// "Leaving links rotated when a stack overflow falls back": both links of the first cell still lead to the second, whose value is 4.
+// "Leaving links rotated when a stack overflow falls back": the two leaves are left and right as they were.
 fn links_after_falling_back() {
     let mut words = [0u32; 38];
     let mut stack = [0u32; 1];
-    chain(&mut words);
+    leaves(&mut words);
     show(
-        b"chain of 5 with equal links, no stack word: ",
+        b"the same, no stack word: ",
         stack_marker::collect_stack(&mut words, &mut stack[..0]),
     );
-    calls::left(&mut words, 1, 0);
+    calls::left(&mut words, 2, 0);
+    show(
+        b"the value of the left one of the two leaves: ",
+        calls::value(&words, 2),
+    );
     calls::right(&mut words, 2, 0);
-    show(b"left and right are the same: ", calls::same(&words, 1, 2));
-    show(b"the value there: ", calls::value(&words, 1));
+    show(b"that of the right one: ", calls::value(&words, 2));
 }
 
 // "Clearing r before "new" collects: r may be a or b, and its old cell is live to the ledger."

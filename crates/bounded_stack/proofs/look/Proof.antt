@@ -1,9 +1,9 @@
--- `bounded_stack::look` meets its contract: at each return the two tests decide the definition's.
+-- `bounded_stack::look` meets its contract: at each return the tests decide the definition's.
 use borrow.Author.Needs.{needs}
 use Rattle.bounded_stack.proofs.look.Statement.{statement}
 use Rattle.bounded_stack.proofs.look.Tie as tie
 use mathlib.Core.Path.{sym, _∙_}
-use Rattle.bounded_stack.proofs.Simulation.{look-made}
+use Rattle.bounded_stack.proofs.Simulation.{look-made, look-equal, look-both}
 
 link-of-requires : tie.Need-link-of-requires
 link-of-requires c κs = search needs
@@ -22,19 +22,32 @@ is-unmarked-requires-3 c κs = search needs
 
 returns : tie.Need-returns
 returns c =
-    look-made _ _ _ _ _ (c .before .before .before .before .before .link-of .ensures) (c .before .before .before .before .link-of2 .ensures) (sym (c .before .before .if1 .taken) ∙ c .before .before .before .is-unmarked .ensures) (sym (c .if2 .taken) ∙ c .before .is-unmarked2 .ensures)
+    let at-unmarked = c .before .before in
+    look-equal _ _ _ _ _ (at-unmarked .before .before .link-of .ensures) (at-unmarked .before .link-of2 .ensures) (sym (c .before .if1 .taken) ∙ at-unmarked .is-unmarked .ensures) (c .if2 .taken)
 
 returns-2 : tie.Need-returns-2
 returns-2 c =
-    look-made _ _ _ _ _ (c .before .before .before .before .before .link-of .ensures) (c .before .before .before .before .link-of2 .ensures) (sym (c .before .before .if1 .taken) ∙ c .before .before .before .is-unmarked .ensures) (sym (c .if2 .left) ∙ c .before .is-unmarked2 .ensures)
+    let at-if1 = c .before .before .before in
+    let at-unmarked = at-if1 .before in
+    look-both _ _ _ _ _ (at-unmarked .before .before .link-of .ensures) (at-unmarked .before .link-of2 .ensures) (sym (at-if1 .if1 .taken) ∙ at-unmarked .is-unmarked .ensures) (sym (c .if3 .taken) ∙ c .before .is-unmarked2 .ensures) (c .before .before .if2 .left)
 
 returns-3 : tie.Need-returns-3
 returns-3 c =
-    look-made _ _ _ _ _ (c .before .before .before .before .before .link-of .ensures) (c .before .before .before .before .link-of2 .ensures) (sym (c .before .before .if1 .left) ∙ c .before .before .before .is-unmarked .ensures) (sym (c .if3 .taken) ∙ c .before .is-unmarked3 .ensures)
+    let at-if1 = c .before .before .before in
+    let at-unmarked = at-if1 .before in
+    look-made _ _ _ _ _ (at-unmarked .before .before .link-of .ensures) (at-unmarked .before .link-of2 .ensures) (sym (at-if1 .if1 .taken) ∙ at-unmarked .is-unmarked .ensures) (sym (c .if3 .left) ∙ c .before .is-unmarked2 .ensures)
 
 returns-4 : tie.Need-returns-4
 returns-4 c =
-    look-made _ _ _ _ _ (c .before .before .before .before .before .link-of .ensures) (c .before .before .before .before .link-of2 .ensures) (sym (c .before .before .if1 .left) ∙ c .before .before .before .is-unmarked .ensures) (sym (c .if3 .left) ∙ c .before .is-unmarked3 .ensures)
+    let at-if1 = c .before .before in
+    let at-unmarked = at-if1 .before in
+    look-made _ _ _ _ _ (at-unmarked .before .before .link-of .ensures) (at-unmarked .before .link-of2 .ensures) (sym (at-if1 .if1 .left) ∙ at-unmarked .is-unmarked .ensures) (sym (c .if4 .taken) ∙ c .before .is-unmarked3 .ensures)
+
+returns-5 : tie.Need-returns-5
+returns-5 c =
+    let at-if1 = c .before .before in
+    let at-unmarked = at-if1 .before in
+    look-made _ _ _ _ _ (at-unmarked .before .before .link-of .ensures) (at-unmarked .before .link-of2 .ensures) (sym (at-if1 .if1 .left) ∙ at-unmarked .is-unmarked .ensures) (sym (c .if4 .left) ∙ c .before .is-unmarked3 .ensures)
 
 pub look-spec : {M : Type 1} → statement M
 look-spec =
@@ -48,4 +61,5 @@ look-spec =
     returns
     returns-2
     returns-3
-    returns-4)
+    returns-4
+    returns-5)
