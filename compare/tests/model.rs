@@ -42,6 +42,7 @@ fn three_markers_of_the_model_agree() {
         assert!(in_hand.iter().eq(&reached), "each cell that is reached is in hand once");
         // A push marks two cells, and the first cell was marked before.
         assert!(pool.stack_needed() <= reached.len().saturating_sub(1) / 2);
+        assert!(pool.stack_needed() <= told_apart(&pool).stack_needed(), "a stack that was enough still is");
     }
 }
 

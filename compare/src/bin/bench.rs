@@ -46,8 +46,7 @@ fn now() -> Duration {
 /// Cells of the pools, but for the growth with their number.
 const CELLS: usize = 4000;
 
-/// Random graphs that take turns: a processor's branch prediction learns one that comes again and again by heart, or does not,
-/// by how the code happens to lie.
+/// Random graphs that take turns: a processor's branch prediction learns one that comes again and again by heart.
 const RANDOM_GRAPHS: usize = 16;
 
 struct Bench {

@@ -124,7 +124,7 @@ module _ (R n : ℕ) (pool : List ℕ) (well : WellFormed R n pool) (room : pool
     running-length s = ap length (s .words) ∙ length-markAll R pool (s .seen)
 
     -- what is pending is a reached cell, and its links are those of the pool
-    pub running-reached : {p : ℕ} {stack : List ℕ} → Running R n pool lent end w (p ∷ stack) → Reach (graphOf R pool) (rootsOf R pool) p
+    running-reached : {p : ℕ} {stack : List ℕ} → Running R n pool lent end w (p ∷ stack) → Reach (graphOf R pool) (rootsOf R pool) p
     running-reached {p} s = s .going .cells p (s .going .held p (List·Memᴰ·head refl))
 
     pub running-cell : {p : ℕ} {stack : List ℕ} → Running R n pool lent end w (p ∷ stack)

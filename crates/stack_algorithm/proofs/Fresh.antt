@@ -78,23 +78,24 @@ passing test l r = go (test l) (test r) refl refl
     Link : ℕ → Type 0
     Link x = (x ≡ l) ⊎ (x ≡ r)
 
-    one : (x : ℕ) → Distinct (x ∷ [])
-    one x = Distinct.more List·Memᴰ·not-nil Distinct.none
-
-    equal : (t : Bool) → eqb l r ≡ t → Pass l → Pass r → Passing test l r (cond t (l ∷ []) (l ∷ r ∷ []))
-    equal true e pl pr =
+    single : (x : ℕ) → Pass x → Link x → (Pass l → List·Memᴰ l (x ∷ [])) → (Pass r → List·Memᴰ r (x ∷ [])) → Passing test l r (x ∷ [])
+    single x pass link left right =
         record {
           short = omega arith;
-          distinct = one l;
-          passes = each-cons Pass pl (each-nil Pass);
-          links = each-cons Link (inl refl) (each-nil Link);
-          left = λ _. List·Memᴰ·head refl;
-          right = λ _. List·Memᴰ·head (sym (eqb-true l r e));
+          distinct = Distinct.more List·Memᴰ·not-nil Distinct.none;
+          passes = each-cons Pass pass (each-nil Pass);
+          links = each-cons Link link (each-nil Link);
+          left = left;
+          right = right;
         }
+
+    equal : (t : Bool) → eqb l r ≡ t → Pass l → Pass r → Passing test l r (cond t (l ∷ []) (l ∷ r ∷ []))
+    equal true e pl pr = single l pl (inl refl) (λ _. List·Memᴰ·head refl) (λ _. List·Memᴰ·head (sym (eqb-true l r e)))
     equal false e pl pr =
         record {
           short = omega arith;
-          distinct = Distinct.more (λ mem. eqb-false l r e (List·Memᴰ·eq-of-singleton mem)) (one r);
+          distinct =
+              Distinct.more (λ mem. eqb-false l r e (List·Memᴰ·eq-of-singleton mem)) (Distinct.more List·Memᴰ·not-nil Distinct.none);
           passes = each-cons Pass pl (each-cons Pass pr (each-nil Pass));
           links = each-cons Link (inl refl) (each-cons Link (inr refl) (each-nil Link));
           left = λ _. List·Memᴰ·head refl;
@@ -103,24 +104,8 @@ passing test l r = go (test l) (test r) refl refl
 
     go : (a b : Bool) → test l ≡ a → test r ≡ b → Passing test l r (unmarkedLinks a b l r)
     go true true ea eb = equal (eqb l r) refl ea eb
-    go true false ea eb =
-        record {
-          short = omega arith;
-          distinct = one l;
-          passes = each-cons Pass ea (each-nil Pass);
-          links = each-cons Link (inl refl) (each-nil Link);
-          left = λ _. List·Memᴰ·head refl;
-          right = λ e. absurd (true≢false (sym e ∙ eb));
-        }
-    go false true ea eb =
-        record {
-          short = omega arith;
-          distinct = one r;
-          passes = each-cons Pass eb (each-nil Pass);
-          links = each-cons Link (inr refl) (each-nil Link);
-          left = λ e. absurd (true≢false (sym e ∙ ea));
-          right = λ _. List·Memᴰ·head refl;
-        }
+    go true false ea eb = single l ea (inl refl) (λ _. List·Memᴰ·head refl) (λ e. absurd (true≢false (sym e ∙ eb)))
+    go false true ea eb = single r eb (inr refl) (λ e. absurd (true≢false (sym e ∙ ea))) (λ _. List·Memᴰ·head refl)
     go false false ea eb =
         record {
           short = omega arith;

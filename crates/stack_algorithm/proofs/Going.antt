@@ -31,6 +31,10 @@ links-reached {g} {roots} {p} seen reached x mem =
     let some = fresh-true seen x (f .passes x mem) .0 in
     ⊎-elim (λ e. rw e (Reach.left reached (rw e at some))) (λ e. rw e (Reach.right reached (rw e at some))) (f .links x mem)
 
+-- links that are nil or marked stay so
+links-kept : {seen : List ℕ} (g : Graph) (x : ℕ) (new : List ℕ) → LinksSeen g seen x → LinksSeen g (seen ++ new) x
+links-kept g x new k = (λ h. Memᴰ·append-left new (k .0 h), λ h. Memᴰ·append-left new (k .1 h))
+
 -- The turns are enough: one for each cell that is pending, and one for each of the n cells that is not marked.
 abbrev pub Lasting : ℕ → ℕ → List ℕ → List ℕ → Type 0
 Lasting n turns seen pending = n + length pending ≤ turns + length seen
@@ -66,14 +70,11 @@ module _ {g : Graph} {roots seen stack : List ℕ} {p : ℕ} (s : Going g roots 
   pub turn : Going g roots (seen ++ onward g seen p) (onward g seen p ++ stack)
   turn =
       join stack (onward g seen p) (s .cells) (s .distinct) (λ x mem. s .held x (List·Memᴰ·tail mem))
-      (λ x mem. ⊎-elim (λ k. ⊎-elim (λ e. inr (rw e linked)) inl (List·Memᴰ·cases-cons k)) (λ k. inr (kept k)) (s .closed x mem))
+      (λ x mem. ⊎-elim (λ k. ⊎-elim (λ e. inr (rw e linked)) inl (List·Memᴰ·cases-cons k)) (λ k. inr (links-kept g x (onward g seen p) k)) (s .closed x mem))
       (omega (arith, s .few, f .short)) (links-reached seen (s .cells p (s .held p (List·Memᴰ·head refl)))) (f .passes) (f .distinct)
     where
       f : Passing (isUnmarked seen) (g .left p) (g .right p) (onward g seen p)
       f = passing (isUnmarked seen) (g .left p) (g .right p)
-
-      kept : {x : ℕ} → LinksSeen g seen x → LinksSeen g (seen ++ onward g seen p) x
-      kept k = (λ h. Memᴰ·append-left (onward g seen p) (k .0 h), λ h. Memᴰ·append-left (onward g seen p) (k .1 h))
 
       now : (x : ℕ) → (isUnmarked seen x ≡ true → List·Memᴰ x (onward g seen p)) → 0 < x → List·Memᴰ x (seen ++ onward g seen p)
       now x new some = go (isUnmarked seen x) refl
@@ -97,7 +98,7 @@ begin {g} {roots} {seen} s p reach = go (isUnmarked seen p) refl
     go true e =
         rw (append-nil (p ∷ [])) at
         (join [] (p ∷ []) (s .cells) (s .distinct) (each-nil (λ x. List·Memᴰ x seen))
-        (λ x mem. ⊎-elim (λ k. inl k) (λ k. inr (λ h. Memᴰ·append-left (p ∷ []) (k .0 h), λ h. Memᴰ·append-left (p ∷ []) (k .1 h))) (s .closed x mem))
+        (λ x mem. ⊎-elim (λ k. inl k) (λ k. inr (links-kept g x (p ∷ []) k)) (s .closed x mem))
         (omega arith) (each-cons (Reach g roots) (reach (fresh-true seen p e .0)) (each-nil (Reach g roots)))
         (each-cons (λ x. isUnmarked seen x ≡ true) e (each-nil (λ x. isUnmarked seen x ≡ true))) (Distinct.more List·Memᴰ·not-nil Distinct.none))
 
@@ -142,7 +143,7 @@ module _ {n : ℕ} {g : Graph} {roots : List ℕ} (within : Within n g roots) wh
     pub ended : Ended seen end
     pub rooted : Each (λ x. 0 < x → List·Memᴰ x (end .0)) ps
 
-  pub all-ended : (turns : ℕ) → n ≤ turns → (ps seen : List ℕ) → Each (λ x. 0 < x → Reach g roots x) ps → Going g roots seen []
+  all-ended : (turns : ℕ) → n ≤ turns → (ps seen : List ℕ) → Each (λ x. 0 < x → Reach g roots x) ps → Going g roots seen []
       → AllEnded seen ps (runs turns g seen ps)
   unfolding runs
   all-ended turns many [] seen reach s =
@@ -176,7 +177,7 @@ module _ {n : ℕ} {g : Graph} {roots : List ℕ} (within : Within n g roots) wh
       (ap (holding (run n g (seen ++ taken seen p) (taken seen p) .1))
       (all-longer turns many ps (run n g (seen ++ taken seen p) (taken seen p) .0) (λ x mem. reach x (List·Memᴰ·tail mem)) (first .going)))
 
-  pub stack-ended : AllEnded [] roots (stackRun n g roots)
+  stack-ended : AllEnded [] roots (stackRun n g roots)
   stack-ended = all-ended n (omega arith) roots [] (λ x mem. Reach.root mem) (going-first g roots)
 
 pub stack-ends : StackEnds

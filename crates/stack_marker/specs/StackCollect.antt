@@ -12,7 +12,7 @@ use Rattle.reversal.specs.Reached.{reachedCount}
 use Rattle.collector.specs.Collect.{collected}
 use Rattle.stack_algorithm.specs.Stack.{maxEntries}
 
--- "whether the stack was enough, yes exactly when Algorithm 2 never holds more entries than there are words"; two equal unmarked links take none (02, S-2)
+-- "whether the stack was enough, yes exactly when Algorithm 2 never holds more entries than there are words"; two equal unmarked links add no entry (02, S-2)
 abbrev pub isEnough : ℕ → List ℕ → List ℕ → Bool
 isEnough n w stack = leb (maxEntries n (graphOf registerCount w) (rootsOf registerCount w)) (length stack)
 
