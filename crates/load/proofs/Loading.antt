@@ -14,7 +14,7 @@ use Rattle.pool.specs.Layout.{registerCount, firstRegister, firstCell, poolLeng
 use Rattle.pool.specs.Retain.{blankWords, retain, markedCell, sweepOf}
 use Rattle.answers.specs.Outcome.{refusalNumber}
 use Rattle.answers.specs.declared.Refusal.{Refusal}
-use Rattle.pool.proofs.Sizes.{Sized, length-sized}
+use Rattle.pool.proofs.Sizes.{counted-sized}
 use Rattle.pool.proofs.Retained.{Elsewhere, retain-cong}
 use Rattle.pool.proofs.FreshPool.{blank-length}
 use Rattle.image.specs.declared.Scan.{Scan}
@@ -166,9 +166,6 @@ module _ (w bytes : List ℕ) (n : ℕ) (cells : n ≡ cellCountOfLength registe
   load-no-pool v none e = simp (← cells, none, e)
 
   module _ (some : n ≡ 0 → ⊥) where
-    pub load-sized : Sized registerCount (length w) n
-    load-sized = rw cells (length-sized registerCount (length w) (omega (arith, some)))
-
     load-pool : (read : Parsed Image) → readImage registerCount n bytes ≡ read → loadOf w bytes ≡ loadImage registerCount n read (length bytes) w
     load-pool read e = simp (← cells, lt-ltb 0 n (omega (arith, some)), e)
 
@@ -185,7 +182,7 @@ module _ (w bytes : List ℕ) (n : ℕ) (cells : n ≡ cellCountOfLength registe
           let i = scanned _ K end (sym e ∙ says) in
           let r = image-read registerCount n bytes (i .image) end (i .whole) in
           let put = fill (i .image) end (i .whole) in
-          let room : poolLength registerCount n ≤ length w = load-sized .room in
+          let room : poolLength registerCount n ≤ length w = counted-sized registerCount (length w) cells some .room in
           let first : MarkedFirst registerCount (length (i .image .cells)) n (set (putImage registerCount (i .image) w) 0 n) marked =
           subst (λ (k : ℕ). MarkedFirst registerCount k n (set (putImage registerCount (i .image) w) 0 n) marked) (sym (i .number))
           (subst (λ (f : List ℕ). MarkedFirst registerCount K n (set f 0 n) marked) put marks) in

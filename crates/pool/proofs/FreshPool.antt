@@ -2,9 +2,9 @@
 use Prim.Native.Nat.{ℕ, zero, suc, _+_, _*_, _<_, _≤_}
 use native.Mathlib.Omega.{arith}
 use mathlib.Core.Path.{_≡_, refl, ap, _∙_}
-use mathlib.Core.List.{List, [], _∷_, _++_, append-nil}
+use mathlib.Core.List.{List, [], _∷_, _++_}
 use mathlib.Core.Bool.{false}
-use lib.ListN.{length, getD, set, drop, replicate, length-replicate, length-append, length-drop, length-set, drop-of-length-le, List·getD-append}
+use lib.ListN.{length, getD, set, take, drop, replicate, length-replicate, length-append, length-take, length-drop, length-set, drop-of-length-le, List·getD-append}
 use lib.Seq.{getD-set-other}
 use borrow.Author.Tests.{lt-ltb}
 use Rattle.pool.specs.Words.{tabulate}
@@ -12,7 +12,7 @@ use Rattle.pool.specs.Layout.{registerCount, firstRegister, poolLength, 
 use Rattle.pool.specs.Retain.{freeCells, markedCell, sweepOf, blankWords, freshWords}
 use Rattle.answers.specs.Outcome.{Outcome, answered}
 use Rattle.pool.specs.Fresh.{freshOf, FreshIsFree}
-use Rattle.pool.proofs.Sizes.{length-exact}
+use Rattle.pool.proofs.Sizes.{counted-sized}
 use Rattle.pool.proofs.Every.{tabulate-list, tabulate-cong}
 use Rattle.pool.proofs.Retained.{retain-cong}
 use Rattle.pool.proofs.RetainedPool.{retained-free-list}
@@ -34,7 +34,7 @@ module _ (R n : ℕ) (w : List ℕ) (room : poolLength R n ≤ length w) where
   unfolding count setCount
   blank-count = let place : poolLength R n ≡ suc (1 + R + 4 * n) = omega arith in rw place refl
 
-  blank-zero : (k : ℕ) → 0 < k → k < poolLength R n → getD (blankWords R n w) k 0 ≡ 0
+  pub blank-zero : (k : ℕ) → 0 < k → k < poolLength R n → getD (blankWords R n w) k 0 ≡ 0
   unfolding setCount
   blank-zero k low high =
       getD-set-other (replicate (poolLength R n) 0 ++ drop (poolLength R n) w) 0 k n 0 (λ e. omega arith)
@@ -62,21 +62,23 @@ fresh-exact R n w exact =
     let empty : drop {A = ℕ} (poolLength R n) [] ≡ [] = drop-of-length-le [] {i = poolLength R n} (omega arith) in
     rw (none, empty) refl
 
--- what `Pool::fresh` leaves where the length is that of n cells: the words are cleared, n goes to word 0, and the sweep makes the chain
-module _ (w : List ℕ) (n : ℕ) (cells : n ≡ cellCountOfLength registerCount (length w)) (some : n ≡ 0 → ⊥) where
-  pub fresh-length : length w ≡ poolLength registerCount n
-  fresh-length = rw cells (length-exact registerCount (length w) (omega (arith, some)))
+-- what `blank` leaves: the part that is cleared, what stands behind it, and n in word 0
+pub blank-made : (n : ℕ) (w part : List ℕ) → poolLength registerCount n ≤ length w → part ≡ replicate (length (take (poolLength registerCount n) w)) 0
+    → set (part ++ drop (poolLength registerCount n) w) 0 n ≡ blankWords registerCount n w
+unfolding setCount
+blank-made n w part room clear =
+    let all : length (take (poolLength registerCount n) w) ≡ poolLength registerCount n = simp length-take (omega arith) in
+    rw (clear, all) refl
 
-  pub fresh-made : (cleared swept : List ℕ) (kept : ℕ) → cleared ≡ replicate (length w) 0
-      → _≡_ {A = ℕ × List ℕ} (kept, swept) (sweepOf registerCount n (set cleared 0 n))
+-- what `Pool::fresh` leaves where the length is that of n cells: n goes to word 0, all else is cleared, and the sweep makes the chain
+module _ (w : List ℕ) (n : ℕ) (cells : n ≡ cellCountOfLength registerCount (length w)) (some : n ≡ 0 → ⊥) where
+  pub fresh-made : (blank swept : List ℕ) (kept : ℕ) → blank ≡ blankWords registerCount n w
+      → _≡_ {A = ℕ × List ℕ} (kept, swept) (sweepOf registerCount n blank)
       → _≡_ {A = Outcome × List ℕ} (answered (n ∷ []), swept) (freshOf w)
-  unfolding setCount
-  fresh-made cleared swept kept clear sweep =
-      let behind : drop (poolLength registerCount n) w ≡ [] = drop-of-length-le w {i = poolLength registerCount n} (omega (arith, fresh-length)) in
-      let start : set cleared 0 n ≡ blankWords registerCount n w = rw (clear, fresh-length, behind, append-nil {A = ℕ} (replicate (poolLength registerCount n) 0)) refl in
+  fresh-made blank swept kept start sweep =
       let words : swept ≡ freshWords registerCount n w =
       ap (λ (x : ℕ × List ℕ). x .1) sweep
-      ∙ (ap (λ (u : List ℕ). sweepOf registerCount n u .1) start ∙ swept-blank registerCount n w (omega (arith, fresh-length))) in
+      ∙ (ap (λ (u : List ℕ). sweepOf registerCount n u .1) start ∙ swept-blank registerCount n w (counted-sized registerCount (length w) cells some .room)) in
       simp (← cells, lt-ltb 0 n (omega (arith, some)), words)
 
 -- with no cell kept, the free cells are all cells, in order

@@ -53,6 +53,10 @@ pub length-sized : (R len : ℕ) → 0 < cellCountOfLength R len → Sized R len
 length-sized R len some =
     let e = exact R len some in record { counted = refl; room = omega (arith, e .same); least = e .least; most = e .most }
 
+-- the same of the number that the code has counted
+pub counted-sized : (R len : ℕ) {n : ℕ} → n ≡ cellCountOfLength R len → (n ≡ 0 → ⊥) → Sized R len n
+counted-sized R len cells some = rw cells (length-sized R len (omega (arith, some)))
+
 -- and the other way round
 pub sized-length : (R n : ℕ) → 1 ≤ n → n ≤ cellLimit → cellCountOfLength R (poolLength R n) ≡ n
 unfolding cellCountOfLength

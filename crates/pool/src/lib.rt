@@ -9,7 +9,7 @@ ghost use Prim.Native.Nat.{_+_, _<_, _≤_};
 ghost use lib.ListN.{length, replicate};
 ghost use Rattle.pool.specs.Layout.{registerCount, poolLength, cellCountOfLength, cell, setCell, putCell, linkOf, register, setRegister, head, setHead};
 ghost use Rattle.pool.specs.States.{isUsed, isMarked, isFree, markCell, unmarkCell};
-ghost use Rattle.pool.specs.Retain.{sweepOf};
+ghost use Rattle.pool.specs.Retain.{sweepOf, blankWords};
 ghost use Rattle.answers.specs.Outcome.{answerOutcome};
 ghost use Rattle.pool.specs.Fresh.{freshOf};
 
@@ -57,8 +57,7 @@ impl Pool {
         if n == 0 {
             return Answer::Refused(Refusal::Size);
         }
-        clear(words);
-        words[Pool::COUNT] = n;
+        blank(words, n);
         sweep(words, n);
         Answer::Number(n)
     }
@@ -197,6 +196,16 @@ pub fn sweep(words: &mut [u32], n: u32) -> u32
     }
     write_head(words, next);
     kept
+}
+
+// Writes n to word 0 and 0 to every other word of a pool of n cells.
+pub fn blank(words: &mut [u32], n: u32)
+    requires { ⌜ poolLength registerCount n ≤ length (now words) ⌝ }
+    ensures { λ _. ⌜ now (words .exit) ≡ blankWords registerCount n (now (words .entry)) ⌝ }
+{
+    let end = Pool::FIRST_CELL + Pool::CELL_WORDS * (n as usize);
+    clear(&mut words[..end]);
+    words[Pool::COUNT] = n;
 }
 
 // Sets every word to 0.

@@ -4,12 +4,11 @@ use Rattle.load.proofs.load_at.Statement.{statement}
 use Rattle.load.proofs.load_at.Tie as tie
 use native.Mathlib.Omega.{arith}
 use mathlib.Core.Path.{_∙_}
-use mathlib.Core.List.{[]}
 use lib.ListN.{length, length-set}
 use denote.Ref.{now}
 use Rattle.pool.specs.Layout.{registerCount}
-use Rattle.pool.proofs.Sizes.{Sized}
-use Rattle.load.proofs.Loading.{load-no-pool, load-sized, load-refused, load-whole}
+use Rattle.pool.proofs.Sizes.{Sized, counted-sized}
+use Rattle.load.proofs.Loading.{load-no-pool, load-refused, load-whole}
 
 cell-count-of-length-requires : tie.Need-cell-count-of-length-requires
 cell-count-of-length-requires c κs = search needs
@@ -22,7 +21,7 @@ returns c = load-no-pool _ _ _ (c .before .before .cell-count-of-length .ensures
 
 -- the words are a pool's
 sized : (c : tie.Else1) → Sized registerCount (length (now (c .before .before .before .before .args .words))) (c .before .cell-count-of-length .result)
-sized c = load-sized (now (c .before .before .before .before .args .words)) [] _ (c .before .cell-count-of-length .ensures) (c .if1 .left)
+sized c = counted-sized registerCount (length (now (c .before .before .before .before .args .words))) (c .before .cell-count-of-length .ensures) (c .if1 .left)
 
 scan-image-requires : tie.Need-scan-image-requires
 scan-image-requires c κs = search needs
