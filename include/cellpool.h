@@ -28,12 +28,12 @@
  *     byte for byte: loaded and saved again, it is the same bytes.
  *
  * The archive is for x86-64 in ELF only, with the System V calling convention, and position independent. It has the
- * instructions that every x86-64 processor has, SSE2 among them (today in cellpool_collect_stack alone), no x87, MMX or
- * AVX, and needs nothing but memset. Each function is in a section of its own, so that the linker may drop what is not
- * called (--gc-sections).
+ * instructions that every x86-64 processor has, SSE2 among them (today in cellpool_collect_stack and cellpool_worst_case
+ * alone), no x87, MMX or AVX, and needs nothing but memset. Each function is in a section of its own, so that the linker
+ * may drop what is not called (--gc-sections).
  *
- * Interrupts: the archive uses the red zone, the 128 bytes below the stack pointer that the calling convention gives to a
- * function that calls no other (today in cellpool_load and cellpool_check_image). An interrupt handler on the same stack
+ * Interrupts: the archive may use the red zone, the 128 bytes below the stack pointer that the calling convention gives to
+ * a function that calls no other (today no function does, another version may). An interrupt handler on the same stack
  * must leave these bytes alone: give it a stack of its own (on x86-64 an entry of the interrupt stack table), or let it
  * step over them first. It must keep the xmm registers that it uses itself, and not use a pool that is in use.
  *
@@ -57,6 +57,7 @@
  *   cellpool_collect             linear                                             160
  *   cellpool_collect_tally       linear                                             192
  *   cellpool_collect_stack       linear, and linear in stack_len                    160
+ *   cellpool_worst_case          linear                                             96
  *   cellpool_collect_recursive   linear                                             6144
  *   cellpool_save                linear, and linear in scratch_len                  320
  *   cellpool_load                linear                                             256
@@ -79,9 +80,10 @@
  * writes has not changed, and is accepted by both.
  * 3.0.0: cellpool_collect_stack takes no stack word for a cell with two equal links, where 2.0.0 took one: *enough may be
  * 1 where it was 0. A stack that was enough still is, and the cells kept are the same.
+ * 3.1.0: cellpool_worst_case and CELLPOOL_STACK come beside what 3.0.0 has.
  */
 #define CELLPOOL_VERSION_MAJOR 3
-#define CELLPOOL_VERSION_MINOR 0
+#define CELLPOOL_VERSION_MINOR 1
 #define CELLPOOL_VERSION_PATCH 0
 #define CELLPOOL_VERSION (10000 * CELLPOOL_VERSION_MAJOR + 100 * CELLPOOL_VERSION_MINOR + CELLPOOL_VERSION_PATCH)
 
@@ -105,6 +107,9 @@ extern "C" {
 /* Words of a pool of n cells, and words of scratch that cellpool_save needs. */
 #define CELLPOOL_WORDS(n) (18u + 4u * (n))
 #define CELLPOOL_SCRATCH(n) (2u * (n))
+/* Words of stack that are enough for cellpool_collect_stack on every pool of n cells, and just as many as that of
+   cellpool_worst_case takes. 0 for two cells and fewer (an array of C has one element at least). n is evaluated twice. */
+#define CELLPOOL_STACK(n) ((n) == 0 ? 0u : ((n) - 1u) / 2u)
 /* Bytes that hold every image of k cells, whoever wrote it: K and 16 registers of at most 2 bytes, links of 2 and a
    value of 5. */
 #define CELLPOOL_IMAGE_BYTES(k) (34u + 9u * (k))
@@ -216,10 +221,19 @@ uint32_t cellpool_collect_tally(uint32_t *words, size_t len, uint32_t *collectio
 /* As cellpool_collect, marking with a stack of stack_len lent words, which end 0. Where they are too few, link
    reversal does the work. *enough becomes 1 if they were enough, else 0. A word is held for a cell whose links lead to
    two different cells, both not marked yet, until it is the turn of the right one; two equal links take no word, and
-   neither does a link beside nil. (N - 1) / 2 words, rounded down, are enough for every pool of N cells. Refused: 1, 3. */
+   neither does a link beside nil. (N - 1) / 2 words, rounded down (CELLPOOL_STACK), are enough for every pool of N
+   cells. Refused: 1, 3. */
 CELLPOOL_MUST_USE
 uint32_t cellpool_collect_stack(uint32_t *words, size_t len, uint32_t *stack, size_t stack_len, uint32_t *kept,
                                 uint32_t *enough);
+
+/* Make the words a pool for which cellpool_collect_stack holds the most stack words: N by the length alone, all cells
+   used and reached from register 0, which holds cell 1, registers 1 to 15 nil, the head 0, all values 0. If i is odd,
+   the left link of cell i is i + 2 and the right one i + 1, each nil where that is above N; if i is even, both are nil.
+   *entries becomes the words held, (N - 1) / 2, rounded down: no well-formed pool of N cells takes more, whatever its
+   registers hold, so a stack of that many words (CELLPOOL_STACK) is always enough. Refused: 1. */
+CELLPOOL_MUST_USE
+uint32_t cellpool_worst_case(uint32_t *words, size_t len, uint32_t *entries);
 
 /* As cellpool_collect, marking recursively: for the test bench and pools of at most 64 cells. Refused: 1, 11, 3. */
 CELLPOOL_MUST_USE

@@ -286,6 +286,20 @@ uint32_t NAME(collect_stack)(uint32_t *words, size_t len, uint32_t *stack, size_
     return CELLPOOL_OK;
 }
 
+uint32_t NAME(worst_case)(uint32_t *words, size_t len, uint32_t *entries) {
+    uint32_t n = cells_of(len);
+    if (n == 0) return CELLPOOL_REFUSED_SIZE;
+    memset(words, 0, len * sizeof *words);
+    words[0] = n;
+    REGISTER(0) = 1;
+    for (uint32_t i = 1; i < n; i += 2) {
+        cell(words, i)[LEFT] = i + 2 <= n ? i + 2 : 0;
+        cell(words, i)[RIGHT] = i + 1;
+    }
+    *entries = (n - 1) / 2;
+    return CELLPOOL_OK;
+}
+
 uint32_t NAME(collect_recursive)(uint32_t *words, size_t len, uint32_t *kept, uint32_t *visits) {
     uint32_t n = size_of(words, len);
     if (n == 0) return CELLPOOL_REFUSED_SIZE;

@@ -18,6 +18,7 @@ uint32_t baseline_same(const uint32_t *, size_t, uint32_t, uint32_t, uint32_t *)
 uint32_t baseline_collect(uint32_t *, size_t, uint32_t *, uint32_t *);
 uint32_t baseline_collect_tally(uint32_t *, size_t, uint32_t *, uint32_t *, uint32_t *, uint32_t *);
 uint32_t baseline_collect_stack(uint32_t *, size_t, uint32_t *, size_t, uint32_t *, uint32_t *);
+uint32_t baseline_worst_case(uint32_t *, size_t, uint32_t *);
 uint32_t baseline_collect_recursive(uint32_t *, size_t, uint32_t *, uint32_t *);
 uint32_t baseline_save(const uint32_t *, size_t, uint32_t *, size_t, uint8_t *, size_t, size_t *);
 uint32_t baseline_load(uint32_t *, size_t, const uint8_t *, size_t, size_t *);

@@ -7,9 +7,10 @@
  *
  * The blocks stand against pages that may be neither read nor written, so that also an archive compiled without a sanitizer
  * is caught at the first access outside. The library is compared with itself too: a refusal is one that the header lists with
- * its function and changes nothing but what the header names, the forms of collect agree, an image that was saved loads and
- * saves as the same bytes, while every cut of it is refused, and any image that loads is saved as the bytes that were read
- * exactly if its cells are numbered in the order of the visits.
+ * its function and changes nothing but what the header names, the forms of collect agree, the worst case for the stack takes
+ * just as many words as are answered, an image that was saved loads and saves as the same bytes, while every cut of it is
+ * refused, and any image that loads is saved as the bytes that were read exactly if its cells are numbered in the order of
+ * the visits.
  *
  * With -DSTANDALONE a main is added that runs pseudo-random inputs: fuzz [inputs [seed]].
  */
@@ -68,7 +69,7 @@ static uint32_t cells;
 
 enum {
     COPY, CLEAR, NEW, LEFT, RIGHT, SETLEFT, SETRIGHT, SETVALUE, VALUE, SAME, COLLECT,
-    FRESH, TALLY, STACKED, RECURSIVE, SAVE, LOAD, CHECK, OCCUPANCY, FUNCTIONS
+    FRESH, TALLY, STACKED, WORST, RECURSIVE, SAVE, LOAD, CHECK, OCCUPANCY, FUNCTIONS
 };
 
 /* Every function: the refusals that the header lists with it, and the blocks that it is lent. */
@@ -91,6 +92,7 @@ static const struct {
     [FRESH] = {"fresh", BIT(1), BIT(WORDS)},
     [TALLY] = {"collect_tally", BIT(1) | BIT(3), BIT(WORDS)},
     [STACKED] = {"collect_stack", BIT(1) | BIT(3), BIT(WORDS) | BIT(STACK)},
+    [WORST] = {"worst_case", BIT(1), BIT(WORDS)},
     [RECURSIVE] = {"collect_recursive", BIT(1) | BIT(3) | BIT(11), BIT(WORDS)},
     [SAVE] = {"save", BIT(1) | BIT(3) | BIT(10), BIT(WORDS) | BIT(STACK) | BIT(OUT)},
     [LOAD] = {"load", BIT(1) | BIT(6) | BIT(7) | BIT(8) | BIT(9) | BIT(12), BIT(WORDS) | BIT(IMAGE)},
@@ -134,6 +136,7 @@ static uint32_t run(int side, const Call *call, Results *results) {
     case FRESH: return BY(side, fresh)(words, len, number + 1);
     case TALLY: return BY(side, collect_tally)(words, len, number + 5, number + 7, number + 1, number + 3);
     case STACKED: return BY(side, collect_stack)(words, len, stack, stack_len, number + 1, number + 3);
+    case WORST: return BY(side, worst_case)(words, len, number + 1);
     case RECURSIVE: return BY(side, collect_recursive)(words, len, number + 1, number + 3);
     case SAVE: return BY(side, save)(words, len, stack, stack_len, out, out_len, results->size + 1);
     case LOAD: return BY(side, load)(words, len, image, image_len, results->size + 1);
@@ -336,6 +339,17 @@ static void loaded(size_t end) {
     DEMAND(same == in_order_of_visits(words_of(LIBRARY)));
 }
 
+/* The worst case was built: such a stack is enough for it, one word less is not; all cells are kept, and no word changes. */
+static void built(uint32_t entries) {
+    DEMAND(entries == CELLPOOL_STACK(cells));
+    for (uint32_t less = 0; less <= 1 && less <= entries; less++) {
+        Results results;
+        lend_filled(STACK, entries - less, sizeof(uint32_t), 0x5A);
+        DEMAND(make_plainly(STACKED, &results) == 0 && results.number[1] == cells && results.number[3] == !less);
+        DEMAND(memcmp(words_of(LIBRARY), blocks[WORDS].before, blocks[WORDS].bytes) == 0);
+    }
+}
+
 /* A call by the input. */
 static void any_call(Input *input) {
     uint8_t kind = byte_of(input);
@@ -344,6 +358,7 @@ static void any_call(Input *input) {
     switch (call.function) {
     case FRESH:
     case COLLECT:
+    case WORST:
     case RECURSIVE: break;
     case TALLY:
         call.a = number_of(input, 3) ^ (kind & 0x20 ? UINT32_MAX : 0);
@@ -372,6 +387,7 @@ static void any_call(Input *input) {
     }
     if (make(call, &results) != 0) return;
     if (call.function == LOAD) loaded(results.size[1]);
+    if (call.function == WORST) built(results.number[1]);
     if (call.function == SAVE) {
         saved_bytes = results.size[1];
         memcpy(saved, blocks[OUT].at[LIBRARY], saved_bytes);

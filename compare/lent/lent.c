@@ -86,18 +86,12 @@ static uint32_t *changed(size_t place, uint32_t content) {
     return pool;
 }
 
-/* The largest pool as a fork, each cell of an odd number with the next as its right and the one behind that as its left: the
-   stack marker pushes cells 2, 4, 6 and so on, 1,999 of them. */
+/* The largest pool, as the worst case for the stack: the stack marker pushes cells 2, 4, 6 and so on, 1,999 of them. */
 static uint32_t largest[CELLPOOL_WORDS(4000)];
 
 static void set_up_largest(void) {
-    memset(largest, 0, sizeof largest);
-    largest[0] = 4000;
-    largest[2] = 1;
-    for (uint32_t i = 1; i < 4000; i += 2) {
-        largest[CELLPOOL_WORDS(i - 1) + 1] = i + 2 < 4000 ? i + 2 : 0;
-        largest[CELLPOOL_WORDS(i - 1) + 2] = i + 1;
-    }
+    EXPECT(0, cellpool_worst_case(largest, CELLPOOL_WORDS(4000), numbers));
+    DEMAND(numbers[0] == 1999);
 }
 
 /* The image of the small one. */
@@ -113,7 +107,7 @@ static size_t page, room;
 /* The last call touched what is behind the first page of this block. */
 static int behind(void) { return touched >= (uint8_t *)front + page && touched < (uint8_t *)front + room; }
 
-/* That page is full of what the stack marker pushes for the fork. */
+/* That page is full of what the stack marker pushes for the largest pool. */
 static int pending(void) {
     for (uint32_t i = 0; i < page / sizeof *front; i++)
         if (front[i] != 2 * i + 2) return 0;
@@ -136,6 +130,7 @@ static void refused_words(size_t len) {
     EXPECT(1, cellpool_collect(none, len, numbers, numbers + 1));
     EXPECT(1, cellpool_collect_tally(none, len, numbers, numbers + 1, numbers + 2, numbers + 3));
     EXPECT(1, cellpool_collect_stack(none, len, none, 1, numbers, numbers + 1));
+    EXPECT(1, cellpool_worst_case(none, len, numbers));
     EXPECT(1, cellpool_collect_recursive(none, len, numbers, numbers + 1));
     EXPECT(1, cellpool_save(none, len, none, CELLPOOL_SCRATCH(4000), no_bytes, IMAGE, sizes));
     EXPECT(1, cellpool_load(none, len, no_bytes, IMAGE, sizes));
@@ -225,6 +220,8 @@ static void lengths(void) {
     saved = space(room, page) + page - IMAGE;
     out = space(room, page) + page - IMAGE;
     no_elements();
+    refused_words(CELLPOOL_WORDS(0));
+    refused_words(CELLPOOL_WORDS(4001));
     for (size_t i = 0; i < sizeof bits / sizeof *bits; i++) long_blocks((size_t)1 << bits[i]);
 }
 
@@ -269,6 +266,7 @@ static void results(void) {
     EXPECT(3, cellpool_collect_tally(changed(3, 3), LEN, lent, lent + 1, lent + 2, lent + 3));
     EXPECT(1, cellpool_collect_stack(changed(0, 1), LEN, stack, 1, lent, lent + 1));
     EXPECT(3, cellpool_collect_stack(changed(3, 3), LEN, stack, 1, lent, lent + 1));
+    EXPECT(1, cellpool_worst_case(pool, LEN - 1, lent));
     EXPECT(1, cellpool_collect_recursive(changed(0, 1), LEN, lent, lent + 1));
     EXPECT(3, cellpool_collect_recursive(changed(3, 3), LEN, lent, lent + 1));
     large[0] = 65;

@@ -441,6 +441,22 @@ impl Interface for PlainRust {
         Ok((sweep(words, n), u32::from(enough)))
     }
 
+    fn worst_case(&self, words: &mut [u32]) -> Result<u32, u32> {
+        let n = size_of_length(words.len())?;
+        words.fill(0);
+        words[0] = n;
+        words[REGISTER_0] = 1;
+        // From the end of the left links on.
+        let mut next = 0;
+        for i in (1..=n).rev().filter(|i| i % 2 == 1) {
+            let at = cell_at(i);
+            words[at + LEFT] = next;
+            words[at + RIGHT] = if i < n { i + 1 } else { 0 };
+            next = i;
+        }
+        Ok((n - 1) / 2)
+    }
+
     fn collect_recursive(&self, words: &mut [u32]) -> Result<(u32, u32), u32> {
         let n = size(words)?;
         if n as usize > MOST_RECURSIVE {

@@ -45,6 +45,7 @@ pub const SIZES: Comparison = Comparison { stream: 13, rounds: 0, run: every_siz
 pub const STACK_LENGTHS: Comparison = Comparison { stream: 14, rounds: 0, run: every_stack_length };
 pub const LENT_LENGTHS: Comparison = Comparison { stream: 15, rounds: 0, run: every_lent_length };
 pub const ROUND_TRIPS: Comparison = Comparison { stream: 16, rounds: 10_000, run: round_trips };
+pub const WORST_CASES: Comparison = Comparison { stream: 17, rounds: 0, run: worst_cases };
 
 fn equal<T: PartialEq + Debug>(what: impl Fn() -> String, found: T, expected: T) -> Outcome {
     if found == expected {
@@ -74,12 +75,18 @@ fn one_call(pool: &dyn Interface, words: &mut [u32], call: Call) -> Outcome {
     equal_words(what, &found, words)
 }
 
-/// Fresh on the words, which are then those of the model.
-fn fresh(pool: &dyn Interface, words: &mut [u32]) -> Outcome {
+/// A function that makes words a pool by their length alone, and its name.
+type Builder = (&'static str, fn(&dyn Interface, &mut [u32]) -> Result<u32, u32>);
+
+const FRESH: Builder = ("fresh", |pool, words| pool.fresh(words));
+const WORST_CASE: Builder = ("worst case", |pool, words| pool.worst_case(words));
+
+/// Such a function on the words, which are then those of the model.
+fn build(pool: &dyn Interface, (name, builder): Builder, words: &mut [u32]) -> Outcome {
     let length = words.len();
-    let what = || format!("fresh on {length} words");
+    let what = || format!("{name} on {length} words");
     let mut found = words.to_vec();
-    equal(what, pool.fresh(&mut found), Model.fresh(words))?;
+    equal(what, builder(pool, &mut found), builder(&Model, words))?;
     equal_words(what, &found, words)
 }
 
@@ -88,7 +95,7 @@ fn call_lists(pool: &dyn Interface, random: &mut Random, rounds: usize) -> Outco
     for _ in 0..rounds {
         let n = generate::cells(random);
         let mut words = generate::noise(random, n);
-        fresh(pool, &mut words)?;
+        build(pool, FRESH, &mut words)?;
         let count = random.between(1, 120);
         for call in generate::calls(random, count) {
             one_call(pool, &mut words, call)?;
@@ -104,7 +111,8 @@ fn any_words(pool: &dyn Interface, random: &mut Random, rounds: usize) -> Outcom
         for call in generate::calls(random, 12) {
             one_call(pool, &mut words.clone(), call)?;
         }
-        fresh(pool, &mut words.clone())?;
+        build(pool, FRESH, &mut words.clone())?;
+        build(pool, WORST_CASE, &mut words.clone())?;
     }
     Ok(())
 }
@@ -322,28 +330,58 @@ fn stack_collect(pool: &dyn Interface, words: &[u32], length: usize, random: &mu
 
 /// Pools of every number of used cells for which the stack marker holds as many entries as it can, with one stack word less
 /// than that, with as many, and with any number: so every length of a stack is tried where it is just too short and where it
-/// is just enough. Chains of equal links of every length, with no stack word. All are collected by reversal too. What is
-/// expected is known without the model.
+/// is just enough. Chains of equal links of every length, with no stack word.
 fn every_stack_length(pool: &dyn Interface, random: &mut Random, _: usize) -> Outcome {
     for used in 1..=MOST_CELLS {
         let n = if random.once_in(2) { used } else { random.between(used, MOST_CELLS) };
         let most = (used - 1) / 2;
         let any = random.below(n + 4);
         for (entries, lengths) in [(0, &[0][..]), (most, &[most.saturating_sub(1), most, any])] {
-            let words = generate::fork_and_chain(random, entries, used, n);
-            let mut found = words.clone();
-            let what = || format!("collect of {used} cells of {n}");
-            equal(what, pool.collect(&mut found), Ok((used as u32, 3 * used as u32)))?;
-            equal_words(what, &found, &words)?;
-            for &length in lengths {
-                let (mut found, mut stack) = (words.clone(), filled(random, length).collect::<Vec<u32>>());
-                let what = || format!("stack collect of {used} cells of {n}, {entries} entries, with {length} words");
-                let answer = pool.collect_stack(&mut found, &mut stack);
-                equal(what, answer, Ok((used as u32, u32::from(length >= entries))))?;
-                equal_words(what, &found, &words)?;
-                equal(what, stack.iter().find(|&&word| word != 0), None)?;
-            }
+            let words = generate::comb_and_chain(random, entries, used, n);
+            every_word_kept(pool, &words, used, entries, lengths, random)?;
         }
+    }
+    Ok(())
+}
+
+/// The worst case of every size, from words of any content: a stack of as many words as are answered is enough for it, and one
+/// word less is not. A length between two sizes is refused.
+fn worst_cases(pool: &dyn Interface, random: &mut Random, _: usize) -> Outcome {
+    for n in 0..=MOST_CELLS + 3 {
+        let mut words: Vec<u32> = filled(random, words_for(n)).collect();
+        build(pool, WORST_CASE, &mut words)?;
+        if (1..=MOST_CELLS).contains(&n) {
+            let entries = (n - 1) / 2;
+            every_word_kept(pool, &words, n, entries, &[entries.saturating_sub(1), entries], random)?;
+        }
+        let between = words_for(n) + random.between(1, CELL - 1);
+        build(pool, WORST_CASE, &mut filled(random, between).collect::<Vec<u32>>())?;
+    }
+    Ok(())
+}
+
+/// A pool that a collection leaves word for word: it keeps `used` cells, by reversal and with stacks of these lengths, of which
+/// those of `entries` words and more are enough. What is expected is known without the model.
+fn every_word_kept(
+    pool: &dyn Interface,
+    words: &[u32],
+    used: usize,
+    entries: usize,
+    lengths: &[usize],
+    random: &mut Random,
+) -> Outcome {
+    let n = room(words);
+    let mut found = words.to_vec();
+    let what = || format!("collect of {used} cells of {n}");
+    equal(what, pool.collect(&mut found), Ok((used as u32, 3 * used as u32)))?;
+    equal_words(what, &found, words)?;
+    for &length in lengths {
+        let (mut found, mut stack) = (words.to_vec(), filled(random, length).collect::<Vec<u32>>());
+        let what = || format!("stack collect of {used} cells of {n}, {entries} entries, with {length} words");
+        let answer = pool.collect_stack(&mut found, &mut stack);
+        equal(what, answer, Ok((used as u32, u32::from(length >= entries))))?;
+        equal_words(what, &found, words)?;
+        equal(what, stack.iter().find(|&&word| word != 0), None)?;
     }
     Ok(())
 }
@@ -559,7 +597,8 @@ fn every_function(pool: &dyn Interface, words: &[u32], random: &mut Random) -> O
     ] {
         one_call(pool, &mut words.to_vec(), call)?;
     }
-    fresh(pool, &mut words.to_vec())?;
+    build(pool, FRESH, &mut words.to_vec())?;
+    build(pool, WORST_CASE, &mut words.to_vec())?;
     recursive_collect(pool, words)?;
     tally_collect(pool, words, random)?;
     let length = stack_needed(words, random).saturating_sub(random.below(2));
@@ -569,7 +608,7 @@ fn every_function(pool: &dyn Interface, words: &[u32], random: &mut Random) -> O
 
 /// A small pool with a stack, a scratch, an output and bytes of every length up to beyond what the largest pool needs.
 fn every_lent_length(pool: &dyn Interface, random: &mut Random, _: usize) -> Outcome {
-    let words = Shape::Fork.words(3, random);
+    let words = Shape::LeftComb.words(3, random);
     let mut image = image(&words, random);
     let (bytes, longest) = (image.len(), 5 * (1 + REGISTERS + 3 * MOST_CELLS) + 10);
     image.resize(longest, random.word() as u8);

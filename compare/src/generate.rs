@@ -141,10 +141,10 @@ pub fn last_held(random: &mut Random, n: usize) -> Vec<u32> {
     words
 }
 
-/// A pool of `n` cells for which the stack marker holds `entries` entries at once: a fork of so many branches, each to a cell
-/// with both links to itself, and where it ends a chain of equal links. They are `used` cells, at least 2 * `entries` + 1. The
+/// A pool of `n` cells for which the stack marker holds `entries` entries at once: a left comb with so many leaves, each with
+/// both links to itself, and where it ends a chain of equal links. They are `used` cells, at least 2 * `entries` + 1. The
 /// others form the ascending chain, so that a collection keeps every word.
-pub fn fork_and_chain(random: &mut Random, entries: usize, used: usize, n: usize) -> Vec<u32> {
+pub fn comb_and_chain(random: &mut Random, entries: usize, used: usize, n: usize) -> Vec<u32> {
     let mut words = Shape::EqualChain.words(used, random);
     for i in (1..2 * entries as u32).step_by(2) {
         words[cell_at(i) + 1..][..2].copy_from_slice(&[i + 2, i + 1]);
@@ -471,8 +471,8 @@ pub enum Shape {
     RightChain,
     /// A left chain where every cell has two cells on its right side.
     PseudoChain,
-    /// A left chain of half the cells, each with a leaf of its own on its right.
-    Fork,
+    /// A left chain of half the cells, each with a leaf of its own on its right: the links of the worst case for the stack.
+    LeftComb,
     /// Two rails: each cell has the next of its own rail and the one across.
     Ladder,
     /// Both links of every cell lead to the next.
@@ -486,7 +486,7 @@ pub const SHAPES: [Shape; 8] = [
     Shape::LeftChain,
     Shape::RightChain,
     Shape::PseudoChain,
-    Shape::Fork,
+    Shape::LeftComb,
     Shape::Ladder,
     Shape::EqualChain,
     Shape::Random,
@@ -499,7 +499,7 @@ impl Shape {
             Shape::LeftChain => "left chain",
             Shape::RightChain => "revised (right) chain",
             Shape::PseudoChain => "pseudo chain",
-            Shape::Fork => "fork",
+            Shape::LeftComb => "left comb",
             Shape::Ladder => "ladder",
             Shape::EqualChain => "chain of equal links",
             Shape::Random => "random graph",
@@ -517,7 +517,7 @@ impl Shape {
                 2 => (i + 1, 0),
                 _ => (0, 0),
             },
-            Shape::Fork => {
+            Shape::LeftComb => {
                 if i % 2 == 1 {
                     (i + 2, i + 1)
                 } else {

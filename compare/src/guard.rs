@@ -164,6 +164,10 @@ impl Interface for Guarded {
         self.each(words, stack, &mut [], |pool, words, stack, _| pool.collect_stack(words, stack))
     }
 
+    fn worst_case(&self, words: &mut [u32]) -> Result<u32, u32> {
+        self.on(words, |pool, words| pool.worst_case(words))
+    }
+
     fn collect_recursive(&self, words: &mut [u32]) -> Result<(u32, u32), u32> {
         self.on(words, |pool, words| pool.collect_recursive(words))
     }

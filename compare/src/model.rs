@@ -527,6 +527,19 @@ impl<R: From<Cause>> Interface<R> for Model {
         Ok((kept, u32::from(needed <= stack.len())))
     }
 
+    fn worst_case(&self, words: &mut [u32]) -> Result<u32, R> {
+        let n = cells_for(words.len())? as u32;
+        let link = |to: u32| if to <= n { to } else { 0 };
+        let cell = |i: u32| {
+            let (left, right) = if i % 2 == 1 { (link(i + 2), link(i + 1)) } else { (0, 0) };
+            Cell { state: USED, left, right, value: 0 }
+        };
+        let mut pool = Pool { head: 0, registers: [0; REGISTERS], cells: (1..=n).map(cell).collect() };
+        pool.registers[0] = 1;
+        pool.encode(words);
+        Ok((n - 1) / 2)
+    }
+
     fn collect_recursive(&self, words: &mut [u32]) -> Result<(u32, u32), R> {
         if Pool::decode(words)?.cells.len() > MOST_RECURSIVE {
             return Err(Cause::TooLarge.into());

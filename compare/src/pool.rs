@@ -42,7 +42,7 @@ macro_rules! bind {
         $(#[$about:meta])* $type:ident:
         $fresh:ident, $copy:ident, $clear:ident, $new:ident, $left:ident, $right:ident, $setleft:ident,
         $setright:ident, $setvalue:ident, $value:ident, $same:ident, $collect:ident, $collect_tally:ident,
-        $collect_stack:ident, $collect_recursive:ident, $save:ident, $load:ident, $check_image:ident,
+        $collect_stack:ident, $worst_case:ident, $collect_recursive:ident, $save:ident, $load:ident, $check_image:ident,
         $occupancy:ident $(,)?
     ) => {
         extern "C" {
@@ -74,6 +74,7 @@ macro_rules! bind {
                 kept: *mut u32,
                 enough: *mut u32,
             ) -> u32;
+            fn $worst_case(words: *mut u32, len: usize, entries: *mut u32) -> u32;
             fn $collect_recursive(words: *mut u32, len: usize, kept: *mut u32, visits: *mut u32) -> u32;
             fn $save(
                 words: *const u32,
@@ -164,6 +165,11 @@ macro_rules! bind {
                 .map(|[kept, enough]| (kept, enough))
             }
 
+            fn worst_case(&self, words: &mut [u32]) -> Result<u32, u32> {
+                results(UNSET, |[entries]| unsafe { $worst_case(words.as_mut_ptr(), words.len(), entries) })
+                    .map(|[entries]| entries)
+            }
+
             fn collect_recursive(&self, words: &mut [u32]) -> Result<(u32, u32), u32> {
                 results(UNSET, |[kept, visits]| unsafe {
                     $collect_recursive(words.as_mut_ptr(), words.len(), kept, visits)
@@ -210,8 +216,8 @@ bind! {
     Archive:
     cellpool_fresh, cellpool_copy, cellpool_clear, cellpool_new, cellpool_left, cellpool_right,
     cellpool_setleft, cellpool_setright, cellpool_setvalue, cellpool_value, cellpool_same, cellpool_collect,
-    cellpool_collect_tally, cellpool_collect_stack, cellpool_collect_recursive, cellpool_save, cellpool_load,
-    cellpool_check_image, cellpool_occupancy
+    cellpool_collect_tally, cellpool_collect_stack, cellpool_worst_case, cellpool_collect_recursive, cellpool_save,
+    cellpool_load, cellpool_check_image, cellpool_occupancy
 }
 
 #[cfg(c_baseline)]
@@ -220,5 +226,5 @@ bind! {
     PlainC:
     baseline_fresh, baseline_copy, baseline_clear, baseline_new, baseline_left, baseline_right, baseline_setleft, baseline_setright,
     baseline_setvalue, baseline_value, baseline_same, baseline_collect, baseline_collect_tally, baseline_collect_stack,
-    baseline_collect_recursive, baseline_save, baseline_load, baseline_check_image, baseline_occupancy
+    baseline_worst_case, baseline_collect_recursive, baseline_save, baseline_load, baseline_check_image, baseline_occupancy
 }

@@ -143,6 +143,7 @@ int main(void) {
     EVERY_WAY(collect_stack, w, LEN, AT(stack), 1, r0, r1);
     EVERY_WAY(collect_stack, w, LEN, AT(stack), 0, r0, r1);
     TOLD(collect_stack);
+    TRY(0, worst_case, w, LEN, r0), TRY(1, worst_case, w, LEN - 1, r0), TOLD(worst_case);
     all_used(small, SMALL, 0);
     TRY(0, collect_recursive, AT(small), SMALL_LEN, r0, r1);
     all_used(small, SMALL, 1);

@@ -8,7 +8,7 @@ use cellpool_compare::random::{rounds, seed};
 use cellpool_compare::refusal;
 use common::c::{archive, cc, compile, file, made, run};
 #[cfg(target_arch = "x86_64")]
-use std::collections::BTreeMap;
+use std::collections::{BTreeMap, BTreeSet};
 
 #[test]
 fn the_fuzz_target_finds_no_fault() {
@@ -67,7 +67,7 @@ fn no_function_takes_more_stack_than_the_header_states() {
         .map(|(name, bytes)| (name.to_string(), bytes.parse().expect("a number")))
         .collect();
     let stated = stated_stack();
-    assert_eq!(measured.len(), 19);
+    assert_eq!(measured.len(), 20);
     assert!(measured.keys().eq(stated.keys()), "{measured:?} {stated:?}");
     for (name, bytes) in measured {
         assert!(bytes >= 8 && bytes <= stated[&name], "{name} takes {bytes}, stated are {}", stated[&name]);
@@ -84,6 +84,21 @@ fn the_archive_has_the_instructions_that_the_header_states() {
     for register in ["%ymm", "%zmm", "%mm", "%st"] {
         assert!(!text.contains(register), "the archive uses {register}");
     }
+    // The functions with registers of SSE, and those that use memory below the stack pointer.
+    let (mut function, mut sse, mut below) = ("", BTreeSet::new(), BTreeSet::new());
+    for line in text.lines() {
+        if let Some((_, name)) = line.strip_suffix(">:").and_then(|line| line.split_once('<')) {
+            function = name;
+        }
+        if line.contains("%xmm") {
+            sse.insert(function);
+        }
+        if line.split([' ', '\t', ',']).any(|word| word.starts_with("-0x") && word.contains("(%rsp")) {
+            below.insert(function);
+        }
+    }
+    assert_eq!(sse, ["cellpool_collect_stack", "cellpool_worst_case"].into());
+    assert_eq!(below, [].into());
     let needed = std::process::Command::new("nm").arg("-u").arg(archive()).output().expect("nm is beside ar");
     let needed = String::from_utf8_lossy(&needed.stdout).into_owned();
     let needed: Vec<&str> = needed.lines().filter_map(|line| line.trim().strip_prefix("U ")).collect();
@@ -119,6 +134,31 @@ fn every_answer_has_a_text_of_its_own() {
     assert_eq!(texts[13], "no answer of this library");
     assert_eq!(texts.iter().collect::<std::collections::BTreeSet<_>>().len(), 14, "{told}");
     assert!(texts.iter().all(|text| (4..=50).contains(&text.len())), "{told}");
+}
+
+#[test]
+fn the_words_of_stack_that_the_header_states_are_those_of_the_worst_case() {
+    let text = "#include \"cellpool.h\"\n\
+        #include <stdio.h>\n\
+        #if CELLPOOL_STACK(0) != 0 || CELLPOOL_STACK(4000) != 1999\n\
+        #error a constant of the preprocessor is another\n\
+        #endif\n\
+        static uint32_t words[CELLPOOL_WORDS(4000)], stack[CELLPOOL_STACK(4000)];\n\
+        int main(void) {\n\
+            uint32_t n, entries, kept, enough, answer;\n\
+            for (n = 0; n <= 4000; n++) {\n\
+                entries = kept = enough = 7777;\n\
+                answer = cellpool_worst_case(words, CELLPOOL_WORDS(n), &entries);\n\
+                printf(\"%d %d %d\", (int)CELLPOOL_STACK(n), (int)answer, (int)entries);\n\
+                answer = cellpool_collect_stack(words, CELLPOOL_WORDS(n), stack, CELLPOOL_STACK(n), &kept, &enough);\n\
+                printf(\" %d %d %d\\n\", (int)answer, (int)kept, (int)enough);\n\
+            }\n\
+            return 0;\n\
+        }\n";
+    std::fs::write(made("stack_words.c"), text).expect("the source is written");
+    let told = run(&compile("stack_words", &cc(), &["-std=c99", "-O2"], &[made("stack_words.c"), archive()]), &[]);
+    let line = |n: u32| format!("{0} 0 {0} 0 {n} 1\n", (n - 1) / 2);
+    assert_eq!(told, "0 1 7777 1 7777 7777\n".to_string() + &(1..=4000).map(line).collect::<String>());
 }
 
 #[test]

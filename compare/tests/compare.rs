@@ -93,6 +93,11 @@ fn every_stack_length_just_too_short_and_just_enough() {
 }
 
 #[test]
+fn the_worst_case_of_every_size_takes_just_the_stack_words_that_are_answered() {
+    on_all(checks::WORST_CASES);
+}
+
+#[test]
 fn every_length_of_a_lent_block() {
     on_all(checks::LENT_LENGTHS);
 }

@@ -48,6 +48,33 @@ enum Equal {
     MarkedLast,
 }
 
+/// What is wrong in how the worst case for the stack is built.
+#[derive(Clone, Copy, Debug, PartialEq, Eq)]
+enum Misbuilt {
+    /// The last cell is not reached, where N is even.
+    LastNotReached,
+    /// The last cell is free.
+    LastFree,
+    /// Left and right links are exchanged.
+    Exchanged,
+    /// The left link of the last odd cell is not made nil.
+    LeftPastN,
+    /// The right link of the last odd cell is not made nil, where N is odd.
+    RightPastN,
+    /// This word is as it was.
+    Leaves(usize),
+    /// The last value is as it was.
+    LeavesLastValue,
+    /// N / 2 is answered.
+    Half,
+    /// Word 0 is asked for.
+    AsksWordZero,
+    /// The first word is written where the length is refused.
+    WritesRefused,
+    /// This length is accepted.
+    Accepts(usize),
+}
+
 #[derive(Clone, Copy, Debug, PartialEq, Eq)]
 enum Fault {
     Correct,
@@ -57,6 +84,8 @@ enum Fault {
     Reads(&'static str, Misread),
     /// The stack marker treats equal links so.
     Links(Equal),
+    /// The worst case is built so.
+    Builds(Misbuilt),
     CollectKeepsAll,
     CollectLosesFreeCell,
     CollectLosesCellInWindow,
@@ -131,6 +160,7 @@ enum Fault {
     OccupancyCutsProduct,
     FreshLeavesRegister,
     FreshLengthCut,
+    WorstCaseLengthCut,
 }
 
 use Fault::*;
@@ -170,9 +200,28 @@ const EQUAL_LINKS: [Fault; 5] = [
     Links(Equal::FullFirst),
 ];
 
+/// A worst case that is wrong, which words of any kind show, and words of every size.
+const WORST_CASE: [Fault; 14] = [
+    Builds(Misbuilt::LastNotReached),
+    Builds(Misbuilt::LastFree),
+    Builds(Misbuilt::Exchanged),
+    Builds(Misbuilt::LeftPastN),
+    Builds(Misbuilt::RightPastN),
+    // Word 0, the head, register 1 and register 15.
+    Builds(Misbuilt::Leaves(0)),
+    Builds(Misbuilt::Leaves(1)),
+    Builds(Misbuilt::Leaves(3)),
+    Builds(Misbuilt::Leaves(17)),
+    Builds(Misbuilt::LeavesLastValue),
+    Builds(Misbuilt::Half),
+    Builds(Misbuilt::AsksWordZero),
+    Builds(Misbuilt::WritesRefused),
+    Builds(Misbuilt::Accepts(18)),
+];
+
 /// The faults that each comparison finds. Those of the first one show in the answers to a list of calls, without a look at
 /// the words, and no others do.
-const FOUND_BY: [(Comparison, &[Fault]); 23] = [
+const FOUND_BY: [(Comparison, &[Fault]); 25] = [
     (
         checks::REFERENCE,
         &[
@@ -229,6 +278,8 @@ const FOUND_BY: [(Comparison, &[Fault]); 23] = [
     (checks::COLLECTIONS, &EQUAL_LINKS),
     (checks::SMALL_POOLS, &EQUAL_LINKS),
     (checks::STACK_LENGTHS, &EQUAL_LINKS),
+    (checks::ANY_WORDS, &WORST_CASE),
+    (checks::WORST_CASES, &WORST_CASE),
     (
         checks::LENT_LENGTHS,
         &[SaveRefusesOneScratchLength, SaveRefusesOneOutputLength, LoadRefusesOneLength, CheckRefusesOneLength],
@@ -282,10 +333,13 @@ const FOUND_BY: [(Comparison, &[Fault]); 23] = [
         checks::LENGTHS,
         &[
             FreshLengthCut,
+            WorstCaseLengthCut,
+            Builds(Misbuilt::Accepts(16_022)),
             At("fresh", 0),
             At("copy", 0),
             At("new", 0),
             At("collect", 0),
+            At("worst_case", 0),
             At("save", 0),
             At("load", 0),
             At("fresh", 4_001),
@@ -302,6 +356,7 @@ const FOUND_BY: [(Comparison, &[Fault]); 23] = [
             At("collect", 4_001),
             At("tally", 4_001),
             At("stack", 4_001),
+            At("worst_case", 4_001),
             At("recursive", 4_001),
             At("save", 4_001),
             At("load", 4_001),
@@ -328,6 +383,7 @@ const FOUND_BY: [(Comparison, &[Fault]); 23] = [
             At("collect", 301),
             At("tally", 301),
             At("stack", 301),
+            At("worst_case", 301),
             At("save", 301),
             At("load", 301),
             At("check", 301),
@@ -716,6 +772,32 @@ impl Interface for Faulty {
         Ok((kept, enough))
     }
 
+    fn worst_case(&self, words: &mut [u32]) -> Result<u32, u32> {
+        self.refuses("worst_case", words)?;
+        let (before, n) = (words.to_vec(), cells(words));
+        let length = self.cut(WorstCaseLengthCut, words.len());
+        if self.0 == Builds(Misbuilt::AsksWordZero) && words.first() != Some(&n) {
+            return Err(1);
+        }
+        let answer = PlainRust.worst_case(&mut words[..length]);
+        let Builds(fault) = self.0 else { return answer };
+        match (fault, answer) {
+            (Misbuilt::WritesRefused, Err(_)) if !words.is_empty() => words[0] = n,
+            (Misbuilt::Accepts(length), Err(_)) if words.len() == length => return Ok(0),
+            (_, Err(_)) => {}
+            (Misbuilt::LastNotReached, _) if n % 2 == 0 => words[cell_at(n - 1) + 2] = 0,
+            (Misbuilt::LastFree, _) => words[cell_at(n)] = FREE,
+            (Misbuilt::Exchanged, _) => (1..=n).for_each(|i| words.swap(cell_at(i) + 1, cell_at(i) + 2)),
+            (Misbuilt::LeftPastN, _) => words[cell_at(n - (n + 1) % 2) + 1] = n + 1 + n % 2,
+            (Misbuilt::RightPastN, _) if n % 2 == 1 => words[cell_at(n) + 2] = n + 1,
+            (Misbuilt::Leaves(place), _) => words[place] = before[place],
+            (Misbuilt::LeavesLastValue, _) => words[cell_at(n) + 3] = before[cell_at(n) + 3],
+            (Misbuilt::Half, _) => return Ok(n / 2),
+            _ => {}
+        }
+        answer
+    }
+
     fn collect_recursive(&self, words: &mut [u32]) -> Result<(u32, u32), u32> {
         self.refuses("recursive", words)?;
         match PlainRust.collect_recursive(words) {
@@ -862,8 +944,14 @@ mod in_c {
     use crate::common::c::{cc, compile, file, made, output};
     use cellpool_compare::random::seed;
 
+    /// The builder of the worst case: how it begins, how it writes N and nils, and its links as they are and exchanged.
+    const BUILDER: &str = "uint32_t *entries) {\n    uint32_t n = cells_of(len);";
+    const CLEARED: &str = "memset(words, 0, len * sizeof *words);\n    words[0] = n;\n    REGISTER(0) = 1;";
+    const LINKS: &str = "[LEFT] = i + 2 <= n ? i + 2 : 0;\n        cell(words, i)[RIGHT] =";
+    const LINKS_EXCHANGED: &str = "[RIGHT] = i + 2 <= n ? i + 2 : 0;\n        cell(words, i)[LEFT] =";
+
     /// What finds the fault, the text, and what stands in its place.
-    const CHANGES: [(&str, &str, &str); 54] = [
+    const CHANGES: [(&str, &str, &str); 75] = [
         // Lengths cut to 32 or 16 bits.
         ("lengths", "cells_of(size_t len)", "cells_of(uint32_t len)"),
         ("lengths", "size_of(const uint32_t *words, size_t len)", "size_of(const uint32_t *words, uint32_t len)"),
@@ -876,6 +964,11 @@ mod in_c {
         ("lengths", "validate(const uint8_t *bytes, size_t len,", "validate(const uint8_t *bytes, uint32_t len,"),
         ("lengths", "return validate(bytes, bytes_len,", "return validate(bytes, (uint32_t)bytes_len,"),
         ("lengths", "*rest = bytes_len;", "*rest = (uint32_t)bytes_len;"),
+        ("lengths", "uint32_t *entries) {", "uint32_t *entries) {\nlen = (uint32_t)len;"),
+        ("lengths", "uint32_t *entries) {", "uint32_t *entries) {\nlen = (uint16_t)len;"),
+        // A length accepted for the worst case that has a cell too few or too many.
+        ("lengths", "uint32_t *entries) {", "uint32_t *entries) {\nif (len == 18) return 0;"),
+        ("lengths", "uint32_t *entries) {", "uint32_t *entries) {\nif (len == 16022) return 0;"),
         // Words and bytes touched that no answer depends on.
         ("lengths", "return n != 0 && words[0] == n", "return words[0] == n"),
         ("lengths", "if (size <= out_len) {", "if (size <= out_len) {\nout[out_len - 1] |= 0;"),
@@ -895,6 +988,7 @@ mod in_c {
         ),
         ("results", "uint32_t answer = NAME(collect)", "*total_visits += 0;\nuint32_t answer = NAME(collect)"),
         ("results", "uint32_t *enough) {", "uint32_t *enough) {\n*enough += 0;"),
+        ("results", "uint32_t *entries) {", "uint32_t *entries) {\n*entries += 0;"),
         ("results", "if (n > CELLPOOL_MOST_RECURSIVE)", "*kept = 0;\nif (n > CELLPOOL_MOST_RECURSIVE)"),
         ("results", "if (size <= out_len) {", "*bytes = size;\nif (size <= out_len) {"),
         ("results", "uint32_t *percent) {", "uint32_t *percent) {\n*percent += 0;"),
@@ -927,6 +1021,20 @@ mod in_c {
             "if (height == stack_len && unmarked(words, right)) return 0;\nif (right != left && unmarked",
         ),
         ("fuzz", "} else if (height > 0) {", "} else if (height > 0 && (left != right || left == 0)) {"),
+        // The worst case: a last cell that is not reached, or free; links exchanged, or past N; word 0, the head, a register or a
+        // value left; N / 2 answered; word 0 asked for; a word changed where it is refused.
+        ("fuzz", "i < n; i += 2", "i + 1 < n; i += 2"),
+        ("fuzz", "*entries = (n - 1) / 2;", "*entries = (n - 1) / 2;\ncell(words, n)[STATE] = FREE;"),
+        ("fuzz", LINKS, LINKS_EXCHANGED),
+        ("fuzz", "i + 2 <= n ? i + 2 : 0", "i + 2"),
+        ("fuzz", "i < n; i += 2", "i <= n; i += 2"),
+        ("fuzz", CLEARED, "uint32_t kept = words[0];\nmemset(words, 0, len * 4);\nwords[0] = kept;\nREGISTER(0) = 1;"),
+        ("fuzz", CLEARED, "memset(words + 2, 0, len * 4 - 8);\nwords[0] = n;\nREGISTER(0) = 1;"),
+        ("fuzz", CLEARED, "words[1] = 0;\nmemset(words + 4, 0, len * 4 - 16);\nwords[0] = n;\nREGISTER(0) = 1;"),
+        ("fuzz", CLEARED, "memset(words, 0, len * 4 - 4);\nwords[0] = n;\nREGISTER(0) = 1;"),
+        ("fuzz", "*entries = (n - 1) / 2;", "*entries = n / 2;"),
+        ("fuzz", BUILDER, "uint32_t *entries) {\nuint32_t n = size_of(words, len);"),
+        ("fuzz", BUILDER, "uint32_t *entries) {\nuint32_t n = cells_of(len);\nif (n == 0 && len > 0) words[0] = 0;"),
         // Padded numbers accepted, all or some; no 0 accepted; padded numbers asked about too late, and too early.
         ("fuzz", "place > 0 && byte == 0 ?", "0 ?"),
         ("fuzz", "place > 0 && byte == 0 ?", "place == 1 && byte == 0 ?"),
@@ -946,6 +1054,10 @@ mod in_c {
         ("fuzz both", "place > 0 && byte == 0 ?", "place > 0 && place < 4 && byte == 0 ?"),
         ("fuzz both", "place > 0 && byte == 0 ?", "byte == 0 ?"),
         ("fuzz both", "right != left && unmarked", "unmarked"),
+        ("fuzz both", "i < n; i += 2", "i + 1 < n; i += 2"),
+        ("fuzz both", "*entries = (n - 1) / 2;", "*entries = (n - 1) / 2;\ncell(words, n)[STATE] = FREE;"),
+        ("fuzz both", LINKS, LINKS_EXCHANGED),
+        ("fuzz both", "*entries = (n - 1) / 2;", "*entries = n / 2;"),
         ("fuzz both", "} else if (height > 0) {", "} else if (height > 0 && (left != right || left == 0)) {"),
     ];
 

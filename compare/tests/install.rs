@@ -205,6 +205,23 @@ const SURVEY: &str = r#"digraph pool {
 }
 "#;
 
+/// What examples/stack.c has to write: for n cells (n - 1) / 2 words, rounded down, and 3 * n visits.
+const LARGEST: &str = "4000 cells, words of stack at most: 1999\n\
+    with a stack of 1999: enough\n\
+    with a stack of 1998: too short, link reversal did the work\n\
+    by link reversal: 12000 visits\n";
+
+const FEWER: [(u32, &str); 2] = [
+    (2, "2 cells, words of stack at most: 0\nwith a stack of 0: enough\nby link reversal: 6 visits\n"),
+    (
+        3,
+        "3 cells, words of stack at most: 1\n\
+         with a stack of 1: enough\n\
+         with a stack of 0: too short, link reversal did the work\n\
+         by link reversal: 9 visits\n",
+    ),
+];
+
 /// Images of random pools, some damaged: the program draws what the model reads, or tells the refusal.
 fn draws(program: &Path, count: usize) {
     let mut random = Random::new(11);
@@ -267,10 +284,19 @@ fn installed_into_an_empty_folder_the_examples_build_and_run() {
                 (text(&output.stdout).as_str(), output.stderr.len(), output.status.code()),
                 (SURVEY, 0, Some(0))
             );
+            let program = build(&folder, &["stack.c"], &compiler, standard, &flags);
+            assert_eq!(text(&fed(&program, b"").stdout), LARGEST);
             built += 1;
         }
     }
     assert!(built >= 2, "no compiler");
+    // The same of boards with fewer cells: two of them need no stack word, three need one.
+    for (cells, told) in FEWER {
+        let flags = [flags.clone(), vec![format!("-DCELLS={cells}")]].concat();
+        let compiler = &compilers()[0];
+        let output = fed(&build(&folder, &["stack.c"], compiler, compiler.2[0], &flags), b"");
+        assert_eq!((text(&output.stdout).as_str(), output.status.code()), (told, Some(0)));
+    }
     draws(&folder.join("draw.out"), rounds(40));
     // The longest image: as many cells as there can be, K, registers and links of two bytes, values of five.
     let all = MOST_CELLS as u32;

@@ -87,7 +87,7 @@ fn stack_words_of_the_known_shapes() {
         (Shape::RightChain, 2, 0, 1),
         (Shape::RightChain, 3_000, 1, 1),
         (Shape::PseudoChain, 3_000, 999, 999),
-        (Shape::Fork, 3_000, 1_499, 1_499),
+        (Shape::LeftComb, 3_000, 1_499, 1_499),
         (Shape::Ladder, 3_000, 1_499, 1_499),
         (Shape::EqualChain, 1, 0, 0),
         (Shape::EqualChain, 2, 0, 1),
@@ -98,6 +98,146 @@ fn stack_words_of_the_known_shapes() {
         let pool = Pool::decode(&words).expect("the size is right");
         assert_eq!((pool.stack_needed(), told_apart(&pool).stack_needed()), (needed, before), "{}", shape.name());
     }
+}
+
+/// The worst case of this size, built by the model on words of any content.
+fn worst_case(random: &mut Random, n: usize) -> Pool {
+    let mut words = generate::noise(random, n);
+    assert_eq!(Model.worst_case(&mut words), Ok::<u32, u32>((n as u32 - 1) / 2));
+    Pool::decode(&words).expect("the size is right")
+}
+
+#[test]
+fn the_worst_case_has_the_links_that_are_named() {
+    let mut random = random(8);
+    for n in (1..=200).chain([3_999, 4_000]) {
+        let pool = worst_case(&mut random, n);
+        assert!(pool.well_formed());
+        assert_eq!((pool.cells.len(), pool.head, pool.registers[0]), (n, 0, 1));
+        assert_eq!(pool.registers[1..], [0; 15]);
+        assert!(pool.cells.iter().all(|cell| (cell.state, cell.value) == (USED, 0)));
+        // A link leads to each cell but the first, and no other link leads to a cell: to an even one the right link of the cell
+        // before it, to an odd one the left link of the odd cell before it.
+        for i in 2..=n as u32 {
+            let link = if i % 2 == 0 { pool.cell(i - 1).right } else { pool.cell(i - 2).left };
+            assert_eq!(link, i, "of {n} cells");
+        }
+        let links = pool.cells.iter().flat_map(|cell| [cell.left, cell.right]);
+        assert_eq!(links.filter(|&link| link != 0).count(), n - 1);
+        assert_eq!(pool.reached().len(), n);
+        assert_eq!(pool.stack_needed(), (n - 1) / 2);
+        // The shape of the tests and of the benchmark has the same links.
+        let mut shape = Pool::decode(&Shape::LeftComb.words(n, &mut random)).expect("the size is right");
+        shape.cells.iter_mut().for_each(|cell| cell.value = 0);
+        assert_eq!(shape, pool);
+    }
+}
+
+/// Go through every graph of the pool's cells, from its registers. The links of a cell are chosen when the stack marker has it in
+/// hand, and no longer once all cells are marked: nothing depends on them then. Shown is a graph and for how many it stands: those
+/// with any links in the place of the ones that were not chosen, which are nil.
+fn every_graph(pool: &mut Pool, chosen: &mut Vec<u32>, show: &mut impl FnMut(&Pool, u64)) {
+    let n = pool.n();
+    // The first cell in hand whose links are not chosen, and how many are marked then: those that were in hand, this one, and
+    // the entries.
+    let mut first = None;
+    pool.mark_with_stack(|hand| {
+        if first.is_none() && !chosen.contains(&hand.cell) {
+            first = Some((hand.cell, chosen.len() + 1 + hand.entries.len()));
+        }
+    });
+    let Some((cell, _)) = first.filter(|&(_, marked)| marked < n as usize) else {
+        return show(pool, u64::from(n + 1).pow(2 * (n - chosen.len() as u32)));
+    };
+    chosen.push(cell);
+    let before = *pool.cell(cell);
+    for (left, right) in (0..=n).flat_map(|left| (0..=n).map(move |right| (left, right))) {
+        pool.cells[cell as usize - 1] = Cell { left, right, ..before };
+        every_graph(pool, chosen, show);
+    }
+    pool.cells[cell as usize - 1] = before;
+    chosen.pop();
+}
+
+/// A pool of `n` used cells without links, with these registers.
+fn without_links(n: u32, registers: &[u32]) -> Pool {
+    let cell = Cell { state: USED, left: 0, right: 0, value: 0 };
+    let mut pool = Pool { head: 0, registers: [0; 16], cells: vec![cell; n as usize] };
+    pool.registers[..registers.len()].copy_from_slice(registers);
+    pool
+}
+
+/// How many graphs of `n` cells there are by the entries that the stack marker holds at most, from these registers.
+fn graphs_by_entries(n: u32, registers: &[u32]) -> Vec<u64> {
+    let mut pool = without_links(n, registers);
+    let mut graphs = vec![0; n as usize + 1];
+    every_graph(&mut pool, &mut Vec::new(), &mut |pool, count| graphs[pool.stack_needed()] += count);
+    assert_eq!(graphs.iter().sum::<u64>(), u64::from(n + 1).pow(2 * n), "all graphs of {n} cells");
+    graphs
+}
+
+#[test]
+fn the_graphs_by_entries_are_those_of_all_links() {
+    for n in 1..=4 {
+        let mut graphs = vec![0; n as usize + 1];
+        let mut pool = without_links(n, &[1]);
+        for code in 0..(n + 1).pow(2 * n) {
+            let link = |place: usize| code / (n + 1).pow(place as u32) % (n + 1);
+            for (place, cell) in pool.cells.iter_mut().enumerate() {
+                (cell.left, cell.right) = (link(2 * place), link(2 * place + 1));
+            }
+            graphs[pool.stack_needed()] += 1;
+        }
+        assert_eq!(graphs_by_entries(n, &[1]), graphs, "{n} cells");
+    }
+}
+
+#[test]
+fn no_small_pool_takes_more_stack_words_than_the_worst_case() {
+    for n in 1..=5 {
+        let graphs = graphs_by_entries(n, &[1]);
+        let most = (n as usize - 1) / 2;
+        assert_eq!(graphs.iter().rposition(|&count| count > 0), Some(most), "{n} cells: {graphs:?}");
+        if n % 2 == 1 {
+            // By hand: so many are held exactly if each of the first cells in hand leads to two new ones, which takes the n - 1
+            // others in any order. The n + 1 links of the other cells are any.
+            let orders: u64 = (1..u64::from(n)).product();
+            assert_eq!(graphs[most], orders * u64::from(n + 1).pow(n + 1), "{n} cells: {graphs:?}");
+        }
+    }
+    // Three cells, with every content of three registers: no more can mark a cell.
+    for content in 0..64 {
+        let graphs = graphs_by_entries(3, &[content % 4, content / 4 % 4, content / 16]);
+        assert_eq!(graphs[2..], [0, 0], "registers {content}: {graphs:?}");
+    }
+}
+
+#[test]
+fn no_random_pool_takes_more_stack_words_than_the_worst_case() {
+    let mut random = random(9);
+    let mut reached = BTreeMap::new();
+    for round in 0..rounds(40_000) {
+        let n = if round % 100 == 0 { random.pick(&[3_999, 4_000]) } else { random.between(6, 40) };
+        // Any pool, or the worst case with some links and registers changed.
+        let mut pool = Pool::decode(&generate::well_formed(&mut random, n)).expect("the size is right");
+        if !random.once_in(3) {
+            pool = worst_case(&mut random, n);
+            for _ in 0..random.below(6) {
+                let (cell, link) = (random.below(n), random.below(n + 1) as u32);
+                match random.below(4) {
+                    0 => pool.cells[cell].left = link,
+                    1 => pool.cells[cell].right = link,
+                    _ => pool.registers[random.below(16)] = link,
+                }
+            }
+        }
+        assert!(pool.well_formed());
+        let needed = pool.stack_needed();
+        assert!(needed <= (n - 1) / 2, "{needed} words for {pool:?}");
+        *reached.entry(n).or_insert(0) += usize::from(needed == (n - 1) / 2 && pool.registers[1..] != [0; 15]);
+    }
+    assert_eq!(reached.len(), 37);
+    assert!(reached.values().all(|&count| count > 0), "with several registers the most are held: {reached:?}");
 }
 
 #[test]
@@ -296,6 +436,12 @@ impl Interface for Counting {
         };
         self.count("stack", answer, kind)
     }
+    fn worst_case(&self, words: &mut [u32]) -> Result<u32, u32> {
+        let before = words.first().copied();
+        let answer = Model.worst_case(words);
+        let kind = |_: &u32| if before == words.first().copied() { "done" } else { "word 0 was another number" };
+        self.count("worst case", answer, kind)
+    }
     fn collect_recursive(&self, words: &mut [u32]) -> Result<(u32, u32), u32> {
         self.count("recursive", Model.collect_recursive(words), done)
     }
@@ -387,6 +533,7 @@ fn answers() -> Vec<(&'static str, Vec<&'static str>, Vec<Cause>)> {
             ],
             vec![],
         ),
+        ("worst case", vec!["done", "word 0 was another number"], length()),
         ("recursive", vec!["done"], [collect(), vec![TooLarge]].concat()),
         ("save", vec!["done"], [collect(), vec![Scratch, Output]].concat()),
         ("load", vec!["done", "bytes behind"], [length(), image()].concat()),

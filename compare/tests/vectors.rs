@@ -406,6 +406,48 @@ fn equal_links_to_a_marked_cell_are_not_followed_again() {
 }
 
 #[test]
+fn the_worst_case_for_the_stack() {
+    on_all(|pool| {
+        // The left of an odd cell is the next odd one, its right the even one between, each nil above N; an even cell is a leaf.
+        const LEAF: [u32; 4] = [0, 0, 0, 0];
+        let cases: [(&[[u32; 4]], u32); 5] = [
+            (&[LEAF], 0),
+            (&[[0, 0, 2, 0], LEAF], 0),
+            (&[[0, 3, 2, 0], LEAF, LEAF], 1),
+            (&[[0, 3, 2, 0], LEAF, [0, 0, 4, 0], LEAF], 1),
+            (&[[0, 3, 2, 0], LEAF, [0, 5, 4, 0], LEAF, LEAF], 2),
+        ];
+        for (cells, entries) in cases {
+            let mut words = vec![9; 18 + 4 * cells.len()];
+            assert_eq!(pool.worst_case(&mut words), Ok(entries));
+            assert_eq!(words, pool_words(0, &[1], cells));
+            stack_collections(pool, &words, cells.len() as u32, entries as usize, &[0, 1, 2, 3]);
+            // The same on the words of a fresh pool, word 0 as it is and another number.
+            for first in [cells.len() as u32, 0, 4_000] {
+                let mut words = fresh(pool, cells.len());
+                words[0] = first;
+                assert_eq!(pool.worst_case(&mut words), Ok(entries));
+                assert_eq!(words, pool_words(0, &[1], cells));
+            }
+        }
+        assert_eq!(pool.worst_case(&mut [9; 22]), Ok(0));
+        let mut largest = vec![9; 16_018];
+        assert_eq!(pool.worst_case(&mut largest), Ok(1_999));
+        // N, the head, the registers and cells 1 and 2; then cells 3,997 to 4,000.
+        assert_eq!(largest[..3], [4_000, 0, 1]);
+        assert_eq!(largest[3..18], [0; 15]);
+        assert_eq!(largest[18..26], [[0, 3, 2, 0], LEAF].concat());
+        assert_eq!(largest[16_002..], [[0, 3_999, 3_998, 0], LEAF, [0, 0, 4_000, 0], LEAF].concat());
+        stack_collections(pool, &largest, 4_000, 1_999, &[1_998, 1_999]);
+        for length in [0, 1, 17, 18, 19, 21, 23, 16_017, 16_019, 16_022] {
+            let mut refused = vec![9; length];
+            assert_eq!(pool.worst_case(&mut refused), Err(1), "{length} words");
+            assert_eq!(refused, vec![9; length]);
+        }
+    });
+}
+
+#[test]
 fn marks_are_cleared_where_the_stack_overflows_and_links_are_restored() {
     on_all(|pool| {
         // Cell 1 leads to 2 and 3, cell 2 to 4 and 5; cell 6 is garbage, cell 7 free.

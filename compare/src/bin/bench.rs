@@ -254,6 +254,24 @@ fn calls(bench: &Bench, random: &mut Random) {
     println!("| value | {:.1} |{}", figures.library, figures.ratios());
 }
 
+fn build(bench: &Bench, _: &mut Random) {
+    let n = CELLS;
+    println!("### Pools that are built, {n} cells\n");
+    println!("| pool | library, µs |{}", bench.others());
+    bench.rule(1, 1);
+    type Builder = fn(&dyn Interface, &mut [u32]) -> Result<u32, u32>;
+    let builders: [(&str, Builder, usize); 2] = [
+        ("fresh", |pool, words| pool.fresh(words), n),
+        ("worst case for the stack", |pool, words| pool.worst_case(words), (n - 1) / 2),
+    ];
+    for (name, builder, number) in builders {
+        let figures = bench.repeat(&mut [vec![0; words_for(n)]], |pool, words| {
+            assert_eq!(builder(pool, black_box(words)), Ok(number as u32));
+        });
+        println!("| {name} | {:.1} |{}", figures.library / 1e3, figures.ratios());
+    }
+}
+
 fn images(bench: &Bench, random: &mut Random) {
     let n = CELLS;
     println!("### Images, {n} cells\n");
@@ -381,10 +399,11 @@ fn scripts(_: &Bench, _: &mut Random) {
 
 type Section = fn(&Bench, &mut Random);
 
-const SECTIONS: [(&str, Section); 6] = [
+const SECTIONS: [(&str, Section); 7] = [
     ("collect", collect),
     ("stack", stack),
     ("calls", calls),
+    ("build", build),
     ("images", images),
     ("growth", growth),
     ("scripts", scripts),

@@ -12,6 +12,7 @@ ghost use Rattle.calls.specs.declared.Call.{Call};
 ghost use Rattle.calls.specs.Calls.{callOf};
 ghost use Rattle.recursive_marker.specs.Recursive.{recursiveOf};
 ghost use Rattle.stack_marker.specs.StackCollect.{stackOf};
+ghost use Rattle.worst_case.specs.WorstCase.{worstCaseOf};
 ghost use Rattle.tally.specs.TallyOf.{tallyOf};
 ghost use Rattle.image.specs.Check.{checkOf};
 ghost use Rattle.load.specs.Load.{loadOf};
@@ -177,6 +178,14 @@ pub extern "C" fn cellpool_collect_stack(
     ensures { λ q. ⌜ (q, now (words .exit), now (stack .exit), now (kept .exit), now (enough .exit)) ≡ withStack (stackOf (now (words .entry)) (now (stack .entry))) (now (kept .entry)) (now (enough .entry)) ⌝ }
 {
     store_two(stack_marker::collect_stack(words, stack), kept, enough)
+}
+
+// The words become a pool for which the collection with a stack holds the most entries, and `entries` their number.
+#[no_mangle]
+pub extern "C" fn cellpool_worst_case(words: &mut [u32], entries: &mut u32) -> u32
+    ensures { λ q. ⌜ (q, now (words .exit), now (entries .exit)) ≡ giving (worstCaseOf (now (words .entry))) (now (entries .entry)) ⌝ }
+{
+    store(worst_case::worst_case(words), entries)
 }
 
 #[no_mangle]

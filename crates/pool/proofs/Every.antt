@@ -59,6 +59,16 @@ getD-tabulate (suc n) f k d below = go (λ less. getD-tabulate n f k d less) (de
         let last : n ≡ k = omega arith in
         rw (← last) (getD-at (tabulate n f) (f n) [] d n (length-tabulate n f))
 
+-- by its front: the first, and then the others
+pub tabulate-first : (n : ℕ) (f : ℕ → ℕ) → 0 < n → tabulate n f ≡ f 0 ∷ tabulate (n - 1) (λ k. f (suc k))
+unfolding tabulate
+tabulate-first zero f some = absurd (omega arith)
+tabulate-first (suc zero) f some = refl
+tabulate-first (suc (suc n)) f some =
+    let less : suc n - 1 ≡ n = omega arith in
+    let next : suc (suc n) - 1 ≡ suc n = omega arith in
+    rw next (ap (λ (l : List ℕ). l ++ (f (suc n) ∷ [])) (rw less at (tabulate-first (suc n) f (omega arith))))
+
 -- two lists by a rule are equal where the rules agree
 pub tabulate-cong : (n : ℕ) (f g : ℕ → ℕ) → ((k : ℕ) → k < n → f k ≡ g k) → tabulate n f ≡ tabulate n g
 unfolding tabulate

@@ -1,3 +1,4 @@
 pub mod Stack
 pub mod StackTheorem
+pub mod Comb
 pub mod Steps

@@ -47,7 +47,7 @@ StackMarksTheReached =
 abbrev pub StackMarksOnce : Type 0
 StackMarksOnce = (n : ℕ) (g : Graph) (roots : List ℕ) → Within n g roots → Distinct (stackMarked n g roots)
 
--- No graph of n cells ever needs more than (n - 1) / 2 entries, rounded down.
+-- No graph of n cells, whatever its roots are, ever needs more than (n - 1) / 2 entries, rounded down (02, S-3: "holds at most as many").
 abbrev pub StackBound : Type 0
 StackBound = (n : ℕ) (g : Graph) (roots : List ℕ) → Within n g roots → maxEntries n g roots ≤ (n - 1) / 2
 

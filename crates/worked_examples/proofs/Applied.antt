@@ -25,6 +25,8 @@ use Rattle.stack_algorithm.proofs.Chain.{equal-links-need-none}
 use Rattle.stack_marker.proofs.StackCollects.{stack-collects}
 use Rattle.stack_algorithm.proofs.Going.{stack-ends, stack-marks-the-reached, stack-marks-once, stack-bound}
 use Rattle.stack_algorithm.proofs.Cases.{stack-cases}
+use Rattle.stack_algorithm.proofs.Comb.{comb-reached}
+use Rattle.worst_case.proofs.Theorems.{worst-case-built, no-pool-holds-more, half-is-enough, fewer-are-not}
 use Rattle.calls.specs.declared.Call.the-variants as call
 use Rattle.batch.proofs.Whole.{runs-one-after-the-other}
 use Rattle.invariant.proofs.Theorems.{reached-pools}
@@ -41,7 +43,7 @@ use Rattle.replies.proofs.Decimals.{decimals-read-back, fewest-digits}
 use Rattle.runner.specs.Work.{initial}
 use Rattle.runner.proofs.Whole.{starts-whole, parts-join, last-line-ends}
 use Rattle.worked_examples.specs.Instances.{around, three, threeCollected, two, graph, roots, Swapped, image, twoCells, words, scratch, output, calls, list, lent, out, padded, lines, progress, largest}
-use Rattle.worked_examples.proofs.Instances.{pool-instance, reversal-instance, graph-instance, number-instance, image-instance, batch-instance, script-instance}
+use Rattle.worked_examples.proofs.Instances.{pool-instance, reversal-instance, graph-instance, number-instance, image-instance, worst-case-instance, batch-instance, script-instance}
 
 pub applied : Unit {0}
 applied =
@@ -52,6 +54,7 @@ applied =
     let i = image-instance in
     let b = batch-instance in
     let s = script-instance in
+    let c = worst-case-instance in
     let t = collection-keeps-the-reached 3 three (p .some) (p .cells) (p .well-formed) in
     let t = collection-marks-and-sweeps 3 three (p .some) (p .cells) (p .well-formed) in
     let t = stack-collects 3 three (9 ∷ []) (p .some) (p .cells) (p .well-formed) in
@@ -85,6 +88,11 @@ applied =
     let t = stack-cases 2 (graph three) (2 ∷ []) .1 2 [] .left (g .left .0) (g .left .1) in
     let t = stack-cases 2 (graph three) (1 ∷ []) .1 2 [] .none (g .none .0) (g .none .1) in
     let t = stack-cases 2 (graph three) (1 ∷ []) .1 3 [] .right (g .right .0) (g .right .1) in
+    let t = comb-reached 3 3 (p .some) (omega arith) in
+    let t = worst-case-built lent (c .target) in
+    let t = no-pool-holds-more registerCount 3 three (p .well-formed) in
+    let t = half-is-enough 3 three (9 ∷ []) (p .some) (p .cells) (p .well-formed) (c .half) in
+    let t = fewer-are-not lent [] (c .fewer) in
     let t = one-to-five-bytes 4294967295 (k .largest) in
     let t = reads-encodings around 1 300 3 (k .bytes) .0 (k .read) in
     let t = reads-encodings around 1 300 3 (k .bytes) .1 (k .encoded) in

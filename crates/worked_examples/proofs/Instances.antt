@@ -25,6 +25,7 @@ use Rattle.questions.proofs.WellFormed.{well-formed-read}
 use Rattle.questions.proofs.PoolGraph.{pool-within}
 use Rattle.reversal.specs.ReversalTheorem.{Agreement, Untouched}
 use Rattle.stack_algorithm.specs.Stack.{run, runs}
+use Rattle.worst_case.specs.WorstCase.{putComb}
 use Rattle.batch.specs.Program.{programOf, programOfCalls}
 use Rattle.batch.specs.Run.{runFrom, afterAll}
 use Rattle.reference.specs.Equivalence.{poolAnswers}
@@ -34,7 +35,7 @@ use Rattle.script.specs.Lines.{all, command}
 use Rattle.script.specs.Reader.{spaceOf, letterOf, digitOf, feedOf, endOf, begunOf}
 use Rattle.replies.specs.Replies.{digits, decimal}
 use Rattle.script.specs.Scripts.{nextLine}
-use Rattle.worked_examples.specs.Instances.{three, threeCollected, two, graph, roots, Swapped, around, image, PoolInstance, ReversalInstance, GraphInstance, NumberInstance, ImageInstance, BatchInstance, ScriptInstance}
+use Rattle.worked_examples.specs.Instances.{three, threeCollected, two, graph, roots, Swapped, around, image, PoolInstance, ReversalInstance, GraphInstance, NumberInstance, ImageInstance, WorstCaseInstance, BatchInstance, ScriptInstance}
 use Rattle.reversal.specs.Reached.{visitsOf}
 
 -- Every element of a list that is tested whole is below a bound.
@@ -206,6 +207,10 @@ image-instance =
       other-bytes = below 256 (omega arith) (image ++ 9 ∷ 9 ∷ []) refl;
       other-read = refl;
     }
+
+pub worst-case-instance : WorstCaseInstance
+unfolding elem visit visits preorder visitsOf tabulate every cellCountOfLength count setCount cellCount head register setRegister cell setCell lowestFree retain run runs putComb
+worst-case-instance = record { target = omega arith; built = refl; half = omega arith; fewer = omega arith; short = refl }
 
 pub batch-instance : BatchInstance
 unfolding elem visit visits preorder visitsOf tabulate every cellCountOfLength count setCount cellCount head setHead register setRegister cell setCell lowestFree retain programOf programOfCalls runFrom afterAll poolAnswers

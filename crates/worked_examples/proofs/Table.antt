@@ -5,10 +5,11 @@ use Rattle.graph.specs.Preorder.{elem, visit, visits, preorder}
 use Rattle.pool.specs.Words.{tabulate, every}
 use Rattle.pool.specs.Layout.{cellCountOfLength, count, cellCount, register, cell}
 use Rattle.stack_algorithm.specs.Stack.{run, runs}
+use Rattle.worst_case.specs.WorstCase.{putComb}
 use Rattle.image.specs.Image.{readEach, readImage}
 use Rattle.worked_examples.specs.Table.{All, WorkedExamples}
 use Rattle.reversal.specs.Reached.{visitsOf}
 
 pub worked-examples : WorkedExamples
-unfolding All groups encode readFurther readGroups readAt elem visit visits preorder visitsOf tabulate every cellCountOfLength count cellCount register cell readEach readImage run runs
-worked-examples = (refl, (refl, (refl, (refl, (refl, (refl, (refl, (refl, (refl, (refl, (refl, (refl, (refl, (refl, (refl, (refl, (refl, (refl, tt))))))))))))))))))
+unfolding All groups encode readFurther readGroups readAt elem visit visits preorder visitsOf tabulate every cellCountOfLength count cellCount register cell readEach readImage run runs putComb
+worked-examples = (refl, (refl, (refl, (refl, (refl, (refl, (refl, (refl, (refl, (refl, (refl, (refl, (refl, (refl, (refl, (refl, (refl, (refl, (refl, (refl, (refl, (refl, (refl, (refl, (refl, (refl, (refl, tt)))))))))))))))))))))))))))

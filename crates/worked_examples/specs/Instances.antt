@@ -1,5 +1,5 @@
 -- No theorem is vacuous: the hypotheses of each are met by an instance, most of them by one pool, on which what the theorem says is not trivial.
-use Prim.Native.Nat.{ℕ, suc, _+_, _*_, _^_, _<_, _≤_}
+use Prim.Native.Nat.{ℕ, suc, _+_, _*_, _-_, _/_, _^_, _<_, _≤_}
 use Prim.Native.Char.{code}
 use mathlib.Core.Path.{_≡_}
 use mathlib.Core.List.{List, [], _∷_, _++_, List·Memᴰ}
@@ -24,6 +24,7 @@ use Rattle.stack_algorithm.specs.Stack.{isUnmarked, stackRun}
 use Rattle.stack_algorithm.specs.StackTheorem.{chain}
 use Rattle.stack_marker.specs.StackCollect.{stackOf}
 use Rattle.stack_marker.specs.StackExample.{forkPool}
+use Rattle.worst_case.specs.WorstCase.{worstCaseOf}
 use Rattle.calls.specs.declared.Call.{Call}
 use Rattle.calls.specs.declared.Call.the-variants as call
 use Rattle.batch.specs.declared.Ran.the-variants as ran
@@ -193,6 +194,20 @@ out = replicate 7 5
 -- Words as they may be lent for a pool of three cells.
 abbrev pub lent : List ℕ
 lent = replicate 30 9
+
+-- The pool that fills the stack, built in these words: cell 1 leads to 3 and 2.
+abbrev pub worstOfThree : List ℕ
+worstOfThree = (3 ∷ 0 ∷ 1 ∷ []) ++ replicate 15 0 ++ (0 ∷ 3 ∷ 2 ∷ 0 ∷ []) ++ replicate 8 0
+
+-- `WorstCaseBuilt`, `HalfIsEnough` and `FewerAreNot`. (`NoPoolHoldsMore` asks for a well-formed pool, as in PoolInstance; `CombReached` and `CombHolds` ask
+-- for no more than a number of cells.)
+pub record WorstCaseInstance : Type 0 where
+  pub target : 0 < cellCountOfLength registerCount (length lent)
+  pub built : worstCaseOf lent ≡ (answered (1 ∷ []), worstOfThree)
+  -- one word is enough for the pool of three cells above, and none is not for the one that is built
+  pub half : (3 - 1) / 2 ≤ length {A = ℕ} (9 ∷ [])
+  pub fewer : length {A = ℕ} [] < (cellCountOfLength registerCount (length lent) - 1) / 2
+  pub short : stackOf worstOfThree [] ≡ (answered (3 ∷ 0 ∷ []), worstOfThree, [])
 
 -- `RunsOneAfterTheOther`, `RunEquivalence` and `NeverMalformed`.
 pub record BatchInstance : Type 0 where

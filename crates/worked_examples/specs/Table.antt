@@ -4,20 +4,25 @@ use mathlib.Core.Path.{_≡_}
 use mathlib.Core.List.{List, [], _∷_, _++_}
 use lib.ListN.{replicate}
 use Rattle.leb128.specs.Leb128.{encode}
+use Rattle.pool.specs.Layout.{registerCount, poolLength}
 use Rattle.answers.specs.Outcome.{answered}
 use Rattle.occupancy.specs.Occupancy.{occupancyOf}
 use Rattle.collector.specs.Collect.{collectOf}
 use Rattle.stack_marker.specs.StackCollect.{stackOf}
 use Rattle.stack_marker.specs.StackExample.{leafPool, forkPool}
+use Rattle.worst_case.specs.WorstCase.{worstCaseOf}
+use Rattle.worst_case.specs.Example.{fourPool, fivePool}
 use Rattle.image.specs.Check.{checkOf}
 
--- A case: the bytes of a number; bytes, and what the check of them as an image for a pool of one cell answers; a pool, and what its collection keeps and visits; a pool and a number
--- of stack words, and what the collection with them keeps and whether they are enough (1) or not (0); and what percent of n cells is kept.
+-- A case: the bytes of a number; bytes, and what the check of them as an image for a pool of one cell answers; a pool, and what its collection keeps and
+-- visits; a pool and a number of stack words, and what the collection with them keeps and whether they are enough (1) or not (0); a number of cells, and
+-- what the builder of the worst case for the stack answers; and what percent of n cells is kept.
 pub data Case : Type 0 where
   number : ℕ → List ℕ → Case
   checked : List ℕ → ℕ → Case
   collection : List ℕ → ℕ → ℕ → Case
   stack : List ℕ → ℕ → ℕ → ℕ → Case
+  entries : ℕ → ℕ → Case
   percent : ℕ → ℕ → ℕ → Case
 
 -- What a case claims, by the definitions that the contracts cite.
@@ -26,6 +31,7 @@ Holds (number v bytes) = encode v ≡ bytes
 Holds (checked bytes k) = checkOf bytes 1 ≡ k
 Holds (collection w kept visits) = (collectOf w) .0 ≡ answered (kept ∷ visits ∷ [])
 Holds (stack w size kept enough) = (stackOf w (replicate size 0)) .0 ≡ answered (kept ∷ enough ∷ [])
+Holds (entries n most) = (worstCaseOf (replicate (poolLength registerCount n) 9)) .0 ≡ answered (most ∷ [])
 Holds (percent kept n p) = occupancyOf kept n ≡ answered (p ∷ [])
 
 -- A pool of one used cell that is linked to itself, with register 0 leading to it.
@@ -61,6 +67,16 @@ table =
     -- links to two leaves: one stack word is enough, none is not
     ∷ stack forkPool 1 3 1
     ∷ stack forkPool 0 3 0
+    -- 02, S-3: "That number is (N − 1) / 2 rounded down, and it is answered"; on the pool that is built so many stack words are enough, one less is not
+    ∷ entries 1 0
+    ∷ entries 2 0
+    ∷ entries 3 1
+    ∷ entries 4 1
+    ∷ entries 5 2
+    ∷ stack fourPool 1 4 1
+    ∷ stack fourPool 0 4 0
+    ∷ stack fivePool 2 5 1
+    ∷ stack fivePool 1 5 0
     -- "Gauge 1 of 3: 33"
     ∷ percent 1 3 33
     ∷ []

@@ -116,6 +116,37 @@ fn links_after_falling_back() {
     show(b"that of the right one: ", calls::value(&words, 2));
 }
 
+// "That number is (N − 1) / 2 rounded down, and it is answered": so many stack words are enough for a collection, and with one less it falls back.
+fn fills_the_stack(label: &[u8], words: &mut [u32], stack: &mut [u32]) {
+    show(label, worst_case::worst_case(words));
+    show(
+        b"its collection with so many stack words: ",
+        stack_marker::collect_stack(words, stack),
+    );
+    if 0 < stack.len() {
+        show(
+            b"and with one less: ",
+            stack_marker::collect_stack(words, &mut stack[1..]),
+        );
+    }
+}
+
+fn worst_case_of_5() {
+    let mut words = [9u32; 38];
+    let mut stack = [9u32; 2];
+    fills_the_stack(
+        b"the pool of 5 cells that fills the stack: ",
+        &mut words,
+        &mut stack,
+    );
+}
+
+fn worst_case_of_4000() {
+    let mut words = [9u32; 16018];
+    let mut stack = [9u32; 1999];
+    fills_the_stack(b"that of 4000 cells: ", &mut words, &mut stack);
+}
+
 // "Clearing r before "new" collects: r may be a or b, and its old cell is live to the ledger."
 fn old_content_is_a_root() {
     let mut words = [0u32; 26];
@@ -142,5 +173,7 @@ fn main() {
     equal_links();
     both_links_are_read();
     links_after_falling_back();
+    worst_case_of_5();
+    worst_case_of_4000();
     old_content_is_a_root();
 }

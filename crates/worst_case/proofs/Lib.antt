@@ -1,0 +1,4 @@
+pub mod Comb
+pub mod Built
+pub mod Theorems
+pub mod Example

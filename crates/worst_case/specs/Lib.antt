@@ -1,0 +1,3 @@
+pub mod WorstCase
+pub mod WorstCaseTheorem
+pub mod Example
