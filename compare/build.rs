@@ -1,7 +1,8 @@
 //! With the feature `archive`: link libcellpool.a, and where a C compiler is found the C baseline of the benchmark; make
 //! the program runscript in plain C.
 //!
-//! CELLPOOL_LIB_DIR names another directory of the archive; CC another C compiler.
+//! CELLPOOL_LIB_DIR names another directory of the archive; CC another C compiler. CELLPOOL_BEFORE_DIR names the directory of an
+//! archive of an earlier version with the same functions, which the benchmark then has beside this one.
 
 use std::env;
 use std::ffi::OsStr;
@@ -11,7 +12,9 @@ use std::process::Command;
 fn main() {
     println!("cargo:rustc-check-cfg=cfg(c_baseline)");
     println!("cargo:rerun-if-changed=build.rs");
+    println!("cargo:rustc-check-cfg=cfg(before)");
     println!("cargo:rerun-if-env-changed=CELLPOOL_LIB_DIR");
+    println!("cargo:rerun-if-env-changed=CELLPOOL_BEFORE_DIR");
     println!("cargo:rerun-if-env-changed=CC");
     println!("cargo:rerun-if-env-changed=CXX");
     println!("cargo:rustc-check-cfg=cfg(cpp_compiler)");
@@ -19,6 +22,9 @@ fn main() {
         return;
     }
     link_archive();
+    if let Some(dir) = env::var_os("CELLPOOL_BEFORE_DIR") {
+        link_before(&PathBuf::from(dir).join("libcellpool.a"));
+    }
     if build_c_baseline() {
         println!("cargo:rustc-cfg=c_baseline");
     } else {
@@ -53,6 +59,21 @@ fn link_archive() {
     println!("cargo:rustc-link-search=native={}", dir.display());
     println!("cargo:rustc-link-lib=static=cellpool");
     println!("cargo:rustc-env=CELLPOOL_ARCHIVE={}", archive.display());
+}
+
+/// Link a second archive, whose functions get the prefix `before_`; what it takes from the C library keeps its name.
+fn link_before(archive: &Path) {
+    println!("cargo:rerun-if-changed={}", archive.display());
+    let out = PathBuf::from(env::var_os("OUT_DIR").expect("cargo sets OUT_DIR"));
+    let renamed = out.join("libcellpool_before.a");
+    for options in [["--prefix-symbols", "before_"], ["--redefine-sym", "before_memset=memset"]] {
+        let from = if options[0] == "--prefix-symbols" { archive } else { &renamed };
+        let made = Command::new("objcopy").args(options).arg(from).arg(&renamed).status();
+        assert!(matches!(made, Ok(status) if status.success()), "objcopy renames nothing in {}", from.display());
+    }
+    println!("cargo:rustc-link-search=native={}", out.display());
+    println!("cargo:rustc-link-lib=static=cellpool_before");
+    println!("cargo:rustc-cfg=before");
 }
 
 /// Compile C files into an object or a program.

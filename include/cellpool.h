@@ -81,10 +81,11 @@
  * 3.0.0: cellpool_collect_stack takes no stack word for a cell with two equal links, where 2.0.0 took one: *enough may be
  * 1 where it was 0. A stack that was enough still is, and the cells kept are the same.
  * 3.1.0: cellpool_worst_case and CELLPOOL_STACK come beside what 3.0.0 has.
+ * 3.1.1: collections by link reversal are faster on most pools.
  */
 #define CELLPOOL_VERSION_MAJOR 3
 #define CELLPOOL_VERSION_MINOR 1
-#define CELLPOOL_VERSION_PATCH 0
+#define CELLPOOL_VERSION_PATCH 1
 #define CELLPOOL_VERSION (10000 * CELLPOOL_VERSION_MAJOR + 100 * CELLPOOL_VERSION_MINOR + CELLPOOL_VERSION_PATCH)
 
 /* An answer that is not looked at is a warning, where the compiler knows how. */

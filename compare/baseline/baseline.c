@@ -58,24 +58,82 @@ static int well_formed(const uint32_t *words, uint32_t n) {
 
 static int unmarked(uint32_t *words, uint32_t link) { return link != 0 && cell(words, link)[STATE] == USED; }
 
+/* The five cases of a visit, by their numbers in source document 000. They are told by the mark after the addition and by the
+   state of the next link, which stands in l[p]: the left one at the first visit, the right one at the second. */
+typedef enum { RETREAT = 1, FOLLOW_LEFT = 2, PASS_LEFT = 3, FOLLOW_RIGHT = 4, PASS_RIGHT = 5 } Case;
+
+/* The cell in hand p, its predecessor q, and the words of p: its mark m and what stands in its links l and r. */
+typedef struct {
+    uint32_t p, q, m, l, r;
+} Hand;
+
+/* The case of a visit. At the third one nothing of l[p] is read: it may be the virtual root. */
+static inline Case case_of(uint32_t *words, Hand hand) {
+    if (hand.m == 1) return unmarked(words, hand.l) ? FOLLOW_LEFT : PASS_LEFT;
+    if (hand.m == 2) return unmarked(words, hand.l) ? FOLLOW_RIGHT : PASS_RIGHT;
+    return RETREAT;
+}
+
+/* What a case does: in 1, 2 and 4 p, l[p], r[p], q become l[p], r[p], q, p; in 3 and 5 l[p], r[p], q become r[p], q, l[p]. Where
+   another cell comes in hand, m, l and r are still those of the one that was. */
+static inline Hand exchange(Case which, Hand hand) {
+    Hand to = hand;
+    switch (which) {
+    case RETREAT: /* 1. Back to the predecessor, with both links as they were. */
+        to.p = hand.l, to.l = hand.r, to.r = hand.q, to.q = hand.p;
+        break;
+    case FOLLOW_LEFT: /* 2. To the left cell, which is unmarked. */
+        to.p = hand.l, to.l = hand.r, to.r = hand.q, to.q = hand.p;
+        break;
+    case PASS_LEFT: /* 3. The left link is marked or nil: the cell stays in hand. */
+        to.l = hand.r, to.r = hand.q, to.q = hand.l;
+        break;
+    case FOLLOW_RIGHT: /* 4. To the right cell, which is unmarked. */
+        to.p = hand.l, to.l = hand.r, to.r = hand.q, to.q = hand.p;
+        break;
+    case PASS_RIGHT: /* 5. The right link is marked or nil: the cell stays in hand. */
+        to.l = hand.r, to.r = hand.q, to.q = hand.l;
+        break;
+    }
+    return to;
+}
+
+/* One visit. The mark is written before the next link is looked at, which may lead to the cell itself. */
+static inline Hand visit(uint32_t *words, Hand hand, Case *which) {
+    cell(words, hand.p)[STATE] = ++hand.m;
+    *which = case_of(words, hand);
+    return exchange(*which, hand);
+}
+
+static inline Hand take(const uint32_t *words, uint32_t p, uint32_t q) {
+    const uint32_t *at = cell_in(words, p);
+    return (Hand){.p = p, .q = q, .m = at[STATE], .l = at[LEFT], .r = at[RIGHT]};
+}
+
+/* Mark by link reversal from every register; answers the visits. A cell is visited again while it stays in hand, so that its
+   links are read and written once for up to three visits. */
 static uint32_t mark_by_reversal(uint32_t *words) {
     uint32_t visits = 0;
+    Case which;
     for (uint32_t i = 0; i < CELLPOOL_REGISTERS; i++) {
         if (!unmarked(words, REGISTER(i))) continue;
         uint32_t p = REGISTER(i), q = ROOT;
         while (p != ROOT) {
             uint32_t *at = cell(words, p);
-            uint32_t left = at[LEFT];
+            Hand hand = visit(words, take(words, p, q), &which);
             visits++;
-            at[STATE]++;
-            at[LEFT] = at[RIGHT];
-            at[RIGHT] = q;
-            if (at[STATE] == MARKED || unmarked(words, left)) {
-                q = p;
-                p = left;
-            } else {
-                q = left;
+            if (hand.p == p) {
+                hand = visit(words, hand, &which);
+                visits++;
             }
+            if (hand.p == p) {
+                hand = visit(words, hand, &which);
+                visits++;
+            }
+            at[LEFT] = hand.l;
+            at[RIGHT] = hand.r;
+            p = hand.p;
+            q = hand.q;
         }
     }
     return visits;
@@ -136,6 +194,35 @@ static uint32_t sweep(uint32_t *words, uint32_t n) {
     words[1] = next;
     return kept;
 }
+
+#ifndef BASELINE_AS_CELLPOOL
+uint32_t baseline_mark_by_cases(uint32_t *words, size_t len, uint32_t *times, uint32_t *runs, uint8_t *cases,
+                                uint32_t *entered) {
+    uint32_t n = size_of(words, len);
+    if (n == 0) return CELLPOOL_REFUSED_SIZE;
+    if (!well_formed(words, n)) return CELLPOOL_REFUSED_MALFORMED;
+    *runs = 0;
+    for (int i = 0; i < 5; i++) times[i] = 0;
+    for (uint32_t i = 0; i < CELLPOOL_REGISTERS; i++) {
+        if (!unmarked(words, REGISTER(i))) continue;
+        uint32_t p = REGISTER(i), q = ROOT;
+        ++*runs;
+        while (p != ROOT) {
+            uint32_t *at = cell(words, p);
+            Case which;
+            Hand hand = visit(words, take(words, p, q), &which);
+            times[which - 1]++;
+            *cases++ = (uint8_t)which;
+            if (which == FOLLOW_LEFT || which == FOLLOW_RIGHT) *entered++ = hand.p;
+            at[LEFT] = hand.l;
+            at[RIGHT] = hand.r;
+            p = hand.p;
+            q = hand.q;
+        }
+    }
+    return CELLPOOL_OK;
+}
+#endif
 
 uint32_t NAME(fresh)(uint32_t *words, size_t len, uint32_t *cells) {
     uint32_t n = cells_of(len);

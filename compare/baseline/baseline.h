@@ -1,4 +1,4 @@
-/* The functions of cellpool.h in plain C, under names of their own. */
+/* The functions of cellpool.h in plain C, under names of their own, and one more. */
 #ifndef BASELINE_H
 #define BASELINE_H
 
@@ -24,5 +24,11 @@ uint32_t baseline_save(const uint32_t *, size_t, uint32_t *, size_t, uint8_t *, 
 uint32_t baseline_load(uint32_t *, size_t, const uint8_t *, size_t, size_t *);
 uint32_t baseline_check_image(const uint8_t *, size_t, uint32_t);
 uint32_t baseline_occupancy(uint32_t, uint32_t, uint32_t *);
+
+/* One more: mark a well-formed pool by link reversal, one visit after the other, and tell how often each of the five cases of
+   source document 000 came (times, case 1 first), how many runs began, the case of every visit, and the cells that cases 2 and
+   4 went to, in order. The marks stay. The last two are lent with room for three visits of every cell. */
+uint32_t baseline_mark_by_cases(uint32_t *words, size_t len, uint32_t *times, uint32_t *runs, uint8_t *cases,
+                                uint32_t *entered);
 
 #endif

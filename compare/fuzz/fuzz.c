@@ -10,7 +10,7 @@
  * its function and changes nothing but what the header names, the forms of collect agree, the worst case for the stack takes
  * just as many words as are answered, an image that was saved loads and saves as the same bytes, while every cut of it is
  * refused, and any image that loads is saved as the bytes that were read exactly if its cells are numbered in the order of
- * the visits.
+ * the visits. The cases of the plain C version's visits add up to the cells that the library keeps.
  *
  * With -DSTANDALONE a main is added that runs pseudo-random inputs: fuzz [inputs [seed]].
  */
@@ -408,6 +408,20 @@ static size_t stack_needed(const uint8_t *start, uint32_t kept) {
     return least;
 }
 
+/* The visits of the plain C version by their cases, on the same words: each kept cell has a first visit, a second and a third,
+   and cases 2 and 4 come once for each kept cell at which no run begins. */
+static void visits_by_cases(const uint8_t *start, uint32_t answer, uint32_t kept) {
+    static uint8_t cases[3 * CELLPOOL_MOST_CELLS];
+    static uint32_t entered[3 * CELLPOOL_MOST_CELLS];
+    uint32_t times[5], runs, *words = words_of(PLAIN);
+    size_t len = blocks[WORDS].bytes / sizeof *words;
+    memcpy(words, start, blocks[WORDS].bytes);
+    DEMAND(baseline_mark_by_cases(words, len, times, &runs, cases, entered) == answer);
+    if (answer != 0) return;
+    DEMAND(times[1] + times[2] == kept && times[3] + times[4] == kept && times[0] == kept);
+    DEMAND(times[1] + times[3] == kept - runs);
+}
+
 /* Every form of collect on the same words: the same words and cells kept, and the same visits where there are some. */
 static void forms_of_collect(Input *input) {
     static uint8_t start[ROOM], collected[ROOM];
@@ -417,6 +431,7 @@ static void forms_of_collect(Input *input) {
     uint32_t answer = make_plainly(COLLECT, &first), kept = answer == 0 ? first.number[1] : 0;
     DEMAND(answer != 0 || first.number[3] == 3 * kept);
     memcpy(collected, words_of(LIBRARY), bytes);
+    visits_by_cases(start, answer, kept);
 
 #define AGAIN(function)                           \
     (memcpy(words_of(LIBRARY), start, bytes),     \

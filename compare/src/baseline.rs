@@ -3,6 +3,7 @@
 //! that the comparisons run without the library too, and it is the benchmark's baseline.
 
 use crate::refusal::*;
+use crate::visit::{Case, Marking};
 use crate::{cell_at, Interface, Tally, CELL, FREE, HEADER, MOST_CELLS, MOST_RECURSIVE, REGISTERS, USED};
 
 #[derive(Clone, Copy, Debug, Default)]
@@ -89,7 +90,66 @@ fn unmarked(words: &[u32], link: u32) -> bool {
     link != 0 && words[cell_at(link)] == USED
 }
 
-/// Mark by link reversal from every register; answers the visits.
+/// The cell in hand p, its predecessor q, and the words of p: its mark m and what stands in its links l and r.
+#[derive(Clone, Copy)]
+struct Hand {
+    p: u32,
+    q: u32,
+    m: u32,
+    l: u32,
+    r: u32,
+}
+
+impl Hand {
+    #[inline]
+    fn take(words: &[u32], p: u32, q: u32) -> Hand {
+        let at = cell_at(p);
+        Hand { p, q, m: words[at + STATE], l: words[at + LEFT], r: words[at + RIGHT] }
+    }
+
+    /// The case of a visit. At the third one nothing of l is read: it may be the virtual root.
+    #[inline]
+    fn case(self, words: &[u32]) -> Case {
+        match self.m {
+            1 if unmarked(words, self.l) => Case::FollowLeft,
+            1 => Case::PassLeft,
+            2 if unmarked(words, self.l) => Case::FollowRight,
+            2 => Case::PassRight,
+            _ => Case::Retreat,
+        }
+    }
+
+    /// What a case does: in 1, 2 and 4 p, l, r, q become l, r, q, p; in 3 and 5 l, r, q become r, q, l. Where another cell comes
+    /// in hand, m, l and r are still those of the one that was.
+    #[inline]
+    fn exchange(self, case: Case) -> Hand {
+        let Hand { p, q, m, l, r } = self;
+        match case {
+            // 1. Back to the predecessor, with both links as they were.
+            Case::Retreat => Hand { p: l, l: r, r: q, q: p, m },
+            // 2. To the left cell, which is unmarked.
+            Case::FollowLeft => Hand { p: l, l: r, r: q, q: p, m },
+            // 3. The left link is marked or nil: the cell stays in hand.
+            Case::PassLeft => Hand { p, l: r, r: q, q: l, m },
+            // 4. To the right cell, which is unmarked.
+            Case::FollowRight => Hand { p: l, l: r, r: q, q: p, m },
+            // 5. The right link is marked or nil: the cell stays in hand.
+            Case::PassRight => Hand { p, l: r, r: q, q: l, m },
+        }
+    }
+
+    /// One visit. The mark is written before the next link is looked at, which may lead to the cell itself.
+    #[inline]
+    fn visit(mut self, words: &mut [u32]) -> (Case, Hand) {
+        self.m += 1;
+        words[cell_at(self.p) + STATE] = self.m;
+        let case = self.case(words);
+        (case, self.exchange(case))
+    }
+}
+
+/// Mark by link reversal from every register; answers the visits. A cell is visited again while it stays in hand, so that
+/// its links are read and written once for up to three visits.
 fn mark_by_reversal(words: &mut [u32]) -> u32 {
     let mut visits = 0;
     for register in REGISTER_0..HEADER {
@@ -98,18 +158,20 @@ fn mark_by_reversal(words: &mut [u32]) -> u32 {
         }
         let (mut p, mut q) = (words[register], ROOT);
         while p != ROOT {
-            let at = cell_at(p);
+            let (_, mut hand) = Hand::take(words, p, q).visit(words);
             visits += 1;
-            words[at + STATE] += 1;
-            let (l, r) = (words[at + LEFT], words[at + RIGHT]);
-            words[at + LEFT] = r;
-            words[at + RIGHT] = q;
-            if words[at + STATE] == MARKED || unmarked(words, l) {
-                q = p;
-                p = l;
-            } else {
-                q = l;
+            if hand.p == p {
+                (_, hand) = hand.visit(words);
+                visits += 1;
             }
+            if hand.p == p {
+                (_, hand) = hand.visit(words);
+                visits += 1;
+            }
+            let at = cell_at(p);
+            words[at + LEFT] = hand.l;
+            words[at + RIGHT] = hand.r;
+            (p, q) = (hand.p, hand.q);
         }
     }
     visits
@@ -322,6 +384,35 @@ fn number_cells(words: &[u32], numbers: &mut [u32], order: &mut [u32]) -> usize 
         }
     }
     count
+}
+
+impl PlainRust {
+    /// Mark a well-formed pool by link reversal, one visit after the other, and tell the visits.
+    pub fn mark_by_cases(words: &mut [u32]) -> Result<Marking, u32> {
+        let n = size(words)?;
+        well_formed(words, n)?;
+        let mut told = Marking::default();
+        for register in REGISTER_0..HEADER {
+            if !unmarked(words, words[register]) {
+                continue;
+            }
+            told.runs += 1;
+            let (mut p, mut q) = (words[register], ROOT);
+            while p != ROOT {
+                let (case, hand) = Hand::take(words, p, q).visit(words);
+                told.times[case as usize - 1] += 1;
+                told.cases.push(case);
+                if let Case::FollowLeft | Case::FollowRight = case {
+                    told.entered.push(hand.p);
+                }
+                let at = cell_at(p);
+                words[at + LEFT] = hand.l;
+                words[at + RIGHT] = hand.r;
+                (p, q) = (hand.p, hand.q);
+            }
+        }
+        Ok(told)
+    }
 }
 
 impl Interface for PlainRust {

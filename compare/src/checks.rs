@@ -5,9 +5,11 @@ use crate::model::{groups, Model, Pool};
 use crate::random::{self, Random};
 use crate::reference::Reference;
 use crate::refusal::PADDED;
+use crate::visit::Marking;
 use crate::{
     apply, cell_at, words_for, Answer, Call, Interface, Tally, CELL, FREE, HEADER, MOST_CELLS, REGISTERS, USED,
 };
+use std::collections::BTreeSet;
 use std::fmt::Debug;
 
 pub type Outcome = Result<(), String>;
@@ -169,17 +171,19 @@ fn largest_pool_filled(pool: &dyn Interface, _: &mut Random, _: usize) -> Outcom
     Ok(())
 }
 
+/// The digits of a number, the first one below the first base.
+fn digits(mut code: usize, bases: &[usize]) -> Vec<u32> {
+    let digit = |&base: &usize| {
+        let digit = code % base;
+        code /= base;
+        digit as u32
+    };
+    bases.iter().map(digit).collect()
+}
+
 /// Every pool of one or two cells with small numbers, and every well-formed pool of three used cells, which needs one stack
 /// word at most.
 fn small_pools(pool: &dyn Interface, random: &mut Random, _: usize) -> Outcome {
-    let digits = |mut code: usize, bases: &[usize]| -> Vec<u32> {
-        let digit = |&base: &usize| {
-            let digit = code % base;
-            code /= base;
-            digit as u32
-        };
-        bases.iter().map(digit).collect()
-    };
     let states = [USED, FREE, 3];
     for n in [1, 2] {
         // The head, register 0, and state, left and right of each cell.
@@ -232,6 +236,73 @@ fn small_pools(pool: &dyn Interface, random: &mut Random, _: usize) -> Outcome {
         save(pool, &words, 6, 26, random)?;
     }
     Ok(())
+}
+
+/// A marker by reversal that tells its visits, and leaves the marks.
+pub type Marker = dyn Fn(&mut [u32]) -> Result<Marking, u32>;
+
+/// Marking by reversal by its cases, beside the collector whose visits they are: well-formed pools of many kinds, and every one of
+/// one to three cells with small numbers and two registers.
+pub fn cases(pool: &dyn Interface, marker: &Marker, random: &mut Random, rounds: usize) -> Outcome {
+    for words in generate::well_formed_pools(random, rounds) {
+        one_marking(pool, marker, &words)?;
+    }
+    for n in 1..=3 {
+        // Two registers, and state, left and right of each cell.
+        let mut bases = vec![n + 1; 2];
+        bases.extend([2, n + 1, n + 1].repeat(n));
+        for code in 0..bases.iter().product() {
+            let small = digits(code, &bases);
+            let mut words = vec![0; words_for(n)];
+            words[0] = n as u32;
+            words[2..4].copy_from_slice(&small[..2]);
+            for (cell, content) in words[HEADER..].chunks_mut(CELL).zip(small[2..].chunks(3)) {
+                cell.copy_from_slice(&[[USED, FREE][content[0] as usize], content[1], content[2], 7]);
+            }
+            if decoded(&words).is_some() {
+                one_marking(pool, marker, &words)?;
+            }
+        }
+    }
+    Ok(())
+}
+
+/// The marker on the words of a well-formed pool: what it tells is what the model finds without reversing a link, and what the
+/// numbers of kept cells and of runs say; cells that are reached end with mark 3, and every other word stays.
+fn one_marking(pool: &dyn Interface, marker: &Marker, words: &[u32]) -> Outcome {
+    let what = || format!("marking by cases on {words:?}");
+    let graph = decoded(words).expect("the pool is well-formed");
+    let (reached, mut expected, mut found) = (graph.reached(), words.to_vec(), words.to_vec());
+    reached.iter().for_each(|&i| expected[cell_at(i)] = 3);
+    let told = marker(&mut found).map_err(|refusal| format!("{}: refused {refusal}", what()))?;
+    equal(what, &told, &graph.marking())?;
+    equal_words(what, &found, &expected)?;
+    // A run begins at the cell of a register that no register before it leads to.
+    let (mut begun, mut before) = (Vec::new(), BTreeSet::new());
+    for link in graph.registers {
+        if link != 0 && !before.contains(&link) {
+            begun.push(link);
+            let mut alone = graph.clone();
+            alone.registers = [0; REGISTERS];
+            alone.registers[0] = link;
+            before.extend(alone.reached());
+        }
+    }
+    let (kept, runs) = (reached.len() as u32, begun.len() as u32);
+    let [retreat, follow_left, pass_left, follow_right, pass_right] = told.times;
+    equal(what, told.runs, runs)?;
+    // Each kept cell has a first visit, a second and a third.
+    equal(what, (follow_left + pass_left, follow_right + pass_right, retreat), (kept, kept, kept))?;
+    // Cases 2 and 4 go to each kept cell at which no run begins, once, in the order of the first visits.
+    equal(what, follow_left + follow_right, kept - runs)?;
+    let mut others = graph.depth_first();
+    others.retain(|i| !begun.contains(i));
+    equal(what, &told.entered, &others)?;
+    // The four-way exchanges: for one run over n cells 2 * n - 1.
+    equal(what, retreat + follow_left + follow_right, 2 * kept - runs)?;
+    let visits = told.times.iter().sum();
+    equal(what, (visits, told.cases.len()), (3 * kept, 3 * reached.len()))?;
+    equal(what, pool.collect(&mut words.to_vec()), Ok((kept, visits)))
 }
 
 /// Every form of collect on the same words.

@@ -116,6 +116,18 @@ pub fn well_formed(random: &mut Random, n: usize) -> Vec<u32> {
     words
 }
 
+/// Well-formed pools of many kinds: so many random ones, and then graphs of known shape.
+pub fn well_formed_pools(random: &mut Random, count: usize) -> impl Iterator<Item = Vec<u32>> + '_ {
+    let known = SHAPES.into_iter().flat_map(|shape| [1, 2, 7, 64, 500].map(|n| Some((shape, n))));
+    (0..count).map(|_| None).chain(known).map(|known| match known {
+        Some((shape, n)) => shape.words(n, random),
+        None => {
+            let n = cells(random);
+            well_formed(random, n)
+        }
+    })
+}
+
 /// A pool that calls have made.
 pub fn built_by_calls(random: &mut Random, n: usize) -> Vec<u32> {
     let mut words = vec![0; words_for(n)];

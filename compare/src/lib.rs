@@ -6,6 +6,7 @@
 //! * `baseline` is a second implementation with the algorithms of the source documents, and the benchmark's baseline.
 //! * `pool` (feature `archive`) is the library under test behind safe functions.
 //! * `script` says what the program `runscript` prints.
+//! * `visit` names the five cases of a visit in marking by reversal.
 //! * `picture` draws the tables of docs/PERFORMANCE.md.
 //! * `checks` are the comparisons; the tests run them on every implementation.
 
@@ -21,6 +22,7 @@ pub mod pool;
 pub mod random;
 pub mod reference;
 pub mod script;
+pub mod visit;
 
 /// Refusal numbers of the document.
 pub mod refusal {

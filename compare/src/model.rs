@@ -2,10 +2,12 @@
 //!
 //! The words are decoded into a structure, changed there, and encoded again only where the call is accepted: so a
 //! refusal changes nothing by construction. The marker goes by breadth with a set; visits are three for each kept
-//! cell; the stack marker is Algorithm 2 of source document 003 on a list without limit, where two equal unmarked links
-//! are one. A refusal comes from its cause, and the model answers with either.
+//! cell, and the cases of the visits are those of the recursive procedure of source document 000; the stack marker is
+//! Algorithm 2 of source document 003 on a list without limit, where two equal unmarked links are one. A refusal comes
+//! from its cause, and the model answers with either.
 
 use crate::cause::{Cause, Link, Name, Place};
+use crate::visit::{Case, Marking, CASES};
 use crate::{Interface, Tally, CELL, FREE, HEADER, MOST_CELLS, MOST_RECURSIVE, REGISTERS, USED};
 use std::collections::{BTreeSet, VecDeque};
 
@@ -56,6 +58,17 @@ pub struct InHand<'a> {
     pub unmarked: (bool, bool),
     /// What it holds, the newest entry last.
     pub entries: &'a [u32],
+}
+
+/// A visit of the recursive procedure.
+pub struct Visit<'a> {
+    /// The register that its run began from.
+    pub register: usize,
+    /// The cells that the procedure has entered and not left, the visited one last: the path of source document 000.
+    pub path: &'a [u32],
+    pub case: Case,
+    /// The link that was looked at; none at the third visit.
+    pub next: Option<u32>,
 }
 
 /// A set of links.
@@ -200,6 +213,67 @@ impl Pool {
             mark(self, link, &mut found);
         }
         found
+    }
+
+    /// The recursive procedure of source document 000, which visits a cell three times: the case of a visit is told by whether
+    /// it calls itself for the link. Each visit is shown; no link is reversed.
+    pub fn mark_recursively(&self, mut show: impl FnMut(Visit)) {
+        struct Walk<'a> {
+            pool: &'a Pool,
+            register: usize,
+            marked: Set,
+            path: Vec<u32>,
+            show: &'a mut dyn FnMut(Visit),
+        }
+        impl Walk<'_> {
+            fn visit(&mut self, case: Case, next: Option<u32>) {
+                (self.show)(Visit { register: self.register, path: &self.path, case, next });
+            }
+
+            fn mark(&mut self, p: u32) {
+                let Cell { left, right, .. } = *self.pool.cell(p);
+                self.marked.insert(p);
+                self.path.push(p);
+                if self.marked.contains(left) {
+                    self.visit(Case::PassLeft, Some(left));
+                } else {
+                    self.visit(Case::FollowLeft, Some(left));
+                    self.mark(left);
+                }
+                if self.marked.contains(right) {
+                    self.visit(Case::PassRight, Some(right));
+                } else {
+                    self.visit(Case::FollowRight, Some(right));
+                    self.mark(right);
+                }
+                self.visit(Case::Retreat, None);
+                self.path.pop();
+            }
+        }
+        // Nil counts as marked.
+        let mut marked = Set::new(self.n());
+        marked.insert(0);
+        let mut walk = Walk { pool: self, register: 0, marked, path: Vec::new(), show: &mut show };
+        for (register, link) in self.registers.into_iter().enumerate() {
+            walk.register = register;
+            if !walk.marked.contains(link) {
+                walk.mark(link);
+            }
+        }
+    }
+
+    /// What marking by reversal does on the pool, by the recursive procedure.
+    pub fn marking(&self) -> Marking {
+        let (mut cases, mut entered, mut begun) = (Vec::new(), Vec::new(), BTreeSet::new());
+        self.mark_recursively(|visit| {
+            cases.push(visit.case);
+            begun.insert(visit.register);
+            if let (Case::FollowLeft | Case::FollowRight, Some(link)) = (visit.case, visit.next) {
+                entered.push(link);
+            }
+        });
+        let times = CASES.map(|case| cases.iter().filter(|&&other| other == case).count() as u32);
+        Marking { times, runs: begun.len() as u32, cases, entered }
     }
 
     /// The cells in the order of their first depth-first visit, left before right, registers in order.

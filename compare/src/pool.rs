@@ -3,6 +3,10 @@
 //! Every result is lent with a number that no call writes by chance, so that a refusal that writes it is noticed, and stands
 //! between two more of these, which no call may write.
 
+#[cfg(c_baseline)]
+use crate::visit::{Marking, CASES};
+#[cfg(c_baseline)]
+use crate::CELL;
 use crate::{Interface, Tally};
 use std::fmt::Debug;
 
@@ -227,4 +231,53 @@ bind! {
     baseline_fresh, baseline_copy, baseline_clear, baseline_new, baseline_left, baseline_right, baseline_setleft, baseline_setright,
     baseline_setvalue, baseline_value, baseline_same, baseline_collect, baseline_collect_tally, baseline_collect_stack,
     baseline_worst_case, baseline_collect_recursive, baseline_save, baseline_load, baseline_check_image, baseline_occupancy
+}
+
+#[cfg(before)]
+bind! {
+    /// An earlier version of the library.
+    Before:
+    before_cellpool_fresh, before_cellpool_copy, before_cellpool_clear, before_cellpool_new, before_cellpool_left,
+    before_cellpool_right, before_cellpool_setleft, before_cellpool_setright, before_cellpool_setvalue,
+    before_cellpool_value, before_cellpool_same, before_cellpool_collect, before_cellpool_collect_tally,
+    before_cellpool_collect_stack, before_cellpool_worst_case, before_cellpool_collect_recursive, before_cellpool_save,
+    before_cellpool_load, before_cellpool_check_image, before_cellpool_occupancy
+}
+
+#[cfg(c_baseline)]
+extern "C" {
+    fn baseline_mark_by_cases(
+        words: *mut u32,
+        len: usize,
+        times: *mut u32,
+        runs: *mut u32,
+        cases: *mut u8,
+        entered: *mut u32,
+    ) -> u32;
+}
+
+#[cfg(c_baseline)]
+impl PlainC {
+    /// Mark a well-formed pool by link reversal, one visit after the other, and tell the visits.
+    pub fn mark_by_cases(words: &mut [u32]) -> Result<Marking, u32> {
+        // Room for three visits of every cell, and each of them could go to a cell.
+        let room = 3 * (words.len() / CELL);
+        let (mut times, mut runs) = ([UNSET; 5], UNSET);
+        let (mut cases, mut entered) = (vec![0u8; room], vec![UNSET; room]);
+        // SAFETY: as above; a well-formed pool has at most a cell for four words, and three visits of each.
+        done(unsafe {
+            baseline_mark_by_cases(
+                words.as_mut_ptr(),
+                words.len(),
+                times.as_mut_ptr(),
+                &mut runs,
+                cases.as_mut_ptr(),
+                entered.as_mut_ptr(),
+            )
+        })?;
+        cases.retain(|&number| number != 0);
+        entered.retain(|&cell| cell != UNSET);
+        let cases = cases.into_iter().map(|number| CASES[usize::from(number) - 1]).collect();
+        Ok(Marking { times, runs, cases, entered })
+    }
 }

@@ -6,6 +6,7 @@ use cellpool_compare::baseline::{sweep, PlainRust, MARKED};
 use cellpool_compare::cause::Place;
 use cellpool_compare::checks::{self, Comparison};
 use cellpool_compare::random::Random;
+use cellpool_compare::visit::{Case, Marking};
 use cellpool_compare::{cell_at, words_for, Interface, Tally, FREE, HEADER, REGISTERS, USED};
 
 /// What is wrong in how the numbers of an image are read.
@@ -48,6 +49,37 @@ enum Equal {
     MarkedLast,
 }
 
+/// What is wrong in how marking by reversal visits a cell, or tells its visits.
+#[derive(Clone, Copy, Debug, PartialEq, Eq)]
+enum Misvisit {
+    /// Case 3 goes to the left cell all the same, unless it is nil.
+    PassLeftGoes,
+    /// Case 5 goes to the right cell all the same, unless it is nil.
+    PassRightGoes,
+    /// Case 3 comes where case 2 should: no left cell is gone to.
+    LeftPassed,
+    /// Case 5 comes where case 4 should: no right cell is gone to.
+    RightPassed,
+    /// Case 1 comes at the second visit.
+    RetreatAtSecond,
+    /// Nil is visited as node 0 of source document 000.
+    NilVisited,
+    /// Case 1 goes back and leaves the links of the cell as they stand.
+    RetreatLeavesLinks,
+    /// Cases 2 and 4 are counted for each other.
+    FollowsExchanged,
+    /// Cases 3 and 5 are counted for each other.
+    PassesExchanged,
+    /// The next link is looked at before 1 is added: a cell goes to itself over its left link, which changes no word.
+    LookedAtFirst,
+    /// The right link comes before the left one.
+    RightFirst,
+    /// A run is counted for every register that is not nil.
+    RunsOfMarked,
+    /// The cells at which runs begin are told with those that cases 2 and 4 go to.
+    BeginsEntered,
+}
+
 /// What is wrong in how the worst case for the stack is built.
 #[derive(Clone, Copy, Debug, PartialEq, Eq)]
 enum Misbuilt {
@@ -84,6 +116,8 @@ enum Fault {
     Reads(&'static str, Misread),
     /// The stack marker treats equal links so.
     Links(Equal),
+    /// Cells are visited so.
+    Visits(Misvisit),
     /// The worst case is built so.
     Builds(Misbuilt),
     CollectKeepsAll,
@@ -200,6 +234,27 @@ const EQUAL_LINKS: [Fault; 5] = [
     Links(Equal::FullFirst),
 ];
 
+/// A marker by reversal that is wrong, which small pools show.
+const VISITS: [Fault; 7] = [
+    Visits(Misvisit::PassLeftGoes),
+    Visits(Misvisit::PassRightGoes),
+    Visits(Misvisit::LeftPassed),
+    Visits(Misvisit::RightPassed),
+    Visits(Misvisit::RetreatAtSecond),
+    Visits(Misvisit::NilVisited),
+    Visits(Misvisit::RetreatLeavesLinks),
+];
+
+/// A marker by reversal that collects as it should, and is wrong in the cases of its visits or in what it tells of them.
+const TOLD: [Fault; 6] = [
+    Visits(Misvisit::FollowsExchanged),
+    Visits(Misvisit::PassesExchanged),
+    Visits(Misvisit::LookedAtFirst),
+    Visits(Misvisit::RightFirst),
+    Visits(Misvisit::RunsOfMarked),
+    Visits(Misvisit::BeginsEntered),
+];
+
 /// A worst case that is wrong, which words of any kind show, and words of every size.
 const WORST_CASE: [Fault; 14] = [
     Builds(Misbuilt::LastNotReached),
@@ -221,7 +276,7 @@ const WORST_CASE: [Fault; 14] = [
 
 /// The faults that each comparison finds. Those of the first one show in the answers to a list of calls, without a look at
 /// the words, and no others do.
-const FOUND_BY: [(Comparison, &[Fault]); 25] = [
+const FOUND_BY: [(Comparison, &[Fault]); 27] = [
     (
         checks::REFERENCE,
         &[
@@ -239,6 +294,13 @@ const FOUND_BY: [(Comparison, &[Fault]); 25] = [
             ValueOfNilIsZero,
             EveryCallRefused,
             FreshLeavesRegister,
+            Visits(Misvisit::PassLeftGoes),
+            Visits(Misvisit::PassRightGoes),
+            Visits(Misvisit::LeftPassed),
+            Visits(Misvisit::RightPassed),
+            Visits(Misvisit::RetreatAtSecond),
+            Visits(Misvisit::NilVisited),
+            Visits(Misvisit::RetreatLeavesLinks),
         ],
     ),
     (
@@ -275,6 +337,8 @@ const FOUND_BY: [(Comparison, &[Fault]); 25] = [
         ],
     ),
     (checks::STACK_LENGTHS, &[StackEnoughAtOneLength, StackTooShortAtOneLength]),
+    (checks::COLLECTIONS, &VISITS),
+    (checks::SMALL_POOLS, &VISITS),
     (checks::COLLECTIONS, &EQUAL_LINKS),
     (checks::SMALL_POOLS, &EQUAL_LINKS),
     (checks::STACK_LENGTHS, &EQUAL_LINKS),
@@ -553,6 +617,72 @@ fn mark_with_stack(fault: Option<Equal>, words: &mut [u32], most: usize) -> bool
     true
 }
 
+/// Mark by reversal, with this fault or none, and tell the visits. The marking is given up where it does not end.
+fn mark_by_reversal(fault: Option<Misvisit>, words: &mut [u32]) -> Marking {
+    const ROOT: u32 = u32::MAX;
+    let is = |other: Misvisit| fault == Some(other);
+    // Node 0 of source document 000 is marked from the start here, and then not visited.
+    let mut nodes = vec![[if is(Misvisit::NilVisited) { USED } else { MARKED }, 0, 0, 0]];
+    nodes.extend(words[HEADER..].chunks(4).map(|cell| [cell[0], cell[1], cell[2], cell[3]]));
+    let turn = |nodes: &mut [[u32; 4]]| nodes.iter_mut().for_each(|node| node.swap(1, 2));
+    if is(Misvisit::RightFirst) {
+        turn(&mut nodes);
+    }
+    let most = 3 * nodes.len();
+    let mut told = Marking::default();
+    for &register in &words[2..HEADER] {
+        let begins = register != 0 && nodes[register as usize][0] == USED;
+        told.runs += u32::from(begins || (is(Misvisit::RunsOfMarked) && register != 0));
+        if begins && is(Misvisit::BeginsEntered) {
+            told.entered.push(register);
+        }
+        let (mut p, mut q) = (if begins { register } else { ROOT }, ROOT);
+        while p != ROOT && told.cases.len() < most {
+            let before = nodes[p as usize][0];
+            nodes[p as usize][0] += 1;
+            let [m, l, r, _] = nodes[p as usize];
+            let unmarked = m < MARKED && nodes[l as usize][0] == USED;
+            let itself = is(Misvisit::LookedAtFirst) && l == p && before == USED;
+            let case = match m {
+                2 if is(Misvisit::RetreatAtSecond) => Case::Retreat,
+                1 if is(Misvisit::LeftPassed) => Case::PassLeft,
+                2 if is(Misvisit::RightPassed) => Case::PassRight,
+                1 if unmarked || itself => Case::FollowLeft,
+                1 => Case::PassLeft,
+                2 if unmarked => Case::FollowRight,
+                2 => Case::PassRight,
+                _ => Case::Retreat,
+            };
+            let goes = match case {
+                Case::PassLeft => is(Misvisit::PassLeftGoes) && l != 0,
+                Case::PassRight => is(Misvisit::PassRightGoes) && l != 0,
+                _ => true,
+            };
+            if !(case == Case::Retreat && is(Misvisit::RetreatLeavesLinks)) {
+                nodes[p as usize][1..3].copy_from_slice(&[r, q]);
+            }
+            (p, q) = if goes { (l, p) } else { (p, l) };
+            let counted = match case {
+                Case::FollowLeft if is(Misvisit::FollowsExchanged) => Case::FollowRight,
+                Case::FollowRight if is(Misvisit::FollowsExchanged) => Case::FollowLeft,
+                Case::PassLeft if is(Misvisit::PassesExchanged) => Case::PassRight,
+                Case::PassRight if is(Misvisit::PassesExchanged) => Case::PassLeft,
+                _ => case,
+            };
+            told.times[counted as usize - 1] += 1;
+            told.cases.push(case);
+            if let Case::FollowLeft | Case::FollowRight = case {
+                told.entered.push(p);
+            }
+        }
+    }
+    if is(Misvisit::RightFirst) {
+        turn(&mut nodes);
+    }
+    words[HEADER..].copy_from_slice(&nodes[1..].concat());
+    told
+}
+
 impl Interface for Faulty {
     fn fresh(&self, words: &mut [u32]) -> Result<u32, u32> {
         self.refuses("fresh", words)?;
@@ -696,6 +826,15 @@ impl Interface for Faulty {
         }
         let (kept, visits) = answer?;
         match self.0 {
+            Correct | Visits(_) => {
+                let fault = match self.0 {
+                    Visits(fault) => Some(fault),
+                    _ => None,
+                };
+                words.copy_from_slice(&before);
+                let visits = mark_by_reversal(fault, words).cases.len() as u32;
+                return Ok((sweep(words, n), visits));
+            }
             CollectKeepsAll => {
                 words.copy_from_slice(&before);
                 let used = (1..=n).filter(|&i| words[cell_at(i)] == USED).count() as u32;
@@ -936,6 +1075,29 @@ fn the_reference_model_finds_the_faults_that_answers_show() {
     }
 }
 
+#[test]
+fn every_fault_of_a_marker_is_found_by_the_cases_that_it_tells() {
+    let told = |fault: Option<Misvisit>| {
+        let marker = move |words: &mut [u32]| Ok(mark_by_reversal(fault, words));
+        checks::cases(&PlainRust, &marker, &mut Random::new(42), 200)
+    };
+    assert_eq!(told(None), Ok(()));
+    for fault in VISITS.into_iter().chain(TOLD) {
+        let Visits(fault) = fault else { panic!("{fault:?} is not one of a marker") };
+        assert!(told(Some(fault)).is_err(), "{fault:?} is not found");
+    }
+}
+
+#[test]
+fn answers_and_words_do_not_show_a_fault_in_the_cases_alone() {
+    for fault in TOLD {
+        for comparison in [checks::REFERENCE, checks::COLLECTIONS] {
+            let fewer = Comparison { rounds: comparison.rounds / 20, ..comparison };
+            assert_eq!(fewer.on(&Faulty(fault)), Ok(()), "{fault:?}");
+        }
+    }
+}
+
 /// Faults put into the plain C version as a change of its text, each of which a program in C must find: those of lengths and of
 /// the memory that is touched, which no comparison of slices shows, and some that show the fuzz target at work, also where the
 /// plain C version that it compares with has the same fault.
@@ -950,8 +1112,21 @@ mod in_c {
     const LINKS: &str = "[LEFT] = i + 2 <= n ? i + 2 : 0;\n        cell(words, i)[RIGHT] =";
     const LINKS_EXCHANGED: &str = "[RIGHT] = i + 2 <= n ? i + 2 : 0;\n        cell(words, i)[LEFT] =";
 
+    /// The exchange of case 1, as it is and with the links exchanged; the second visit in a row, and without its count; a visit,
+    /// and one that looks at the next link first; where a run begins, and with a count of every register that is not nil.
+    const RETREAT: &str = "as they were. */\n        to.p = hand.l, to.l = hand.r, to.r = hand.q,";
+    const RETREAT_EXCHANGED: &str = "as they were. */\n        to.p = hand.l, to.l = hand.q, to.r = hand.r,";
+    const SECOND: &str = "hand = visit(words, hand, &which);\n                visits++;\n            }\n            if";
+    const SECOND_UNCOUNTED: &str = "hand = visit(words, hand, &which);\n            }\n            if";
+    const VISIT: &str = "cell(words, hand.p)[STATE] = ++hand.m;\n    *which = case_of(words, hand);";
+    const VISIT_LATE: &str = "hand.m++;\n*which = case_of(words, hand);\ncell(words, hand.p)[STATE] = hand.m;";
+    const RUN: &str =
+        "if (!unmarked(words, REGISTER(i))) continue;\n        uint32_t p = REGISTER(i), q = ROOT;\n        ++*runs;";
+    const RUN_OF_MARKED: &str =
+        "if (REGISTER(i) != 0) ++*runs;\nif (!unmarked(words, REGISTER(i))) continue;\nuint32_t p = REGISTER(i), q = ROOT;";
+
     /// What finds the fault, the text, and what stands in its place.
-    const CHANGES: [(&str, &str, &str); 75] = [
+    const CHANGES: [(&str, &str, &str); 84] = [
         // Lengths cut to 32 or 16 bits.
         ("lengths", "cells_of(size_t len)", "cells_of(uint32_t len)"),
         ("lengths", "size_of(const uint32_t *words, size_t len)", "size_of(const uint32_t *words, uint32_t len)"),
@@ -1002,6 +1177,11 @@ mod in_c {
         ("fuzz", "(height == stack_len) return 0;", "(height == stack_len) return stack_len == 5;"),
         ("fuzz", "byte > 0x0F", "byte > 0x1F"),
         ("fuzz", "link > k ?", "link > k + 1 ?"),
+        // Visits: left cells not gone to; right ones; links exchanged on the way back; a visit not counted.
+        ("fuzz", "unmarked(words, hand.l) ? FOLLOW_LEFT : PASS_LEFT", "PASS_LEFT"),
+        ("fuzz", "unmarked(words, hand.l) ? FOLLOW_RIGHT : PASS_RIGHT", "PASS_RIGHT"),
+        ("fuzz", RETREAT, RETREAT_EXCHANGED),
+        ("fuzz", SECOND, SECOND_UNCOUNTED),
         // Two equal links: one pushed; not marked; gone to where they are marked, three times in a row at most; looked at after the
         // stack is found full; the end where they are marked.
         ("fuzz", "right != left && unmarked", "unmarked"),
@@ -1059,6 +1239,13 @@ mod in_c {
         ("fuzz both", LINKS, LINKS_EXCHANGED),
         ("fuzz both", "*entries = (n - 1) / 2;", "*entries = n / 2;"),
         ("fuzz both", "} else if (height > 0) {", "} else if (height > 0 && (left != right || left == 0)) {"),
+        // Cases that are told wrong, and collect as they should: 4 for 2; 3 for 5; 2 and 4 counted for each other; 2 for 3 where
+        // the left link leads to the cell itself; a run for each register that is not nil.
+        ("fuzz both", "? FOLLOW_LEFT :", "? FOLLOW_RIGHT :"),
+        ("fuzz both", ": PASS_RIGHT", ": PASS_LEFT"),
+        ("fuzz both", "times[which - 1]++", "times[which % 2 == 0 ? 5 - which : which - 1]++"),
+        ("fuzz both", VISIT, VISIT_LATE),
+        ("fuzz both", RUN, RUN_OF_MARKED),
     ];
 
     #[test]
@@ -1079,7 +1266,8 @@ mod in_c {
             let (objects, arguments) = match program {
                 "fuzz" => (vec![source, plain.clone(), fuzz.clone()], random_inputs),
                 "fuzz both" => {
-                    let both = compile("changed.o", &cc(), &["-std=c99", "-O1", "-c"], std::slice::from_ref(&source));
+                    // Compiled in a moment, where a fault shows at once: no need for speed.
+                    let both = compile("changed.o", &cc(), &["-std=c99", "-O0", "-c"], std::slice::from_ref(&source));
                     (vec![source, both, fuzz.clone()], random_inputs)
                 }
                 _ => (vec![source, lent.clone()], vec![program.to_string()]),

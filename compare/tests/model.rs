@@ -2,7 +2,7 @@
 
 use cellpool_compare::cause::{Cause, Link, Name, Place};
 use cellpool_compare::checks::{self, Comparison};
-use cellpool_compare::generate::{self, Shape, SHAPES};
+use cellpool_compare::generate::{self, Shape};
 use cellpool_compare::model::{groups, parse, Cell, Model, Pool};
 use cellpool_compare::random::{rounds, seed, Random};
 use cellpool_compare::{Interface, Tally, USED};
@@ -15,18 +15,8 @@ fn random(stream: u64) -> Random {
 
 /// Well-formed pools of many kinds.
 fn well_formed_pools(random: &mut Random, count: usize) -> Vec<Pool> {
-    let mut pools: Vec<Pool> = (0..count)
-        .map(|_| {
-            let n = generate::cells(random);
-            Pool::decode(&generate::well_formed(random, n)).expect("the size is right")
-        })
-        .collect();
-    for shape in SHAPES {
-        for n in [1, 2, 7, 64, 500] {
-            pools.push(Pool::decode(&shape.words(n, random)).expect("the size is right"));
-        }
-    }
-    pools
+    let pools = generate::well_formed_pools(random, count);
+    pools.map(|words| Pool::decode(&words).expect("the size is right")).collect()
 }
 
 #[test]

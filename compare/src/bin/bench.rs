@@ -79,6 +79,8 @@ impl Bench {
             ("plain Rust", &PlainRust),
             #[cfg(c_baseline)]
             ("plain C", &cellpool_compare::pool::PlainC),
+            #[cfg(before)]
+            ("before", &cellpool_compare::pool::Before),
         ];
         Bench { pools, samples }
     }

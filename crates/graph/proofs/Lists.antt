@@ -3,7 +3,7 @@ use Prim.Native.Nat.{ℕ, zero, suc, _<_}
 use native.Mathlib.Omega.{arith}
 use mathlib.Core.Path.{_≡_, refl, sym, ap, subst}
 use mathlib.Core.Logic.{⊎-elim}
-use mathlib.Core.List.{List, [], _∷_, _++_, List·Memᴰ, List·Memᴰ·head, List·Memᴰ·tail, List·Memᴰ·not-nil, List·Memᴰ·cases-cons, List·Memᴰ·append-cases, Forall₂, Forall₂·nil, Forall₂·cons}
+use mathlib.Core.List.{List, [], _∷_, _++_, List·Memᴰ, List·Memᴰ·head, List·Memᴰ·tail, List·Memᴰ·not-nil, List·Memᴰ·cases-cons, List·Memᴰ·append-cases, Memᴰ·append-right, Forall₂, Forall₂·nil, Forall₂·cons}
 use mathlib.Core.Bool.{Bool, true, false, false≢true, _||_, or-true}
 use lib.ListN.{length, getD}
 use lib.Dec.{eqb}
@@ -51,6 +51,13 @@ distinct-append Distinct.none b apart = b
 distinct-append (Distinct.more {x = x} {xs = xs} n a) b apart =
     Distinct.more (λ h. ⊎-elim n (apart x (List·Memᴰ·head refl)) (List·Memᴰ·append-cases xs h))
     (distinct-append a b (λ y h. apart y (List·Memᴰ·tail h)))
+
+-- And where two lists join to one with no member twice, none is in common.
+pub distinct-parts : (t : List ℕ) {u : List ℕ} → Distinct (t ++ u) → Each (λ x. List·Memᴰ x u → ⊥) t × Distinct u
+distinct-parts [] {u} d = (each-nil (λ x. List·Memᴰ x u → ⊥), d)
+distinct-parts (y ∷ t) {u} (Distinct.more n d) =
+    let (apart, later) = distinct-parts t d in
+    (each-cons (λ x. List·Memᴰ x u → ⊥) (λ h. n (Memᴰ·append-right t h)) apart, later)
 
 -- What stands at a place of a list is a member.
 pub getD-member : (t : List ℕ) (i : ℕ) → i < length t → List·Memᴰ (getD t i 0) t

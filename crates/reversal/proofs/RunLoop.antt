@@ -1,5 +1,5 @@
 -- The loop that makes the visits of a run: it makes exactly those, until the virtual root is in hand.
-use Prim.Native.Nat.{ℕ, suc, _+_, _^_, _<_, _≤_}
+use Prim.Native.Nat.{ℕ, suc, _+_, _-_, _^_, _<_, _≤_}
 use native.Mathlib.Omega.{arith}
 use mathlib.Core.Path.{_≡_, refl, ap, _∙_}
 use mathlib.Core.List.{List}
@@ -11,7 +11,6 @@ use Rattle.pool.proofs.Laws.{length-setCell}
 use Rattle.reversal.specs.declared.Marker.{Marker}
 use Rattle.reversal.specs.Reversal.{unmarked, visitOf, Visitable, Visits, marker, Run}
 use Rattle.reversal.specs.Steps.{EndingRun}
-use Rattle.reversal.proofs.Measure.{remaining, remaining-visit}
 
 length-visit : (R : ℕ) (s : Marker × List ℕ) → length (visitOf R s .1) ≡ length (s .1)
 unfolding visitOf
@@ -56,43 +55,60 @@ module _ (R n : ℕ) where
   pub run-same : {p : ℕ} {s t u : ℕ × List ℕ} → Run R n p s t → Run R n p s u → t ≡ u
   run-same (j, q, a) (k, q′, b) = ap (λ (x : Marker × List ℕ). (x .0 .visits, x .1)) (visits-same a b (omega arith) (omega arith))
 
+  -- and as many visits
+  pub run-length : {p : ℕ} {s t u : ℕ × List ℕ} (a : Run R n p s t) (b : Run R n p s u) → a .0 ≡ b .0
+  run-length (j, q, a) (k, q′, b) = omega (arith, counted a, counted b, ap (λ (x : ℕ × List ℕ). x .0) (run-same (j, q, a) (k, q′, b)))
+
   -- what the loop keeps: of every run from the start, visits are left that lead to its end
   pub record Going (p c : ℕ) (w₀ w : List ℕ) (m : Marker) : Type 0 where
     pub len : length w ≡ length w₀
     pub rest : (u : ℕ × List ℕ) → Run R n p (c, w₀) u → (k q : ℕ) × Visits R n k (m, w) (marker (suc n) q (u .0), u .1)
 
-  module _ (p c : ℕ) (w₀ : List ℕ) where
-    pub going-first : (root : ℕ) → root ≡ suc n → Going p c w₀ w₀ (marker p root c)
-    going-first root e = record { len = refl; rest = λ u run. rw e run }
+  pub going-first : (p c : ℕ) (w₀ : List ℕ) (root : ℕ) → root ≡ suc n → Going p c w₀ w₀ (marker p root c)
+  going-first p c w₀ root e = record { len = refl; rest = λ u run. rw e run }
 
-    module _ (w : List ℕ) (m : Marker) (g : Going p c w₀ w m) where
-      -- with a cell in hand a visit can be made, and counted
-      pub going-visit : EndingRun R n p (c, w₀) → m .cell ≤ n → Visitable R n (m, w) × (m .visits + 1 < 2 ^ 32)
-      going-visit ends bounded =
-          let (k, q, left) = g .rest (ends .last) (ends .run) in
-          let (v, fewer, others) = visits-next left (omega arith) bounded in
-          (v, omega (arith, ends .fits))
+-- with the virtual root in hand the run is at its end
+pub going-last : {R n p c : ℕ} {w₀ w : List ℕ} {m : Marker} → Going R n p c w₀ w m → n < m .cell → (u : ℕ × List ℕ) → Run R n p (c, w₀) u
+    → _≡_ {A = ℕ × List ℕ} (m .visits, w) u
+going-last {R} {n} g past u run =
+    let (k, q, left) = g .rest u run in
+    ap (λ (s : Marker × List ℕ). (s .0 .visits, s .1)) (visits-end R n left past)
 
-      pub going-next : (m' : Marker) (w' : List ℕ) → m .cell ≤ n → _≡_ {A = Marker × List ℕ} (m', w') (visitOf R (m, w)) → Going p c w₀ w' m'
-      going-next m' w' bounded e =
+-- a cell is in hand, in a turn of the loop that began with `top` numbers left to count with
+pub record InHand (R n p c : ℕ) (w₀ : List ℕ) (top : ℕ) (w : List ℕ) (m : Marker) : Type 0 where
+  pub going : Going R n p c w₀ w m
+  pub bounded : m .cell ≤ n
+  pub most : 2 ^ 32 - m .visits ≤ top
+
+pub in-hand : {R n p c : ℕ} {w₀ w : List ℕ} {m : Marker} → Going R n p c w₀ w m → m .cell ≤ n → InHand R n p c w₀ (2 ^ 32 - m .visits) w m
+in-hand g bounded = record { going = g; bounded = bounded; most = omega arith }
+
+module _ {R n p c : ℕ} {w₀ : List ℕ} {top : ℕ} {w : List ℕ} {m : Marker} (h : InHand R n p c w₀ top w m) (ends : EndingRun R n p (c, w₀)) where
+  next : Visitable R n (m, w) × (m .visits < ends .last .0)
+  next =
+      let (k, q, left) = h .going .rest (ends .last) (ends .run) in
+      let (v, fewer, others) = visits-next R n left (omega arith) (h .bounded) in
+      (v, fewer)
+
+  -- a visit can be made, and counted
+  pub in-hand-visit : poolLength R n ≤ length w₀ → Visitable R n (m, w) × (poolLength R n ≤ length w) × (m .visits + 1 < 2 ^ 32)
+  in-hand-visit room = (next .0, omega (arith, h .going .len), omega (arith, next .1, ends .fits))
+
+  module _ {m' : Marker} {w' : List ℕ} (e : _≡_ {A = Marker × List ℕ} (m', w') (visitOf R (m, w))) where
+    -- it leads on, and leaves fewer numbers to count with
+    pub in-hand-next : Going R n p c w₀ w' m' × (2 ^ 32 - m' .visits < top)
+    in-hand-next =
+        let once : m' .visits ≡ suc (m .visits) = ap (λ (s : Marker × List ℕ). s .0 .visits) e ∙ visits-visit R (m, w) in (
           record {
-            len = ap (λ (s : Marker × List ℕ). length (s .1)) e ∙ (length-visit R (m, w) ∙ g .len);
+            len = ap (λ (s : Marker × List ℕ). length (s .1)) e ∙ (length-visit R (m, w) ∙ h .going .len);
             rest = λ u run.
-                let (k, q, left) = g .rest u run in
-                let (v, fewer, (j, others)) = visits-next left (omega arith) bounded in
+                let (k, q, left) = h .going .rest u run in
+                let (v, fewer, (j, others)) = visits-next R n left (omega arith) (h .bounded) in
                 (j, q, rw e others);
-          }
+          },
+          omega (arith, once, next .1, ends .fits, h .most),
+        )
 
-      -- the visits that are left become fewer
-      pub going-less : (m' : Marker) (w' : List ℕ) → EndingRun R n p (c, w₀) → poolLength R n ≤ length w₀ → m .cell ≤ n
-          → _≡_ {A = Marker × List ℕ} (m', w') (visitOf R (m, w)) → remaining R n w' < remaining R n w
-      going-less m' w' ends room bounded e =
-          let once = remaining-visit R n (m, w) (going-visit ends bounded .0) (omega (arith, g .len)) in
-          let same : w' ≡ visitOf R (m, w) .1 = ap (λ (s : Marker × List ℕ). s .1) e in
-          rw same (omega arith)
-
-      -- with the virtual root in hand the run is at its end
-      pub going-last : n < m .cell → (u : ℕ × List ℕ) → Run R n p (c, w₀) u → _≡_ {A = ℕ × List ℕ} (m .visits, w) u
-      going-last past u run =
-          let (k, q, left) = g .rest u run in
-          ap (λ (s : Marker × List ℕ). (s .0 .visits, s .1)) (visits-end left past)
+    -- and where a cell is in hand after it, the turn can go on
+    pub in-hand-again : m' .cell ≤ n → InHand R n p c w₀ top w' m'
+    in-hand-again bounded = record { going = in-hand-next .0; bounded = bounded; most = omega (arith, in-hand-next .1) }

@@ -1,37 +1,42 @@
--- One visit as the code makes it, write by write, is the visit of the definition.
-use Prim.Native.Nat.{ℕ, suc, _+_, _<_, _≤_}
+-- One visit as the code makes it, step by step, is the visit of the definition.
+use Prim.Native.Nat.{ℕ, _+_, _≤_}
+use native.Mathlib.Omega.{arith}
 use native.Mathlib.Numerals.{add-one}
 use mathlib.Core.Path.{_≡_, ap, _∙_}
 use mathlib.Core.List.{List}
-use mathlib.Core.Bool.{Bool, cond, _||_}
+use mathlib.Core.Bool.{false}
 use lib.ListN.{length}
-use native.Mathlib.Omega.{arith}
-use Rattle.pool.specs.Layout.{poolLength, cell, setCell, state, left, right}
-use Rattle.pool.specs.States.{isMarked}
+use borrow.Author.Tests.{eqb-false}
+use Rattle.pool.specs.Layout.{poolLength, setCell, state, left}
+use Rattle.pool.specs.States.{isMarked, markedState}
 use Rattle.pool.proofs.Laws.{cell-same}
 use Rattle.reversal.specs.declared.Marker.{Marker}
-use Rattle.reversal.specs.Reversal.{unmarked, visitOf, marker}
+use Rattle.reversal.specs.declared.VisitCase.{VisitCase}
+use Rattle.reversal.specs.Reversal.{visitOf, Visitable, marker}
+use Rattle.reversal.specs.Cases.{caseOf, actOf, added}
+use Rattle.reversal.proofs.Cases.{next-link, visit-is-by-case}
 
--- the writes of a visit, one after the other
-pub record Writes (R : ℕ) (m : Marker) (w w₁ w₂ w₃ : List ℕ) (s l r : ℕ) (on : Bool) : Type 0 where
-  pub positive : 0 < m .cell
-  pub room : poolLength R (m .cell) ≤ length w
-  pub count : s ≡ state R w (m .cell) + 1
-  pub left : l ≡ left R w (m .cell)
-  pub first : w₁ ≡ setCell R w (m .cell) 0 s
-  pub right : r ≡ right R w₁ (m .cell)
-  pub test : on ≡ (isMarked s || unmarked R w₁ l)
-  pub second : w₂ ≡ setCell R w₁ (m .cell) 1 r
-  pub third : w₃ ≡ setCell R w₂ (m .cell) 2 (m .previous)
+-- the addition to the mark
+pub record Added (R n : ℕ) (m : Marker) (w w₁ : List ℕ) : Type 0 where
+  pub visitable : Visitable R n (m, w)
+  pub room : poolLength R n ≤ length w
+  pub words : w₁ ≡ setCell R w (m .cell) 0 (state R w (m .cell) + 1)
 
-pub visit-made : (R : ℕ) (m : Marker) (w w₁ w₂ w₃ : List ℕ) (s l r : ℕ) (on : Bool) → Writes R m w w₁ w₂ w₃ s l r on
-    → _≡_ {A = Marker × List ℕ}
-    (cond on (marker l (m .cell) (m .visits + 1)) (marker (m .cell) l (m .visits + 1)), w₃)
-    (visitOf R (m, w))
-unfolding visitOf
-visit-made R m w w₁ w₂ w₃ s l r on h =
-    let p = m .cell in
-    let written : w₁ ≡ setCell R w p 0 (suc (state R w p)) = h .first ∙ ap (setCell R w p 0) (h .count ∙ add-one (state R w p)) in
-    let read : state R w₁ p ≡ s =
-    ap (λ (v : List ℕ). state R v p) (h .first) ∙ cell-same R w p 0 s (h .positive) (omega arith) (h .room) in
-    rw (← written) (simp (read, ← h .left, ← h .right, ← h .test, ← h .second, ← h .third, add-one))
+module _ {R n : ℕ} {m : Marker} {w w₁ : List ℕ} (h : Added R n m w w₁) where
+  written : w₁ ≡ added R (m, w)
+  written = h .words ∙ ap (setCell R w (m .cell) 0) (add-one (state R w (m .cell)))
+
+  -- unless this is the third visit, the next link is nil or a cell
+  pub next-bound : isMarked (state R w₁ (m .cell)) ≡ false → left R w₁ (m .cell) ≤ n
+  next-bound other =
+      let p = m .cell in
+      let mark : state R w₁ p ≡ state R w p + 1 =
+      ap (λ (v : List ℕ). state R v p) (h .words)
+      ∙ cell-same R w p 0 (state R w p + 1) (h .visitable .positive) (omega arith) (omega (arith, h .room, h .visitable .bounded)) in
+      let same : left R w₁ p ≡ left R w p = ap (λ (v : List ℕ). left R v p) written ∙ next-link R (m, w) (h .visitable .positive) in
+      rw same (h .visitable .link (omega (arith, mark, h .visitable .early, eqb-false (state R w₁ p) markedState other)))
+
+  -- the case does what the visit does
+  pub visit-made : (case : VisitCase) → case ≡ caseOf R w₁ (m .cell)
+      → actOf R case (marker (m .cell) (m .previous) (m .visits + 1), w₁) ≡ visitOf R (m, w)
+  visit-made case chosen = rw (chosen, written, add-one) (visit-is-by-case R n (m, w) (h .visitable))

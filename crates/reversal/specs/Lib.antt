@@ -1,3 +1,5 @@
+pub mod CaseTheorem
+pub mod Cases
 pub mod Reached
 pub mod Reversal
 pub mod ReversalTheorem

@@ -3,12 +3,13 @@ use pool::Pool;
 ghost use mathlib.Core.Path.{_≡_};
 ghost use Prim.Native.Nat.{ℕ, _+_, _^_, _<_, _≤_};
 ghost use mathlib.Core.List.{List};
-ghost use mathlib.Core.Bool.{true, false, cond, _||_};
+ghost use mathlib.Core.Bool.{true, false};
 ghost use lib.ListN.{length};
-ghost use Rattle.pool.specs.Layout.{registerCount, cellLimit, poolLength};
+ghost use Rattle.pool.specs.Layout.{registerCount, cellLimit, poolLength, state, left};
 ghost use Rattle.pool.specs.States.{isMarked};
 ghost use Rattle.questions.specs.Validity.{wellFormed};
-ghost use Rattle.reversal.specs.Reversal.{unmarked, visitOf, Visitable, marker, Run};
+ghost use Rattle.reversal.specs.Reversal.{unmarked, visitOf, Visitable, Run};
+ghost use Rattle.reversal.specs.Cases.{setLinks, caseOf, actOf};
 ghost use Rattle.reversal.specs.Steps.{EndingRun};
 ghost use Rattle.reversal.specs.ReversalTheorem.{markedOf};
 
@@ -30,53 +31,121 @@ pub fn is_unmarked(words: &[u32], x: u32) -> bool
     pool::is_used(pool::read_cell(words, x, Pool::STATE))
 }
 
-// Does a visit that leaves the cell in hand at this state move on to its left link? At the third visit that is the predecessor, of which nothing is read.
-fn moves_on(words: &[u32], state: u32, left: u32) -> bool
-    requires { ⌜ (isMarked state ≡ false → poolLength registerCount left ≤ length (now words)) ⌝ }
-    ensures { λ r. ⌜ r ≡ (isMarked state || unmarked registerCount (now (words .entry)) left) ⌝ }
+// What a visit does: the five cases of Gries 2006, in their order there. m[p] is the mark of the cell p in hand, to which 1 was just added.
+pub enum VisitCase {
+    // 1. m[p] = 3.
+    Retreat,
+    // 2. m[p] = 1, and the next link, the left successor, is unmarked.
+    FollowLeft,
+    // 3. m[p] = 1, and the left successor is marked or nil.
+    PassLeft,
+    // 4. m[p] = 2, and the next link, the right successor, is unmarked.
+    FollowRight,
+    // 5. m[p] = 2, and the right successor is marked or nil.
+    PassRight,
+}
+
+// The case of the cell p, by its mark, to which 1 was added, and by the state of the next link. At the third visit that is the backpointer, of which nothing
+// is read: it may be the virtual root.
+fn choose(words: &[u32], p: u32) -> VisitCase
+    requires { ⌜ (0 < p) × (poolLength registerCount p ≤ length (now words)) ⌝ }
+    requires { ⌜ (isMarked (state registerCount (now words) p) ≡ false → poolLength registerCount (left registerCount (now words) p) ≤ length (now words)) ⌝ }
+    ensures { λ r. ⌜ r ≡ caseOf registerCount (now (words .entry)) p ⌝ }
 {
-    if pool::is_marked(state) {
-        return true;
+    let mark = pool::read_cell(words, p, Pool::STATE);
+    let next = pool::read_cell(words, p, Pool::LEFT);
+    if pool::is_marked(mark) {
+        return VisitCase::Retreat;
     }
-    is_unmarked(words, left)
+    if mark == 1 {
+        if is_unmarked(words, next) {
+            return VisitCase::FollowLeft;
+        }
+        return VisitCase::PassLeft;
+    }
+    if is_unmarked(words, next) {
+        return VisitCase::FollowRight;
+    }
+    VisitCase::PassRight
+}
+
+// Writes both links of a cell.
+fn set_links(words: &mut [u32], p: u32, left: u32, right: u32)
+    requires { ⌜ (0 < p) × (poolLength registerCount p ≤ length (now words)) ⌝ }
+    ensures { λ _. ⌜ now (words .exit) ≡ setLinks registerCount (now (words .entry)) p left right ⌝ }
+{
+    pool::write_cell(words, p, Pool::LEFT, left);
+    pool::write_cell(words, p, Pool::RIGHT, right);
 }
 
 impl Marker {
-    // One visit of the cell in hand.
+    // One visit of the cell in hand: 1 is added to its mark, and then one of the five cases acts.
     pub fn visit(mut self, words: &mut [u32], n: u32) -> Marker
         requires { ⌜ (Visitable registerCount n (self, now words)) × (poolLength registerCount n ≤ length (now words)) × (self .visits + 1 < 2 ^ 32) ⌝ }
         ensures { λ r. ⌜ (r, now (words .exit)) ≡ visitOf registerCount (self, now (words .entry)) ⌝ }
     {
         let p = self.cell;
-        let q = self.previous;
-        let state = pool::read_cell(words, p, Pool::STATE) + 1;
-        let left = pool::read_cell(words, p, Pool::LEFT);
-        pool::write_cell(words, p, Pool::STATE, state);
-        let right = pool::read_cell(words, p, Pool::RIGHT);
-        let on = moves_on(words, state, left);
-        pool::write_cell(words, p, Pool::LEFT, right);
-        pool::write_cell(words, p, Pool::RIGHT, q);
+        let mark = pool::read_cell(words, p, Pool::STATE) + 1;
+        pool::write_cell(words, p, Pool::STATE, mark);
+        let case = choose(words, p);
         self.visits += 1;
-        self.exchanged(on, left)
+        self.act(words, case)
     }
 
-    // The cell in hand and its predecessor after a visit: the four-way exchange moves on to the link, the three-way one stays.
-    fn exchanged(mut self, on: bool, left: u32) -> Marker
-        ensures { λ r. ⌜ r ≡ cond on (marker left (self .cell) (self .visits)) (marker (self .cell) left (self .visits)) ⌝ }
+    // What each case does to the cell p in hand, to p, and to its predecessor q. In every one "the values of l[p], r[p], and q have to be changed because
+    // 1 was added to m[p]": they hold the left successor L_p, the right one R_p and the backpointer B_p, each moving one place on with every visit.
+    fn act(mut self, words: &mut [u32], case: VisitCase) -> Marker
+        requires { ⌜ (0 < self .cell) × (poolLength registerCount (self .cell) ≤ length (now words)) ⌝ }
+        ensures { λ r. ⌜ (r, now (words .exit)) ≡ actOf registerCount case (self, now (words .entry)) ⌝ }
     {
         let p = self.cell;
-        if on {
-            self.cell = left;
-            self.previous = p;
-            self
-        } else {
-            self.previous = left;
-            self
+        let q = self.previous;
+        let l = pool::read_cell(words, p, Pool::LEFT);
+        let r = pool::read_cell(words, p, Pool::RIGHT);
+        match case {
+            // 1. "This is the third visit to node p. .. p should be removed from path P, and its backpointer B_p should become the new node p." It
+            // stands in l[p].
+            VisitCase::Retreat => {
+                set_links(words, p, r, q);
+                self.cell = l;
+                self.previous = p;
+                self
+            }
+            // 2. "This is the first visit to node p, and its left successor L_p is unmarked. L_p should be appended to path p." It stands in l[p].
+            VisitCase::FollowLeft => {
+                set_links(words, p, r, q);
+                self.cell = l;
+                self.previous = p;
+                self
+            }
+            // 3. "This is the first visit to node p, and its left successor L_p is either completely marked or is on path P. So, there is nothing to
+            // do with p's left successor."
+            VisitCase::PassLeft => {
+                set_links(words, p, r, q);
+                self.previous = l;
+                self
+            }
+            // 4. "This is the second visit to node p, and its right successor R_p is unmarked. R_p should be appended to path p." By now it stands in
+            // l[p].
+            VisitCase::FollowRight => {
+                set_links(words, p, r, q);
+                self.cell = l;
+                self.previous = p;
+                self
+            }
+            // 5. "This is the second visit to node p, and its right successor R_p is either completely marked or is on path P. So, there is nothing
+            // to do with p's right successor."
+            VisitCase::PassRight => {
+                set_links(words, p, r, q);
+                self.previous = l;
+                self
+            }
         }
     }
 }
 
-// Marks from an unmarked link until the virtual root, which is no cell, is in hand. Gives the visits made so far.
+// Marks from an unmarked link until the virtual root, which is no cell, is in hand. Gives the visits made so far. Gries makes one visit in a turn of
+// the loop; here a turn makes the visits of one cell as long as it stays in hand, three at most, so that the processor need not store and load its words between them.
 fn mark_from(words: &mut [u32], n: u32, p: u32, visits: u32) -> u32
     requires { ⌜ EndingRun registerCount n p (visits, now words) ⌝ }
     requires { ⌜ (poolLength registerCount n ≤ length (now words)) × (n ≤ cellLimit) ⌝ }
@@ -88,6 +157,15 @@ fn mark_from(words: &mut [u32], n: u32, p: u32, visits: u32) -> u32
         visits,
     };
     while m.cell <= n {
+        let cell = m.cell;
+        m = m.visit(words, n);
+        if m.cell != cell {
+            continue;
+        }
+        m = m.visit(words, n);
+        if m.cell != cell {
+            continue;
+        }
         m = m.visit(words, n);
     }
     m.visits

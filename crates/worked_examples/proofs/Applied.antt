@@ -15,10 +15,14 @@ use Rattle.pool.specs.Retain.{freshWords}
 use Rattle.pool.proofs.RetainedPool.{retained-free-list}
 use Rattle.pool.proofs.FreshPool.{fresh-is-free}
 use Rattle.questions.proofs.FreshPool.{fresh-is-well-formed}
-use Rattle.reversal.specs.Reached.{isReached}
+use Rattle.reversal.specs.Reached.{isReached, visitsOf}
 use Rattle.collector.proofs.CollectTheorem.{collection-keeps-the-reached, collection-marks-and-sweeps}
 use Rattle.reversal.proofs.Roots.{run-from-roots, run-over-pool}
+use Rattle.reversal.specs.Reversal.{marker}
+use Rattle.reversal.specs.ReversalTheorem.{markAll}
 use Rattle.reversal.proofs.Run.{run-from-link}
+use Rattle.reversal.proofs.Cases.{visit-is-by-case}
+use Rattle.reversal.proofs.Followed.{run-follows, followed-once, followed-count}
 use Rattle.stack_algorithm.specs.StackTheorem.{chain}
 use Rattle.stack_marker.specs.StackExample.{forkPool}
 use Rattle.stack_algorithm.proofs.Chain.{equal-links-need-none}
@@ -42,13 +46,15 @@ use Rattle.script.proofs.Scanning.{parts-read}
 use Rattle.replies.proofs.Decimals.{decimals-read-back, fewest-digits}
 use Rattle.runner.specs.Work.{initial}
 use Rattle.runner.proofs.Whole.{starts-whole, parts-join, last-line-ends}
-use Rattle.worked_examples.specs.Instances.{around, three, threeCollected, two, graph, roots, Swapped, image, twoCells, words, scratch, output, calls, list, lent, out, padded, lines, progress, largest}
-use Rattle.worked_examples.proofs.Instances.{pool-instance, reversal-instance, graph-instance, number-instance, image-instance, worst-case-instance, batch-instance, script-instance}
+use Rattle.worked_examples.specs.Instances.{around, three, threeCollected, two, graph, roots, twoRuns, Swapped, image, twoCells, words, scratch, output, calls, list, lent, out, padded, lines, progress, largest}
+use Rattle.worked_examples.proofs.Instances.{pool-instance, reversal-instance, runs-instance, graph-instance, number-instance, image-instance, worst-case-instance, batch-instance, script-instance}
 
 pub applied : Unit {0}
+unfolding visitsOf
 applied =
     let p = pool-instance in
     let r = reversal-instance in
+    let v = runs-instance in
     let g = graph-instance in
     let k = number-instance in
     let i = image-instance in
@@ -59,13 +65,17 @@ applied =
     let t = collection-marks-and-sweeps 3 three (p .some) (p .cells) (p .well-formed) in
     let t = stack-collects 3 three (9 ∷ []) (p .some) (p .cells) (p .well-formed) in
     let t = run-over-pool registerCount 3 three (p .room) (p .well-formed) in
+    let t = followed-once registerCount 3 twoRuns (v .room) (v .well-formed) (v .last) (v .runs) in
+    let t = followed-count registerCount 3 twoRuns (v .room) (v .well-formed) (v .last) (v .runs) in
     let t = retained-free-list registerCount 3 (isReached registerCount 3 three) three (p .some) (p .room) in
     let t = fresh-is-well-formed 3 lent (p .some) (p .most) (b .exact) in
     let t = fresh-is-free 3 lent (p .some) (omega arith) in
     let t = equivalence 3 2 lent calls (p .some) (p .most) (b .exact) in
     let t = equivalence-at-limit 3 lent calls (p .some) (p .most) (b .exact) in
     let t = reached-pools 3 lent calls (p .some) (p .most) (b .exact) in
-    let t = run-from-link registerCount 3 (graph three) (outside 3) 1 (1 ∷ 2 ∷ []) three (r .agreement) (r .dfs) (r .unmarked) in
+    let visits = run-from-link registerCount 3 (graph three) (outside 3) 1 (1 ∷ 2 ∷ []) three (r .agreement) (r .dfs) (r .unmarked) 4 0 in
+    let t = run-follows registerCount 3 (graph three) (outside 3) 1 (2 ∷ []) 0 three (6, markAll registerCount three (1 ∷ 2 ∷ [])) (r .agreement) (r .dfs) (6, 1, visits) in
+    let t = visit-is-by-case registerCount 3 (marker 1 4 0, three) (r .visitable) in
     let t = run-from-roots registerCount 3 (graph three) (outside 3) (roots three) (1 ∷ 2 ∷ []) three (r .agreement) (r .all) (g .within .root) in
     let t = preorder-reached 3 (graph three) (roots three) (g .within) in
     let t = preorder-distinct 3 (graph three) (roots three) (g .within) in

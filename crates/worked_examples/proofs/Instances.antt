@@ -18,11 +18,14 @@ use Rattle.graph.proofs.Depth.{order-dfs}
 use Rattle.graph.proofs.Theorems.{order-closure, preorder-reached}
 use Rattle.graph.proofs.Pairing.{pairing-kept}
 use Rattle.pool.specs.Words.{tabulate, every}
-use Rattle.pool.specs.Layout.{registerCount, cellLimit, poolLength, cellCountOfLength, count, setCount, cellCount, head, setHead, register, setRegister, cell, setCell}
+use Rattle.pool.specs.Layout.{registerCount, cellLimit, poolLength, cellCountOfLength, count, setCount, cellCount, head, setHead, register, setRegister, cell, setCell, state, left}
 use Rattle.pool.specs.Retain.{lowestFree, retain}
 use Rattle.pool.proofs.Sizes.{both}
 use Rattle.questions.proofs.WellFormed.{well-formed-read}
 use Rattle.questions.proofs.PoolGraph.{pool-within}
+use Rattle.reversal.specs.declared.Marker.{Marker}
+use Rattle.reversal.specs.Reversal.{visitOf, Visits, Run, MarkRoots}
+use Rattle.reversal.specs.Cases.{trace, followed, fourWays, traceRoots, begins}
 use Rattle.reversal.specs.ReversalTheorem.{Agreement, Untouched}
 use Rattle.stack_algorithm.specs.Stack.{run, runs}
 use Rattle.worst_case.specs.WorstCase.{putComb}
@@ -35,7 +38,7 @@ use Rattle.script.specs.Lines.{all, command}
 use Rattle.script.specs.Reader.{spaceOf, letterOf, digitOf, feedOf, endOf, begunOf}
 use Rattle.replies.specs.Replies.{digits, decimal}
 use Rattle.script.specs.Scripts.{nextLine}
-use Rattle.worked_examples.specs.Instances.{three, threeCollected, two, graph, roots, Swapped, around, image, PoolInstance, ReversalInstance, GraphInstance, NumberInstance, ImageInstance, WorstCaseInstance, BatchInstance, ScriptInstance}
+use Rattle.worked_examples.specs.Instances.{three, threeCollected, two, graph, roots, twoRuns, Swapped, around, image, PoolInstance, ReversalInstance, RunsInstance, GraphInstance, NumberInstance, ImageInstance, WorstCaseInstance, BatchInstance, ScriptInstance}
 use Rattle.reversal.specs.Reached.{visitsOf}
 
 -- Every element of a list that is tested whole is below a bound.
@@ -95,7 +98,7 @@ dfs =
     Dfs.step {t = 2 ∷ []} {u = []} refl second (Dfs.stop {m = mark m 2} {p = 2} (omega arith))
 
 pub reversal-instance : ReversalInstance
-unfolding elem visit visits preorder visitsOf tabulate register cell outside markedCount
+unfolding elem visit visits preorder visitsOf tabulate register cell setCell outside markedCount visitOf trace followed fourWays
 reversal-instance =
     record {
       agreement = agreement;
@@ -113,6 +116,45 @@ reversal-instance =
             deep = omega arith;
             fits = omega arith;
           };
+      visitable = record { positive = omega arith; bounded = omega arith; early = omega arith; link = λ low. omega arith };
+      five-cases = refl;
+      two-followed = refl;
+      five-exchanges = refl;
+    }
+
+-- `twoRuns` with other states.
+abbrev with-states : ℕ → ℕ → ℕ → List ℕ
+with-states a b c = (3 ∷ 0 ∷ 2 ∷ 1 ∷ []) ++ replicate 14 0 ++ (a ∷ 2 ∷ 3 ∷ 7 ∷ []) ++ (b ∷ 0 ∷ 0 ∷ 8 ∷ []) ++ (c ∷ 0 ∷ 0 ∷ 9 ∷ [])
+
+-- A visit of one of its cells, and those that follow it.
+more : {k : ℕ} {s t : Marker × List ℕ} → 0 < s .0 .cell → s .0 .cell ≤ 3 → state registerCount (s .1) (s .0 .cell) < 3
+    → (state registerCount (s .1) (s .0 .cell) < 2 → left registerCount (s .1) (s .0 .cell) ≤ 3) → Visits registerCount 3 k (visitOf registerCount s) t
+    → Visits registerCount 3 (suc k) s t
+more positive bounded early link rest = Visits.more (record { positive = positive; bounded = bounded; early = early; link = link }) rest
+
+abbrev first-run : Run registerCount 3 2 (0, twoRuns) (3, with-states 0 3 0)
+unfolding cell setCell visitOf
+first-run = (3, 2, (more (omega arith) (omega arith) (omega arith) (λ low. omega arith) (more (omega arith) (omega arith) (omega arith) (λ low. omega arith) (more (omega arith) (omega arith) (omega arith) (λ low. omega arith) Visits.done))))
+
+abbrev second-run : Run registerCount 3 1 (3, with-states 0 3 0) (9, with-states 3 3 3)
+unfolding cell setCell visitOf
+second-run = (6, 1, (more (omega arith) (omega arith) (omega arith) (λ low. omega arith) (more (omega arith) (omega arith) (omega arith) (λ low. omega arith) (more (omega arith) (omega arith) (omega arith) (λ low. omega arith) (more (omega arith) (omega arith) (omega arith) (λ low. omega arith) (more (omega arith) (omega arith) (omega arith) (λ low. omega arith) (more (omega arith) (omega arith) (omega arith) (λ low. omega arith) Visits.done)))))))
+
+pub runs-instance : RunsInstance
+unfolding elem visit visits preorder tabulate every register cell setCell visitOf trace followed fourWays traceRoots begins
+runs-instance =
+    record {
+      room = omega arith;
+      well-formed = refl;
+      last = (9, with-states 3 3 3);
+      runs =
+          MarkRoots.run {s = (0, twoRuns)} {u = (3, with-states 0 3 0)} refl first-run
+          (MarkRoots.run {s = (3, with-states 0 3 0)} {u = (9, with-states 3 3 3)} refl second-run
+          (MarkRoots.skip refl (MarkRoots.skip refl (MarkRoots.skip refl (MarkRoots.skip refl (MarkRoots.skip refl (MarkRoots.skip refl (MarkRoots.skip refl (MarkRoots.skip refl (MarkRoots.skip refl (MarkRoots.skip refl (MarkRoots.skip refl (MarkRoots.skip refl (MarkRoots.skip refl (MarkRoots.skip refl MarkRoots.none)))))))))))))));
+      reached = refl;
+      begun = refl;
+      gone-to = refl;
+      exchanges = refl;
     }
 
 -- Exchanged twice, a number is itself again.

@@ -1,5 +1,5 @@
 -- No theorem is vacuous: the hypotheses of each are met by an instance, most of them by one pool, on which what the theorem says is not trivial.
-use Prim.Native.Nat.{ℕ, suc, _+_, _*_, _-_, _/_, _^_, _<_, _≤_}
+use Prim.Native.Nat.{ℕ, suc, _*_, _-_, _/_, _^_, _<_, _≤_}
 use Prim.Native.Char.{code}
 use mathlib.Core.Path.{_≡_}
 use mathlib.Core.List.{List, [], _∷_, _++_, List·Memᴰ}
@@ -18,6 +18,9 @@ use Rattle.pool.specs.Retain.{freshWords}
 use Rattle.answers.specs.Outcome.{answered}
 use Rattle.reversal.specs.Reached.{reachedCells, reachedCount}
 use Rattle.collector.specs.Collect.{collectOf}
+use Rattle.reversal.specs.declared.VisitCase.the-variants as visit
+use Rattle.reversal.specs.Reversal.{Visitable, marker, MarkRoots}
+use Rattle.reversal.specs.Cases.{trace, followed, fourWays, traceRoots, begins}
 use Rattle.reversal.specs.ReversalTheorem.{Agreement}
 use Rattle.recursive_marker.specs.Steps.{Markable}
 use Rattle.stack_algorithm.specs.Stack.{isUnmarked, stackRun}
@@ -79,7 +82,7 @@ pub record PoolInstance : Type 0 where
   pub stack : stackOf three (9 ∷ []) ≡ (answered (2 ∷ 1 ∷ []), threeCollected, 0 ∷ [])
   pub no-stack : stackOf three [] ≡ (answered (2 ∷ 1 ∷ []), threeCollected, [])
 
--- `RunFromLink`, from link 1, and `RunFromRoots` (that the roots are cells is `within .root` of GraphInstance).
+-- `RunFromLink` and `RunFollows`, from link 1, and `RunFromRoots` (that the roots are cells is `within .root` of GraphInstance).
 pub record ReversalInstance : Type 0 where
   pub agreement : Agreement registerCount 3 (graph three) (outside 3) three
   pub unmarked : outside 3 1 ≡ 0
@@ -87,6 +90,29 @@ pub record ReversalInstance : Type 0 where
   pub all : DfsAll (graph three) (outside 3) (roots three) (1 ∷ 2 ∷ [])
   -- What the recursive marker's visit of link 1 asks for, with depth 3
   pub recursive : Markable registerCount 3 3 1 0 three
+  -- `VisitIsByCase`: the first visit of cell 1
+  pub visitable : Visitable registerCount 3 (marker 1 4 0, three)
+  -- A cell with two leaves: the nine visits of the run meet all five cases. Cases 2 and 4 go to cells 2 and 3, and five visits are four-way exchanges.
+  pub five-cases : trace registerCount 9 (marker 1 4 0, forkPool)
+      ≡ (visit.FollowLeft, 2) ∷ (visit.PassLeft, 2) ∷ (visit.PassRight, 2) ∷ (visit.Retreat, 1) ∷ (visit.FollowRight, 3) ∷ (visit.PassLeft, 3)
+      ∷ (visit.PassRight, 3) ∷ (visit.Retreat, 1) ∷ (visit.Retreat, 4) ∷ []
+  pub two-followed : followed (trace registerCount 9 (marker 1 4 0, forkPool)) ≡ 2 ∷ 3 ∷ []
+  pub five-exchanges : fourWays (trace registerCount 9 (marker 1 4 0, forkPool)) ≡ 5
+
+-- A pool with two runs: register 0 leads to cell 2 and register 1 to cell 1, which leads to 2 and 3.
+abbrev pub twoRuns : List ℕ
+twoRuns = (3 ∷ 0 ∷ 2 ∷ 1 ∷ []) ++ replicate 14 0 ++ (0 ∷ 2 ∷ 3 ∷ 7 ∷ []) ++ (0 ∷ 0 ∷ 0 ∷ 8 ∷ []) ++ (0 ∷ 0 ∷ 0 ∷ 9 ∷ [])
+
+-- `FollowedOnce` and `FollowedCount`, whose runs are these: cases 2 and 4 go to cell 3 alone, the one reached cell at which no run begins.
+pub record RunsInstance : Type 0 where
+  pub room : poolLength registerCount 3 ≤ length twoRuns
+  pub well-formed : wellFormed registerCount 3 twoRuns ≡ true
+  pub last : ℕ × List ℕ
+  pub runs : MarkRoots registerCount 3 (roots twoRuns) (0, twoRuns) last
+  pub reached : reachedCells registerCount 3 twoRuns ≡ 2 ∷ 1 ∷ 3 ∷ []
+  pub begun : begins runs ≡ 2 ∷ 1 ∷ []
+  pub gone-to : followed (traceRoots runs) ≡ 3 ∷ []
+  pub exchanges : fourWays (traceRoots runs) ≡ 4
 
 -- Cells 1 and 2 of `three` are cells 2 and 1 of `two`, and nil is nil.
 abbrev pub Swapped : ℕ → ℕ → Type 0
