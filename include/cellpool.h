@@ -56,7 +56,7 @@
  *   cellpool_same                constant                                           32
  *   cellpool_collect             linear                                             160
  *   cellpool_collect_tally       linear                                             192
- *   cellpool_collect_stack       linear, and linear in stack_len                    160
+ *   cellpool_collect_stack       linear, and linear in (checks + 1) * stack_len     160
  *   cellpool_worst_case          linear                                             96
  *   cellpool_collect_recursive   linear                                             6144
  *   cellpool_save                linear, and linear in scratch_len                  320
@@ -82,10 +82,13 @@
  * 1 where it was 0. A stack that was enough still is, and the cells kept are the same.
  * 3.1.0: cellpool_worst_case and CELLPOOL_STACK come beside what 3.0.0 has.
  * 3.1.1: collections by link reversal are faster on most pools.
+ * 4.0.0: cellpool_collect_stack has an argument more, checks, and where every word holds a cell it checks these cells
+ * before link reversal takes over: *enough may be 1 where it was 0. A stack that was enough still is, with 0 checks, and
+ * the cells kept are the same.
  */
-#define CELLPOOL_VERSION_MAJOR 3
-#define CELLPOOL_VERSION_MINOR 1
-#define CELLPOOL_VERSION_PATCH 1
+#define CELLPOOL_VERSION_MAJOR 4
+#define CELLPOOL_VERSION_MINOR 0
+#define CELLPOOL_VERSION_PATCH 0
 #define CELLPOOL_VERSION (10000 * CELLPOOL_VERSION_MAJOR + 100 * CELLPOOL_VERSION_MINOR + CELLPOOL_VERSION_PATCH)
 
 /* An answer that is not looked at is a warning, where the compiler knows how. */
@@ -108,7 +111,7 @@ extern "C" {
 /* Words of a pool of n cells, and words of scratch that cellpool_save needs. */
 #define CELLPOOL_WORDS(n) (18u + 4u * (n))
 #define CELLPOOL_SCRATCH(n) (2u * (n))
-/* Words of stack that are enough for cellpool_collect_stack on every pool of n cells, and just as many as that of
+/* Words of stack with which cellpool_collect_stack makes no check on any pool of n cells, and as many as the pool of
    cellpool_worst_case takes. 0 for two cells and fewer (an array of C has one element at least). n is evaluated twice. */
 #define CELLPOOL_STACK(n) ((n) == 0 ? 0u : ((n) - 1u) / 2u)
 /* Bytes that hold every image of k cells, whoever wrote it: K and 16 registers of at most 2 bytes, links of 2 and a
@@ -219,20 +222,34 @@ CELLPOOL_MUST_USE
 uint32_t cellpool_collect_tally(uint32_t *words, size_t len, uint32_t *collections, uint32_t *total_visits,
                                 uint32_t *kept, uint32_t *visits);
 
-/* As cellpool_collect, marking with a stack of stack_len lent words, which end 0. Where they are too few, link
-   reversal does the work. *enough becomes 1 if they were enough, else 0. A word is held for a cell whose links lead to
-   two different cells, both not marked yet, until it is the turn of the right one; two equal links take no word, and
-   neither does a link beside nil. (N - 1) / 2 words, rounded down (CELLPOOL_STACK), are enough for every pool of N
-   cells. Refused: 1, 3. */
+/* As cellpool_collect, marking with a stack of stack_len lent words, which end 0. Where the links of a cell lead to two
+   different cells, both not marked yet, a word holds the right one until it is its turn; two equal links take no word, and
+   neither does a link beside nil or beside one to a marked cell. Pool and *kept are those of cellpool_collect, however few
+   the words.
+   Where a word is to be taken and each one holds a cell, a check looks at these cells, the newest first. From such a cell
+   it goes on, and marks, while one way alone leads on: one link to an unmarked cell, or two equal ones. Where no way leads
+   on, the word is given back. Where two lead on, the word stays, and holds the cell that was reached, whose two links stay
+   unmarked. If a word was given back, marking goes on with the stack; if none was (also where stack_len is 0 and there was
+   none to look at), all marks are cleared and link reversal does the work.
+   *checks becomes the number of checks, a last one in vain included. *enough becomes 0 if a check was in vain, else 1, also
+   where there was no check. There is no check exactly if there are words for all cells that have to be held at once:
+   (N - 1) / 2 words, rounded down (CELLPOOL_STACK), are enough for that on every pool of N cells. No collection makes more
+   checks than that either. A check takes time linear in stack_len, and in the cells that it marks, so a collection is linear
+   in N and in (*checks + 1) * stack_len: linear in N for a fixed number of words such as ten; but with N / 4 words there are
+   pools for which it looks at some N * N / 16 entries. Nothing is promised of how *checks and *enough move as the stack
+   grows: there are pools where two words make more checks than one, and pools for which two words are enough and three are
+   not. Refused: 1, 3. */
 CELLPOOL_MUST_USE
 uint32_t cellpool_collect_stack(uint32_t *words, size_t len, uint32_t *stack, size_t stack_len, uint32_t *kept,
-                                uint32_t *enough);
+                                uint32_t *enough, uint32_t *checks);
 
-/* Make the words a pool for which cellpool_collect_stack holds the most stack words: N by the length alone, all cells
-   used and reached from register 0, which holds cell 1, registers 1 to 15 nil, the head 0, all values 0. If i is odd,
-   the left link of cell i is i + 2 and the right one i + 1, each nil where that is above N; if i is even, both are nil.
-   *entries becomes the words held, (N - 1) / 2, rounded down: no well-formed pool of N cells takes more, whatever its
-   registers hold, so a stack of that many words (CELLPOOL_STACK) is always enough. Refused: 1. */
+/* Make the words a pool for which cellpool_collect_stack takes the most stack words, where it has them: N by the length
+   alone, all cells used and reached from register 0, which holds cell 1, registers 1 to 15 nil, the head 0, all values 0.
+   If i is odd, the left link of cell i is i + 2 and the right one i + 1, each nil where that is above N; if i is even, both
+   are nil. *entries becomes the words held, (N - 1) / 2, rounded down: no well-formed pool of N cells takes more, whatever
+   its registers hold, so with a stack of that many words (CELLPOOL_STACK) there is no check. With fewer words, but one at
+   least, this pool takes (*entries - 1) / stack_len checks, rounded down, and they are enough, since the held cells are
+   leaves; with no word, and three cells or more, it takes one check, and that is in vain. Refused: 1. */
 CELLPOOL_MUST_USE
 uint32_t cellpool_worst_case(uint32_t *words, size_t len, uint32_t *entries);
 

@@ -139,7 +139,35 @@ static uint32_t mark_by_reversal(uint32_t *words) {
     return visits;
 }
 
-static int mark_with_stack(uint32_t *words, uint32_t *stack, size_t stack_len) {
+/* Mark from an entry for as long as one way alone goes on: one link is unmarked, or two equal ones. Answers the cell where two
+   different links are unmarked, and 0 where both are marked or nil. */
+static uint32_t walk(uint32_t *words, uint32_t node) {
+    for (;;) {
+        uint32_t left = cell(words, node)[LEFT], right = cell(words, node)[RIGHT];
+        if (unmarked(words, left)) {
+            if (left != right && unmarked(words, right)) return node;
+            node = left;
+        } else if (unmarked(words, right)) {
+            node = right;
+        } else {
+            return 0;
+        }
+        cell(words, node)[STATE] = MARKED;
+    }
+}
+
+/* Walk from every entry, from top to bottom, and close the gaps of those that are dropped. Answers how many are left. */
+static size_t check(uint32_t *words, uint32_t *stack, size_t height) {
+    size_t kept = 0;
+    for (size_t i = height; i-- > 0;) stack[i] = walk(words, stack[i]);
+    for (size_t i = 0; i < height; i++)
+        if (stack[i] != 0) stack[kept++] = stack[i];
+    return kept;
+}
+
+/* Answers whether the stack was enough. Where it is full, its entries are checked, and *checks counts that; or, without checks,
+   that is the end. */
+static inline int mark_with_stack(uint32_t *words, uint32_t *stack, size_t stack_len, int checked, uint32_t *checks) {
     for (uint32_t i = 0; i < CELLPOOL_REGISTERS; i++) {
         uint32_t node = REGISTER(i);
         size_t height = 0;
@@ -150,8 +178,14 @@ static int mark_with_stack(uint32_t *words, uint32_t *stack, size_t stack_len) {
             if (unmarked(words, left)) {
                 /* Two equal unmarked links are one. */
                 if (right != left && unmarked(words, right)) {
-                    if (height == stack_len) return 0;
                     cell(words, right)[STATE] = MARKED;
+                    if (height == stack_len) {
+                        if (!checked) return 0;
+                        cell(words, left)[STATE] = MARKED; /* a check finds both links marked */
+                        ++*checks;
+                        height = check(words, stack, height);
+                        if (height == stack_len) return 0;
+                    }
                     stack[height++] = right;
                 }
                 node = left;
@@ -357,12 +391,13 @@ uint32_t NAME(collect_tally)(uint32_t *words, size_t len, uint32_t *collections,
     return answer;
 }
 
-uint32_t NAME(collect_stack)(uint32_t *words, size_t len, uint32_t *stack, size_t stack_len, uint32_t *kept,
-                             uint32_t *enough) {
-    uint32_t n = size_of(words, len);
+/* Collect with a lent stack, with checks or without; the numbers are written where it is accepted. */
+static inline uint32_t collect_with_stack(uint32_t *words, size_t len, uint32_t *stack, size_t stack_len, int checked,
+                                          uint32_t *kept, uint32_t *enough, uint32_t *checks) {
+    uint32_t n = size_of(words, len), count = 0;
     if (n == 0) return CELLPOOL_REFUSED_SIZE;
     if (!well_formed(words, n)) return CELLPOOL_REFUSED_MALFORMED;
-    *enough = (uint32_t)mark_with_stack(words, stack, stack_len);
+    *enough = (uint32_t)mark_with_stack(words, stack, stack_len, checked, &count);
     if (!*enough) {
         for (uint32_t i = 1; i <= n; i++)
             if (cell(words, i)[STATE] == MARKED) cell(words, i)[STATE] = USED;
@@ -370,8 +405,22 @@ uint32_t NAME(collect_stack)(uint32_t *words, size_t len, uint32_t *stack, size_
     }
     memset(stack, 0, stack_len * sizeof *stack);
     *kept = sweep(words, n);
+    *checks = count;
     return CELLPOOL_OK;
 }
+
+uint32_t NAME(collect_stack)(uint32_t *words, size_t len, uint32_t *stack, size_t stack_len, uint32_t *kept,
+                             uint32_t *enough, uint32_t *checks) {
+    return collect_with_stack(words, len, stack, stack_len, 1, kept, enough, checks);
+}
+
+#ifndef BASELINE_AS_CELLPOOL
+uint32_t baseline_collect_stack_unchecked(uint32_t *words, size_t len, uint32_t *stack, size_t stack_len, uint32_t *kept,
+                                          uint32_t *enough) {
+    uint32_t none;
+    return collect_with_stack(words, len, stack, stack_len, 0, kept, enough, &none);
+}
+#endif
 
 uint32_t NAME(worst_case)(uint32_t *words, size_t len, uint32_t *entries) {
     uint32_t n = cells_of(len);

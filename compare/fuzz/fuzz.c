@@ -7,10 +7,10 @@
  *
  * The blocks stand against pages that may be neither read nor written, so that also an archive compiled without a sanitizer
  * is caught at the first access outside. The library is compared with itself too: a refusal is one that the header lists with
- * its function and changes nothing but what the header names, the forms of collect agree, the worst case for the stack takes
- * just as many words as are answered, an image that was saved loads and saves as the same bytes, while every cut of it is
- * refused, and any image that loads is saved as the bytes that were read exactly if its cells are numbered in the order of
- * the visits. The cases of the plain C version's visits add up to the cells that the library keeps.
+ * its function and changes nothing but what the header names, the forms of collect agree, a stack makes no check exactly from
+ * one length on, the worst case for the stack takes just as many words as are answered, and with fewer a check for each push
+ * that finds them full, an image that was saved loads and saves as the same bytes, while every cut of it is refused, and any
+ * image that loads is saved as the bytes that were read exactly if its cells are numbered in the order of the visits. The cases of the plain C version's visits add up to the cells that the library keeps.
  *
  * With -DSTANDALONE a main is added that runs pseudo-random inputs: fuzz [inputs [seed]].
  */
@@ -135,7 +135,7 @@ static uint32_t run(int side, const Call *call, Results *results) {
     case COLLECT: return BY(side, collect)(words, len, number + 1, number + 3);
     case FRESH: return BY(side, fresh)(words, len, number + 1);
     case TALLY: return BY(side, collect_tally)(words, len, number + 5, number + 7, number + 1, number + 3);
-    case STACKED: return BY(side, collect_stack)(words, len, stack, stack_len, number + 1, number + 3);
+    case STACKED: return BY(side, collect_stack)(words, len, stack, stack_len, number + 1, number + 3, number + 5);
     case WORST: return BY(side, worst_case)(words, len, number + 1);
     case RECURSIVE: return BY(side, collect_recursive)(words, len, number + 1, number + 3);
     case SAVE: return BY(side, save)(words, len, stack, stack_len, out, out_len, results->size + 1);
@@ -215,19 +215,26 @@ static uint32_t valid(const uint32_t *words, uint32_t link) {
     return link <= cells ? link : 0;
 }
 
+/* The bits of an input's first byte: blocks stand before their guards or behind them; the words are a well-formed pool; the stack
+   marker has much to push in it: register 0 holds the first used cell, and the others are nil; each left link leads to the next
+   used cell. */
+enum { AT_END = 1, MENDED = 2, ONE_REGISTER = 4, CHAINED = 8 };
+
 /* Make the words a well-formed pool. */
-static void mend(uint32_t *words) {
+static void mend(uint32_t *words, uint8_t mode) {
     words[0] = cells;
     for (size_t i = 18; i < CELLPOOL_WORDS((size_t)cells); i += 4)
         if (words[i] != 0) words[i] = 4;
-    for (size_t i = 2; i < 18; i++) words[i] = valid(words, words[i]);
-    for (size_t i = 18; i < CELLPOOL_WORDS((size_t)cells); i += 4)
-        if (words[i] == 0)
-            for (size_t side = 1; side <= 2; side++) words[i + side] = valid(words, words[i + side]);
+    for (size_t i = 2; i < 18; i++) words[i] = valid(words, mode & ONE_REGISTER ? i == 2 : words[i]);
+    for (size_t i = 18; i < CELLPOOL_WORDS((size_t)cells); i += 4) {
+        if (words[i] != 0) continue;
+        if (mode & CHAINED) words[i + 1] = (uint32_t)(i - 18) / 4 + 2;
+        for (size_t side = 1; side <= 2; side++) words[i + side] = valid(words, words[i + side]);
+    }
 }
 
 /* Words of any length, content by the input. */
-static void lend_pool(Input *input, int mended) {
+static void lend_pool(Input *input, uint8_t mode) {
     uint8_t kind = byte_of(input);
     if (kind < 0xF0) cells = 1 + kind % 40u;
     else if (kind < 0xF4) cells = kind % 4u;
@@ -242,7 +249,7 @@ static void lend_pool(Input *input, int mended) {
         words[i] = number;
     }
     if (byte_of(input) % 8 != 0) words[0] = cells;
-    if (mended) mend(words);
+    if (mode & MENDED) mend(words, mode);
 }
 
 /* Lend so many elements, at most as there is room for, all bytes with this content. */
@@ -339,13 +346,18 @@ static void loaded(size_t end) {
     DEMAND(same == in_order_of_visits(words_of(LIBRARY)));
 }
 
-/* The worst case was built: such a stack is enough for it, one word less is not; all cells are kept, and no word changes. */
+/* The worst case was built: such a stack makes no check. A shorter one is full of leaves, which a check drops, and with no word
+   there is none to drop. All cells are kept, and no word changes. */
 static void built(uint32_t entries) {
     DEMAND(entries == CELLPOOL_STACK(cells));
-    for (uint32_t less = 0; less <= 1 && less <= entries; less++) {
+    const uint32_t lengths[] = {entries, entries - 1, entries / 2, entries / 3, 1, 0};
+    for (size_t i = 0; i < sizeof lengths / sizeof *lengths; i++) {
+        uint32_t length = lengths[i] <= entries ? lengths[i] : 0, less = length < entries;
         Results results;
-        lend_filled(STACK, entries - less, sizeof(uint32_t), 0x5A);
-        DEMAND(make_plainly(STACKED, &results) == 0 && results.number[1] == cells && results.number[3] == !less);
+        lend_filled(STACK, length, sizeof(uint32_t), 0x5A);
+        DEMAND(make_plainly(STACKED, &results) == 0 && results.number[1] == cells);
+        DEMAND(results.number[3] == (!less || length > 0));
+        DEMAND(results.number[5] == (!less ? 0 : length == 0 ? 1 : (entries - 1) / length));
         DEMAND(memcmp(words_of(LIBRARY), blocks[WORDS].before, blocks[WORDS].bytes) == 0);
     }
 }
@@ -394,15 +406,15 @@ static void any_call(Input *input) {
     }
 }
 
-/* The least length of a stack that is enough, by the plain C version; at most as many words as cells are kept. */
+/* The least length of a stack that makes no check, by the plain C version; at most as many words as cells are kept. */
 static size_t stack_needed(const uint8_t *start, uint32_t kept) {
     size_t least = 0, most = kept;
     while (least < most) {
         size_t length = (least + most) / 2;
-        uint32_t *words = words_of(PLAIN), *stack = (uint32_t *)blocks[STACK].room[PLAIN], same_kept, enough = 0;
+        uint32_t *words = words_of(PLAIN), *stack = (uint32_t *)blocks[STACK].room[PLAIN], same_kept, enough, checks = 1;
         memcpy(words, start, blocks[WORDS].bytes);
-        baseline_collect_stack(words, blocks[WORDS].bytes / sizeof *words, stack, length, &same_kept, &enough);
-        if (enough) most = length;
+        baseline_collect_stack(words, blocks[WORDS].bytes / sizeof *words, stack, length, &same_kept, &enough, &checks);
+        if (checks == 0) most = length;
         else least = length + 1;
     }
     return least;
@@ -439,15 +451,20 @@ static void forms_of_collect(Input *input) {
          memcmp(words_of(LIBRARY), collected, bytes) == 0 && other.number[1] == first.number[1])
     DEMAND(AGAIN(TALLY) && other.number[3] == first.number[3]);
     if (cells <= CELLPOOL_MOST_RECURSIVE) DEMAND(AGAIN(RECURSIVE) && other.number[3] == first.number[3]);
-    /* The stack is enough from one length on: every entry that is held was pushed with another cell beside it. */
+    /* No check is made from one length on, since every entry that is held was pushed with another cell beside it; a push marks
+       two cells, and has one check at most. Without a word the first check is in vain. */
     lend_filled(STACK, kept, sizeof(uint32_t), 0x5A);
     size_t needed = answer == 0 ? stack_needed(start, kept) : 1;
     DEMAND(answer != 0 || needed == 0 || 2 * needed < kept);
-    size_t lengths[] = {needed > 0 ? needed - 1 : 0, needed, needed + 1, input->size % (kept + 1), cells + (size_t)1};
+    size_t lengths[] = {0, 1, 2, 3 + input->size % 10, needed > 0 ? needed - 1 : 0, needed, needed + 1,
+                        input->size % (kept + 1), cells + (size_t)1};
     for (size_t i = 0; i < sizeof lengths / sizeof *lengths; i++) {
         lend_filled(STACK, lengths[i], sizeof(uint32_t), 0x5A);
         DEMAND(AGAIN(STACKED));
-        DEMAND(answer != 0 || other.number[3] == (lengths[i] >= needed));
+        if (answer != 0) continue;
+        uint32_t enough = other.number[3], checks = other.number[5];
+        DEMAND((checks == 0) == (lengths[i] >= needed) && enough <= 1 && (checks > 0 || enough));
+        DEMAND((checks == 0 || 2 * checks < kept) && (lengths[i] > 0 || checks == !enough));
     }
     memcpy(words_of(LIBRARY), start, bytes);
 }
@@ -477,11 +494,13 @@ static void saved_and_loaded(Input *input) {
 int LLVMFuzzerTestOneInput(const uint8_t *data, size_t size) {
     Input input = {data, size, 0};
     uint8_t mode = byte_of(&input);
-    at_end = mode & 1;
+    at_end = mode & AT_END;
     saved_bytes = 0;
-    lend_pool(&input, mode & 2);
+    lend_pool(&input, mode);
+    /* The forms of collect on the pool as it was lent, or as the calls leave it. */
+    if (mode & ONE_REGISTER) forms_of_collect(&input);
     for (int i = 0; i < 24 && (i == 0 || input.at < input.size); i++) any_call(&input);
-    forms_of_collect(&input);
+    if (!(mode & ONE_REGISTER)) forms_of_collect(&input);
     saved_and_loaded(&input);
     return 0;
 }

@@ -129,7 +129,7 @@ static void refused_words(size_t len) {
     EXPECT(1, cellpool_same(none, len, 0, 0, numbers));
     EXPECT(1, cellpool_collect(none, len, numbers, numbers + 1));
     EXPECT(1, cellpool_collect_tally(none, len, numbers, numbers + 1, numbers + 2, numbers + 3));
-    EXPECT(1, cellpool_collect_stack(none, len, none, 1, numbers, numbers + 1));
+    EXPECT(1, cellpool_collect_stack(none, len, none, 1, numbers, numbers + 1, numbers + 2));
     EXPECT(1, cellpool_worst_case(none, len, numbers));
     EXPECT(1, cellpool_collect_recursive(none, len, numbers, numbers + 1));
     EXPECT(1, cellpool_save(none, len, none, CELLPOOL_SCRATCH(4000), no_bytes, IMAGE, sizes));
@@ -141,16 +141,24 @@ static void refused_words(size_t len) {
 static void no_elements(void) {
     refused_words(0);
     set_up();
-    EXPECT(0, cellpool_collect_stack(pool, LEN, none, 0, numbers, numbers + 1));
-    DEMAND(numbers[0] == N && numbers[1] == 1);
+    EXPECT(0, cellpool_collect_stack(pool, LEN, none, 0, numbers, numbers + 1, numbers + 2));
+    DEMAND(numbers[0] == N && numbers[1] == 1 && numbers[2] == 0);
     set_up_largest();
-    EXPECT(0, cellpool_collect_stack(largest, CELLPOOL_WORDS(4000), none, 0, numbers, numbers + 1));
-    DEMAND(numbers[0] == 4000 && numbers[1] == 0);
+    EXPECT(0, cellpool_collect_stack(largest, CELLPOOL_WORDS(4000), none, 0, numbers, numbers + 1, numbers + 2));
+    DEMAND(numbers[0] == 4000 && numbers[1] == 0 && numbers[2] == 1);
     EXPECT(10, cellpool_save(pool, LEN, none, 0, no_bytes, 0, sizes));
     EXPECT(10, cellpool_save(pool, LEN, scratch, SCRATCH, no_bytes, 0, sizes));
     EXPECT(6, cellpool_load(pool, LEN, no_bytes, 0, sizes));
     DEMAND(sizes[0] == 0);
     EXPECT(6, cellpool_check_image(no_bytes, 0, N));
+}
+
+/* A check looks at the words of the stack and at none beside them: they are the last ones of a page. The leaves are dropped. */
+static void full_stack(uint32_t length) {
+    set_up_largest();
+    uint32_t *last = front + page / sizeof *front - length;
+    EXPECT(0, cellpool_collect_stack(largest, CELLPOOL_WORDS(4000), last, length, numbers, numbers + 1, numbers + 2));
+    DEMAND(numbers[0] == 4000 && numbers[1] == 1 && numbers[2] == 1998 / length);
 }
 
 /* Lengths with these upper bits. */
@@ -197,16 +205,16 @@ static void long_blocks(size_t upper) {
     /* Stack: it is long enough. The access behind its first page comes when that is full. */
     set_up_largest();
     memset(front, 0x55, page);
-    EXPECT(TOUCHED, cellpool_collect_stack(largest, CELLPOOL_WORDS(4000), front, upper, numbers, numbers + 1));
+    EXPECT(TOUCHED, cellpool_collect_stack(largest, CELLPOOL_WORDS(4000), front, upper, numbers, numbers + 1, numbers + 2));
     DEMAND(behind() && pending());
 
     /* All of it is to end 0, where the pool is well-formed; else it is left. */
-    EXPECT(3, cellpool_collect_stack(pool, LEN, none, upper, numbers, numbers + 1));
+    EXPECT(3, cellpool_collect_stack(pool, LEN, none, upper, numbers, numbers + 1, numbers + 2));
     set_up();
-    EXPECT(TOUCHED, cellpool_collect_stack(pool, LEN, front, upper, numbers, numbers + 1));
+    EXPECT(TOUCHED, cellpool_collect_stack(pool, LEN, front, upper, numbers, numbers + 1, numbers + 2));
     DEMAND(behind());
     set_up();
-    EXPECT(TOUCHED, cellpool_collect_stack(pool, LEN, front, upper + 1, numbers, numbers + 1));
+    EXPECT(TOUCHED, cellpool_collect_stack(pool, LEN, front, upper + 1, numbers, numbers + 1, numbers + 2));
     DEMAND(behind());
 }
 
@@ -220,6 +228,9 @@ static void lengths(void) {
     saved = space(room, page) + page - IMAGE;
     out = space(room, page) + page - IMAGE;
     no_elements();
+    full_stack(1);
+    full_stack(10);
+    full_stack(1000);
     refused_words(CELLPOOL_WORDS(0));
     refused_words(CELLPOOL_WORDS(4001));
     for (size_t i = 0; i < sizeof bits / sizeof *bits; i++) long_blocks((size_t)1 << bits[i]);
@@ -264,8 +275,8 @@ static void results(void) {
     EXPECT(3, cellpool_collect(changed(3, 3), LEN, lent, lent + 1));
     EXPECT(1, cellpool_collect_tally(changed(0, 1), LEN, lent, lent + 1, lent + 2, lent + 3));
     EXPECT(3, cellpool_collect_tally(changed(3, 3), LEN, lent, lent + 1, lent + 2, lent + 3));
-    EXPECT(1, cellpool_collect_stack(changed(0, 1), LEN, stack, 1, lent, lent + 1));
-    EXPECT(3, cellpool_collect_stack(changed(3, 3), LEN, stack, 1, lent, lent + 1));
+    EXPECT(1, cellpool_collect_stack(changed(0, 1), LEN, stack, 1, lent, lent + 1, lent + 2));
+    EXPECT(3, cellpool_collect_stack(changed(3, 3), LEN, stack, 1, lent, lent + 1, lent + 2));
     EXPECT(1, cellpool_worst_case(pool, LEN - 1, lent));
     EXPECT(1, cellpool_collect_recursive(changed(0, 1), LEN, lent, lent + 1));
     EXPECT(3, cellpool_collect_recursive(changed(3, 3), LEN, lent, lent + 1));

@@ -48,8 +48,8 @@ static void reversal_collect(void) {
 }
 
 static void stack_collect(void) {
-    uint32_t enough;
-    expect(cellpool_collect_stack(words, LEN, stack, CELLS, &kept, &enough), CELLPOOL_OK);
+    uint32_t enough, checks;
+    expect(cellpool_collect_stack(words, LEN, stack, CELLS, &kept, &enough, &checks), CELLPOOL_OK);
 }
 
 static uint32_t library_kept(void) { return kept; }

@@ -177,8 +177,44 @@ fn mark_by_reversal(words: &mut [u32]) -> u32 {
     visits
 }
 
-/// Mark by Algorithm 2 of source document 003; answers whether the stack was enough.
-fn mark_with_stack(words: &mut [u32], stack: &mut [u32]) -> bool {
+/// Mark from an entry for as long as one way alone goes on: one link is unmarked, or two equal ones. Answers the cell where two
+/// different links are unmarked, and 0 where both are marked or nil.
+fn walk(words: &mut [u32], mut node: u32) -> u32 {
+    loop {
+        let at = cell_at(node);
+        let (l, r) = (words[at + LEFT], words[at + RIGHT]);
+        if unmarked(words, l) {
+            if r != l && unmarked(words, r) {
+                return node;
+            }
+            node = l;
+        } else if unmarked(words, r) {
+            node = r;
+        } else {
+            return 0;
+        }
+        words[cell_at(node)] = MARKED;
+    }
+}
+
+/// Walk from every entry, from top to bottom, and close the gaps of those that are dropped. Answers how many are left.
+fn check(words: &mut [u32], entries: &mut [u32]) -> usize {
+    for entry in entries.iter_mut().rev() {
+        *entry = walk(words, *entry);
+    }
+    let mut height = 0;
+    for place in 0..entries.len() {
+        let entry = entries[place];
+        entries[height] = entry;
+        height += usize::from(entry != 0);
+    }
+    height
+}
+
+/// Mark by Algorithm 2 of source document 003. Where the stack is full, its entries are checked, or with `CHECKED` false that is
+/// the end. Answers whether the stack was enough, and the checks.
+fn mark_with_stack<const CHECKED: bool>(words: &mut [u32], stack: &mut [u32]) -> (bool, u32) {
+    let mut checks = 0;
     for register in REGISTER_0..HEADER {
         let mut node = words[register];
         if !unmarked(words, node) {
@@ -192,10 +228,19 @@ fn mark_with_stack(words: &mut [u32], stack: &mut [u32]) -> bool {
             if unmarked(words, l) {
                 // Two equal unmarked links are one.
                 if r != l && unmarked(words, r) {
-                    if height == stack.len() {
-                        return false;
-                    }
                     words[cell_at(r)] = MARKED;
+                    if height == stack.len() {
+                        if !CHECKED {
+                            return (false, 0);
+                        }
+                        // A check finds both links marked.
+                        words[cell_at(l)] = MARKED;
+                        checks += 1;
+                        height = check(words, stack);
+                        if height == stack.len() {
+                            return (false, checks);
+                        }
+                    }
                     stack[height] = r;
                     height += 1;
                 }
@@ -212,7 +257,24 @@ fn mark_with_stack(words: &mut [u32], stack: &mut [u32]) -> bool {
             words[cell_at(node)] = MARKED;
         }
     }
-    true
+    (true, checks)
+}
+
+/// Collect with a lent stack, with checks or without; answers kept, enough and the checks.
+fn collect_with_stack<const CHECKED: bool>(words: &mut [u32], stack: &mut [u32]) -> Result<(u32, u32, u32), u32> {
+    let n = size(words)?;
+    well_formed(words, n)?;
+    let (enough, checks) = mark_with_stack::<CHECKED>(words, stack);
+    if !enough {
+        for cell in words[HEADER..].chunks_exact_mut(CELL) {
+            if cell[STATE] == MARKED {
+                cell[STATE] = USED;
+            }
+        }
+        mark_by_reversal(words);
+    }
+    stack.fill(0);
+    Ok((sweep(words, n), u32::from(enough), checks))
 }
 
 /// The recursive procedure of source document 000; the depth left falls at each call.
@@ -387,6 +449,11 @@ fn number_cells(words: &[u32], numbers: &mut [u32], order: &mut [u32]) -> usize 
 }
 
 impl PlainRust {
+    /// As `collect_stack` without checks: where the stack is full, link reversal does the work. Answers kept and enough.
+    pub fn collect_stack_unchecked(words: &mut [u32], stack: &mut [u32]) -> Result<(u32, u32), u32> {
+        collect_with_stack::<false>(words, stack).map(|(kept, enough, _)| (kept, enough))
+    }
+
     /// Mark a well-formed pool by link reversal, one visit after the other, and tell the visits.
     pub fn mark_by_cases(words: &mut [u32]) -> Result<Marking, u32> {
         let n = size(words)?;
@@ -516,20 +583,8 @@ impl Interface for PlainRust {
         Ok((kept, visits))
     }
 
-    fn collect_stack(&self, words: &mut [u32], stack: &mut [u32]) -> Result<(u32, u32), u32> {
-        let n = size(words)?;
-        well_formed(words, n)?;
-        let enough = mark_with_stack(words, stack);
-        if !enough {
-            for cell in words[HEADER..].chunks_exact_mut(CELL) {
-                if cell[STATE] == MARKED {
-                    cell[STATE] = USED;
-                }
-            }
-            mark_by_reversal(words);
-        }
-        stack.fill(0);
-        Ok((sweep(words, n), u32::from(enough)))
+    fn collect_stack(&self, words: &mut [u32], stack: &mut [u32]) -> Result<(u32, u32, u32), u32> {
+        collect_with_stack::<true>(words, stack)
     }
 
     fn worst_case(&self, words: &mut [u32]) -> Result<u32, u32> {

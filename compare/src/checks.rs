@@ -1,7 +1,7 @@
 //! The comparisons. Each runs an implementation on many inputs and answers the first difference as text.
 
 use crate::generate::{self, Shape, SHAPES};
-use crate::model::{groups, Model, Pool};
+use crate::model::{groups, Cell, Model, Pool};
 use crate::random::{self, Random};
 use crate::reference::Reference;
 use crate::refusal::PADDED;
@@ -48,6 +48,7 @@ pub const STACK_LENGTHS: Comparison = Comparison { stream: 14, rounds: 0, run: e
 pub const LENT_LENGTHS: Comparison = Comparison { stream: 15, rounds: 0, run: every_lent_length };
 pub const ROUND_TRIPS: Comparison = Comparison { stream: 16, rounds: 10_000, run: round_trips };
 pub const WORST_CASES: Comparison = Comparison { stream: 17, rounds: 0, run: worst_cases };
+pub const CHECKED_POOLS: Comparison = Comparison { stream: 18, rounds: 0, run: checked_pools };
 
 fn equal<T: PartialEq + Debug>(what: impl Fn() -> String, found: T, expected: T) -> Outcome {
     if found == expected {
@@ -181,8 +182,8 @@ fn digits(mut code: usize, bases: &[usize]) -> Vec<u32> {
     bases.iter().map(digit).collect()
 }
 
-/// Every pool of one or two cells with small numbers, and every well-formed pool of three used cells, which needs one stack
-/// word at most.
+/// Every pool of one or two cells with small numbers, and every well-formed pool of three used cells, and of four from register 0,
+/// which need one stack word at most.
 fn small_pools(pool: &dyn Interface, random: &mut Random, _: usize) -> Outcome {
     let states = [USED, FREE, 3];
     for n in [1, 2] {
@@ -215,7 +216,9 @@ fn small_pools(pool: &dyn Interface, random: &mut Random, _: usize) -> Outcome {
             ] {
                 one_call(pool, &mut words.clone(), call)?;
             }
-            stack_collect(pool, &words, code % 3, random)?;
+            for length in 0..3 {
+                stack_collect(pool, &words, length, random)?;
+            }
             save(pool, &words, 2 * n, 40, random)?;
         }
     }
@@ -235,6 +238,85 @@ fn small_pools(pool: &dyn Interface, random: &mut Random, _: usize) -> Outcome {
         }
         save(pool, &words, 6, 26, random)?;
     }
+    let mut words = vec![0; words_for(4)];
+    (words[0], words[2]) = (4, 1);
+    for code in 0..usize::pow(5, 8) {
+        for (cell, links) in words[HEADER..].chunks_mut(CELL).zip(digits(code, &[5; 8]).chunks(2)) {
+            cell.copy_from_slice(&[USED, links[0], links[1], 7]);
+        }
+        for length in 0..3 {
+            stack_collect(pool, &words, length, random)?;
+        }
+    }
+    Ok(())
+}
+
+/// Every pool of so many cells that the stack marker with one, two or three words can tell from the others, where the first cells
+/// in hand lead to two new ones each, until a check is made. The links of a cell are chosen when it is looked at, in hand or in a
+/// check, and no longer once all cells are marked. Which marked cell a link leads to, or to nil, makes no difference: one of them
+/// is taken. Neither does the number of a new cell.
+fn checked_pools(pool: &dyn Interface, random: &mut Random, _: usize) -> Outcome {
+    for (length, most) in [(1, 9), (2, 11), (3, 12)] {
+        let pushed = 2 * length as u32 + 3;
+        for n in pushed..=most {
+            let cell = Cell { state: USED, left: 0, right: 0, value: 7 };
+            let mut graph = Pool { head: 0, registers: [0; REGISTERS], cells: vec![cell; n as usize] };
+            graph.registers[0] = 1;
+            // Cell 1 leads to 2 and 3, 2 to 4 and 5, 4 to 6 and 7, and so on.
+            let mut chosen: Vec<u32> = (1..pushed - 1).filter(|i| *i == 1 || i % 2 == 0).collect();
+            for (place, &i) in chosen.iter().enumerate() {
+                let left = 2 * place as u32 + 2;
+                graph.cells[i as usize - 1] = Cell { left, right: left + 1, ..cell };
+            }
+            every_choice(&mut graph, &mut chosen, pushed, length, random, &mut |graph, random| {
+                let mut words = vec![0; words_for(n as usize)];
+                graph.encode(&mut words);
+                stack_collect(pool, &words, length, random)
+            })?;
+        }
+    }
+    Ok(())
+}
+
+/// Go through the choices of links for the first cell that is looked at before its links are chosen. The cells up to `named` are
+/// those that links and the register lead to.
+fn every_choice(
+    graph: &mut Pool,
+    chosen: &mut Vec<u32>,
+    named: u32,
+    length: usize,
+    random: &mut Random,
+    show: &mut impl FnMut(&Pool, &mut Random) -> Outcome,
+) -> Outcome {
+    let mut first: Option<(u32, Vec<u32>)> = None;
+    let look = |cell: u32, marked: &dyn Fn(u32) -> bool| {
+        if first.is_none() && !chosen.contains(&cell) {
+            first = Some((cell, (0..=graph.n()).filter(|&link| marked(link)).collect()));
+        }
+    };
+    graph.mark_with_words(length, look, |_| ());
+    let Some((cell, marked)) = first.filter(|(_, marked)| marked.len() <= graph.cells.len()) else {
+        return show(graph, random);
+    };
+    // Nil stands for every marked one.
+    let links = |named: u32| (0..=graph.n().min(named + 1)).filter(|&link| link == 0 || !marked.contains(&link));
+    let pairs = links(named).flat_map(|left| links(named.max(left)).map(move |right| (left, right)));
+    let place = cell as usize - 1;
+    let before = graph.cells[place];
+    chosen.push(cell);
+    for (left, right) in pairs.collect::<Vec<_>>() {
+        // Often the newest one, which the same check may have marked.
+        let newest = marked[marked.len() - 1];
+        let mut taken = |link: u32| match link {
+            0 if random.once_in(2) => newest,
+            0 => random.pick(&marked),
+            _ => link,
+        };
+        graph.cells[place] = Cell { left: taken(left), right: taken(right), ..before };
+        every_choice(graph, chosen, named.max(left).max(right), length, random, show)?;
+    }
+    chosen.pop();
+    graph.cells[place] = before;
     Ok(())
 }
 
@@ -330,7 +412,7 @@ fn filled(random: &mut Random, length: usize) -> impl Iterator<Item = u32> {
     (0..length as u32).map(move |i| first.wrapping_add(i.wrapping_mul(step)) | 1)
 }
 
-/// The words that the stack marker needs, or a small number.
+/// The words with which the stack marker makes no check, or a small number.
 fn stack_needed(words: &[u32], random: &mut Random) -> usize {
     decoded(words).map_or_else(|| random.below(3), |pool| pool.stack_needed())
 }
@@ -345,16 +427,17 @@ fn far_beyond(random: &mut Random, needed: usize) -> usize {
     }
 }
 
-/// Every form of collect on these words: answers, words, tally and stack. The lengths of the stack are around what is
-/// needed, any up to beyond N, and now and then far beyond.
+/// Every form of collect on these words: answers, words, tally and stack. The lengths of the stack are 0 to 12, around what
+/// makes no check, around what never does, any up to beyond N, and now and then far beyond.
 fn every_collect(pool: &dyn Interface, words: &[u32], random: &mut Random) -> Outcome {
     one_call(pool, &mut words.to_vec(), Call::Collect)?;
     recursive_collect(pool, words)?;
     tally_collect(pool, words, random)?;
-    let needed = stack_needed(words, random);
+    let (n, needed) = (room(words), stack_needed(words, random));
+    let most = n.saturating_sub(1) / 2;
     let around = [needed.saturating_sub(2), needed.saturating_sub(1), needed, needed + 1, needed + 5];
-    let any = [0, 1, random.below(room(words) + 10), random.below(needed + 3)];
-    for length in around.into_iter().chain(any) {
+    let any = [most.saturating_sub(1), most, n, random.below(n + 10), random.below(needed + 3)];
+    for length in (0..=12).chain(around).chain(any).collect::<BTreeSet<usize>>() {
         stack_collect(pool, words, length, random)?;
     }
     if random.once_in(30) {
@@ -399,31 +482,62 @@ fn stack_collect(pool: &dyn Interface, words: &[u32], length: usize, random: &mu
     equal_words(what, &found_stack, &expected_stack)
 }
 
-/// Pools of every number of used cells for which the stack marker holds as many entries as it can, with one stack word less
-/// than that, with as many, and with any number: so every length of a stack is tried where it is just too short and where it
-/// is just enough. Chains of equal links of every length, with no stack word.
+/// Whether a stack of this length is enough, and the checks, where so many leaves are pushed one after the other: a check drops all
+/// that are held.
+fn leaves(entries: usize, length: usize) -> (u32, u32) {
+    match length {
+        _ if length >= entries => (1, 0),
+        0 => (0, 1),
+        _ => (1, ((entries - 1) / length) as u32),
+    }
+}
+
+/// The same where every entry is needed: one check finds that.
+fn forks(entries: usize, length: usize) -> (u32, u32) {
+    if length >= entries {
+        (1, 0)
+    } else {
+        (0, 1)
+    }
+}
+
+/// Pools of every number of used cells for which the stack marker holds as many entries as it can, leaves or forks, with one stack
+/// word less than that, with as many, and with any number: so every length of a stack is tried where a check is just made and
+/// where none is, where it drops every entry and where it drops none. Chains of equal links of every length, with no stack word.
 fn every_stack_length(pool: &dyn Interface, random: &mut Random, _: usize) -> Outcome {
     for used in 1..=MOST_CELLS {
         let n = if random.once_in(2) { used } else { random.between(used, MOST_CELLS) };
-        let most = (used - 1) / 2;
-        let any = random.below(n + 4);
-        for (entries, lengths) in [(0, &[0][..]), (most, &[most.saturating_sub(1), most, any])] {
-            let words = generate::comb_and_chain(random, entries, used, n);
-            every_word_kept(pool, &words, used, entries, lengths, random)?;
+        let (most, most_forks, any) = ((used - 1) / 2, used.saturating_sub(3) / 2, random.below(n + 4));
+        let words = generate::comb_and_chain(random, 0, 0, used, n);
+        every_word_kept(pool, &words, used, &[0], |length| leaves(0, length), random)?;
+        let words = generate::comb_and_chain(random, most, 0, used, n);
+        let lengths = [most.saturating_sub(1), most, any];
+        every_word_kept(pool, &words, used, &lengths, |length| leaves(most, length), random)?;
+        if most_forks > 0 {
+            let words = generate::comb_and_chain(random, most_forks, most_forks, used, n);
+            every_word_kept(
+                pool,
+                &words,
+                used,
+                &[most_forks - 1, most_forks],
+                |length| forks(most_forks, length),
+                random,
+            )?;
         }
     }
     Ok(())
 }
 
-/// The worst case of every size, from words of any content: a stack of as many words as are answered is enough for it, and one
-/// word less is not. A length between two sizes is refused.
+/// The worst case of every size, from words of any content: a stack of as many words as are answered makes no check, and a shorter
+/// one a check for each push that finds it full. A length between two sizes is refused.
 fn worst_cases(pool: &dyn Interface, random: &mut Random, _: usize) -> Outcome {
     for n in 0..=MOST_CELLS + 3 {
         let mut words: Vec<u32> = filled(random, words_for(n)).collect();
         build(pool, WORST_CASE, &mut words)?;
         if (1..=MOST_CELLS).contains(&n) {
             let entries = (n - 1) / 2;
-            every_word_kept(pool, &words, n, entries, &[entries.saturating_sub(1), entries], random)?;
+            let lengths = [entries.saturating_sub(1), entries, n % 13, random.below(entries + 1)];
+            every_word_kept(pool, &words, n, &lengths, |length| leaves(entries, length), random)?;
         }
         let between = words_for(n) + random.between(1, CELL - 1);
         build(pool, WORST_CASE, &mut filled(random, between).collect::<Vec<u32>>())?;
@@ -431,14 +545,14 @@ fn worst_cases(pool: &dyn Interface, random: &mut Random, _: usize) -> Outcome {
     Ok(())
 }
 
-/// A pool that a collection leaves word for word: it keeps `used` cells, by reversal and with stacks of these lengths, of which
-/// those of `entries` words and more are enough. What is expected is known without the model.
+/// A pool that a collection leaves word for word: it keeps `used` cells, by reversal and with stacks of these lengths, for which
+/// `expected` tells whether they are enough, and the checks. What is expected is known without the model.
 fn every_word_kept(
     pool: &dyn Interface,
     words: &[u32],
     used: usize,
-    entries: usize,
     lengths: &[usize],
+    expected: impl Fn(usize) -> (u32, u32),
     random: &mut Random,
 ) -> Outcome {
     let n = room(words);
@@ -448,9 +562,9 @@ fn every_word_kept(
     equal_words(what, &found, words)?;
     for &length in lengths {
         let (mut found, mut stack) = (words.to_vec(), filled(random, length).collect::<Vec<u32>>());
-        let what = || format!("stack collect of {used} cells of {n}, {entries} entries, with {length} words");
-        let answer = pool.collect_stack(&mut found, &mut stack);
-        equal(what, answer, Ok((used as u32, u32::from(length >= entries))))?;
+        let what = || format!("stack collect of {used} cells of {n} with {length} words");
+        let (enough, checks) = expected(length);
+        equal(what, pool.collect_stack(&mut found, &mut stack), Ok((used as u32, enough, checks)))?;
         equal_words(what, &found, words)?;
         equal(what, stack.iter().find(|&&word| word != 0), None)?;
     }

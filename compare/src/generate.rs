@@ -123,7 +123,11 @@ pub fn well_formed_pools(random: &mut Random, count: usize) -> impl Iterator<Ite
         Some((shape, n)) => shape.words(n, random),
         None => {
             let n = cells(random);
-            well_formed(random, n)
+            if random.once_in(4) {
+                branches(random, n)
+            } else {
+                well_formed(random, n)
+            }
         }
     })
 }
@@ -153,19 +157,65 @@ pub fn last_held(random: &mut Random, n: usize) -> Vec<u32> {
     words
 }
 
-/// A pool of `n` cells for which the stack marker holds `entries` entries at once: a left comb with so many leaves, each with
-/// both links to itself, and where it ends a chain of equal links. They are `used` cells, at least 2 * `entries` + 1. The
-/// others form the ascending chain, so that a collection keeps every word.
-pub fn comb_and_chain(random: &mut Random, entries: usize, used: usize, n: usize) -> Vec<u32> {
+/// A pool of `n` cells for which the stack marker holds `entries` entries at once: a left comb, and where it ends a chain of equal
+/// links. The first entries, `forks` of them, lead to the last two cells, the same for each; the others are leaves, with both links
+/// to themselves. They are `used` cells, at least 2 * `entries` + 1, with forks 2 more. The others form the ascending chain, so that
+/// a collection keeps every word.
+pub fn comb_and_chain(random: &mut Random, entries: usize, forks: usize, used: usize, n: usize) -> Vec<u32> {
     let mut words = Shape::EqualChain.words(used, random);
+    let last = used as u32;
     for i in (1..2 * entries as u32).step_by(2) {
         words[cell_at(i) + 1..][..2].copy_from_slice(&[i + 2, i + 1]);
-        words[cell_at(i + 1) + 1..][..2].copy_from_slice(&[i + 1, i + 1]);
+        let links = if i < 2 * forks as u32 { [last - 1, last] } else { [i + 1; 2] };
+        words[cell_at(i + 1) + 1..][..2].copy_from_slice(&links);
     }
     words[0] = n as u32;
     words[1] = if used < n { used as u32 + 1 } else { 0 };
     for i in used + 1..=n {
         words.extend([FREE, if i < n { i as u32 + 1 } else { 0 }, 0, 0]);
+    }
+    words
+}
+
+/// A pool of `n` used cells for which the stack marker pushes often, and walks in its checks: chains over left links from one to
+/// four registers, with a branch to the right of each cell. A branch goes on over up to three cells, each by one link or two equal
+/// ones, and ends in a leaf, in two new cells, or with links to any.
+pub fn branches(random: &mut Random, n: usize) -> Vec<u32> {
+    let mut words = vec![0; words_for(n)];
+    words[0] = n as u32;
+    words[2] = 1;
+    let (mut last, mut runs, mut new) = (1, 1, 2..=n as u32);
+    let link = |words: &mut [u32], cell: u32, left: u32, right: u32| {
+        words[cell_at(cell) + 1..][..2].copy_from_slice(&[left, right]);
+    };
+    let often = random.pick(&[1, 2, 4]);
+    while let Some(branch) = new.next() {
+        let mut end = branch;
+        for _ in 0..random.below(4) / often {
+            let Some(cell) = new.next() else { break };
+            let (left, right) = random.pick(&[(cell, 0), (0, cell), (cell, cell), (cell, last), (last, cell)]);
+            link(&mut words, end, left, right);
+            end = cell;
+        }
+        let (left, right) = (random.between(1, n) as u32, random.between(0, n) as u32);
+        match random.below(4 * often) {
+            0 => link(&mut words, end, new.next().unwrap_or(0), new.next().unwrap_or(0)),
+            1 => link(&mut words, end, left, right),
+            2 => link(&mut words, end, 0, left),
+            _ => {}
+        }
+        let Some(next) = new.next() else {
+            link(&mut words, last, branch, 0);
+            break;
+        };
+        if runs < 4 && random.once_in(12) {
+            link(&mut words, last, branch, 0);
+            words[2 + runs] = next;
+            runs += 1;
+        } else {
+            link(&mut words, last, next, branch);
+        }
+        last = next;
     }
     words
 }
@@ -222,7 +272,7 @@ pub fn damage(random: &mut Random, words: &mut Vec<u32>) {
 /// Words of any kind.
 pub fn words(random: &mut Random) -> Vec<u32> {
     let n = cells(random);
-    match random.below(10) {
+    match random.below(11) {
         0 => {
             let mut words = noise(random, n);
             if !random.once_in(3) {
@@ -238,7 +288,8 @@ pub fn words(random: &mut Random) -> Vec<u32> {
             words
         }
         4 | 5 => well_formed(random, n),
-        6 | 7 => {
+        6 => branches(random, n),
+        7 | 8 => {
             let mut words = built_by_calls(random, n);
             damage(random, &mut words);
             words

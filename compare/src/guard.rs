@@ -160,7 +160,7 @@ impl Interface for Guarded {
         answer
     }
 
-    fn collect_stack(&self, words: &mut [u32], stack: &mut [u32]) -> Result<(u32, u32), u32> {
+    fn collect_stack(&self, words: &mut [u32], stack: &mut [u32]) -> Result<(u32, u32, u32), u32> {
         self.each(words, stack, &mut [], |pool, words, stack, _| pool.collect_stack(words, stack))
     }
 

@@ -99,9 +99,9 @@ pub trait Interface<R = u32> {
     fn collect(&self, words: &mut [u32]) -> Result<(u32, u32), R>;
     /// Answers kept and visits.
     fn collect_tally(&self, words: &mut [u32], tally: &mut Tally) -> Result<(u32, u32), R>;
-    /// Answers kept, and 1 if the stack was enough, else 0.
-    fn collect_stack(&self, words: &mut [u32], stack: &mut [u32]) -> Result<(u32, u32), R>;
-    /// Answers the most entries that the stack marker holds on the pool that is built.
+    /// Answers kept, 1 if no check found all entries of the stack needed, else 0, and the number of checks.
+    fn collect_stack(&self, words: &mut [u32], stack: &mut [u32]) -> Result<(u32, u32, u32), R>;
+    /// Answers the most entries that the stack marker holds on the pool that is built, where it has enough words.
     fn worst_case(&self, words: &mut [u32]) -> Result<u32, R>;
     /// Answers kept and visits.
     fn collect_recursive(&self, words: &mut [u32]) -> Result<(u32, u32), R>;

@@ -3,8 +3,8 @@
 //! The words are decoded into a structure, changed there, and encoded again only where the call is accepted: so a
 //! refusal changes nothing by construction. The marker goes by breadth with a set; visits are three for each kept
 //! cell, and the cases of the visits are those of the recursive procedure of source document 000; the stack marker is
-//! Algorithm 2 of source document 003 on a list without limit, where two equal unmarked links are one. A refusal comes
-//! from its cause, and the model answers with either.
+//! Algorithm 2 of source document 003, where two equal unmarked links are one: on a list without limit, and on one with a
+//! limit, where a full list is checked. A refusal comes from its cause, and the model answers with either.
 
 use crate::cause::{Cause, Link, Name, Place};
 use crate::visit::{Case, Marking, CASES};
@@ -58,6 +58,43 @@ pub struct InHand<'a> {
     pub unmarked: (bool, bool),
     /// What it holds, the newest entry last.
     pub entries: &'a [u32],
+}
+
+/// What became of an entry in a check.
+#[derive(Clone, Copy, Debug, PartialEq, Eq)]
+pub struct Walk {
+    /// How many different unmarked links the entry had when the check began.
+    pub open: usize,
+    /// The cells that were gone to from the entry.
+    pub cells: usize,
+    /// Whether one of these was gone to over two equal links.
+    pub over_equal: bool,
+    /// The cell that the entry becomes, itself where none was gone to; none where it is dropped.
+    pub kept: Option<u32>,
+}
+
+/// A check of the entries, of which as many are held as there are words.
+pub struct Check {
+    /// The register that the marker started from.
+    pub register: usize,
+    /// What became of each entry, from top to bottom.
+    pub walks: Vec<Walk>,
+}
+
+/// What the stack marker does with a limit.
+pub struct Limited {
+    /// No check found all entries needed.
+    pub enough: bool,
+    pub checks: u32,
+    /// What is marked at the end, or when the last check was in vain; nil counts as marked.
+    marked: Set,
+}
+
+impl Limited {
+    /// The cells that are marked.
+    pub fn marked(&self) -> BTreeSet<u32> {
+        (1..self.marked.0.len() as u32).filter(|&i| self.marked.contains(i)).collect()
+    }
 }
 
 /// A visit of the recursive procedure.
@@ -316,7 +353,7 @@ impl Pool {
         kept.len() as u32
     }
 
-    /// Algorithm 2 of source document 003, where two equal unmarked links are one. Each cell in hand is shown.
+    /// Algorithm 2 of source document 003 without a limit, where two equal unmarked links are one. Each cell in hand is shown.
     pub fn mark_with_stack(&self, mut show: impl FnMut(InHand)) {
         let mut marked = Set::new(self.n());
         marked.insert(0);
@@ -346,11 +383,95 @@ impl Pool {
         }
     }
 
-    /// The most entries that the stack marker ever holds: those of a push are still there with the next cell in hand.
+    /// The most entries that the stack marker ever holds without a limit: those of a push are still there with the next cell in
+    /// hand.
     pub fn stack_needed(&self) -> usize {
         let mut most = 0;
         self.mark_with_stack(|hand| most = most.max(hand.entries.len()));
         most
+    }
+
+    /// The different links of a cell that are unmarked, the left one first.
+    fn open(&self, marked: &Set, cell: u32) -> Vec<u32> {
+        let mut links = vec![self.cell(cell).left, self.cell(cell).right];
+        links.dedup();
+        links.retain(|&link| !marked.contains(link));
+        links
+    }
+
+    /// Algorithm 2 with a list that takes `words` entries. A push that finds it full checks the entries first; where none of
+    /// them goes, that is the end. Each cell that is looked at, in hand or in a check, is shown to `look` with the question
+    /// whether a link is marked, and each check to `show`.
+    pub fn mark_with_words(
+        &self,
+        words: usize,
+        mut look: impl FnMut(u32, &dyn Fn(u32) -> bool),
+        mut show: impl FnMut(&Check),
+    ) -> Limited {
+        let mut marked = Set::new(self.n());
+        marked.insert(0);
+        let mut checks = 0;
+        for (register, link) in self.registers.into_iter().enumerate() {
+            if !marked.insert(link) {
+                continue;
+            }
+            let mut entries: Vec<u32> = Vec::new();
+            let mut in_hand = Some(link);
+            while let Some(cell) = in_hand {
+                look(cell, &|link| marked.contains(link));
+                let open = self.open(&marked, cell);
+                open.iter().for_each(|&link| _ = marked.insert(link));
+                in_hand = match open[..] {
+                    [] => entries.pop(),
+                    [only] => Some(only),
+                    [left, right, ..] => {
+                        if entries.len() == words {
+                            checks += 1;
+                            let check = self.check(register, &entries, &mut marked, &mut look);
+                            show(&check);
+                            // From top to bottom, and so in the other order than they are held.
+                            entries = check.walks.iter().rev().filter_map(|walk| walk.kept).collect();
+                            if entries.len() == words {
+                                return Limited { enough: false, checks, marked };
+                            }
+                        }
+                        entries.push(right);
+                        Some(left)
+                    }
+                };
+            }
+        }
+        Limited { enough: true, checks, marked }
+    }
+
+    /// Walk from each entry, the last one first.
+    fn check(
+        &self,
+        register: usize,
+        entries: &[u32],
+        marked: &mut Set,
+        look: &mut impl FnMut(u32, &dyn Fn(u32) -> bool),
+    ) -> Check {
+        let open: Vec<usize> = entries.iter().map(|&entry| self.open(marked, entry).len()).collect();
+        let mut walks = Vec::new();
+        for (&entry, open) in entries.iter().zip(open).rev() {
+            let mut walk = Walk { open, cells: 0, over_equal: false, kept: Some(entry) };
+            while let Some(cell) = walk.kept {
+                look(cell, &|link| marked.contains(link));
+                walk.kept = match self.open(marked, cell)[..] {
+                    [] => None,
+                    [only] => {
+                        marked.insert(only);
+                        walk.cells += 1;
+                        walk.over_equal |= self.cell(cell).left == self.cell(cell).right;
+                        Some(only)
+                    }
+                    _ => break,
+                };
+            }
+            walks.push(walk);
+        }
+        Check { register, walks }
     }
 
     /// The saved image of a well-formed pool.
@@ -592,13 +713,13 @@ impl<R: From<Cause>> Interface<R> for Model {
         Ok((kept, 3 * kept))
     }
 
-    fn collect_stack(&self, words: &mut [u32], stack: &mut [u32]) -> Result<(u32, u32), R> {
+    fn collect_stack(&self, words: &mut [u32], stack: &mut [u32]) -> Result<(u32, u32, u32), R> {
         let pool = Pool::decode(words)?;
         pool.require_well_formed()?;
-        let needed = pool.stack_needed();
+        let Limited { enough, checks, .. } = pool.mark_with_words(stack.len(), |_, _| (), |_| ());
         let kept = self.collected(words)?;
         stack.fill(0);
-        Ok((kept, u32::from(needed <= stack.len())))
+        Ok((kept, u32::from(enough), checks))
     }
 
     fn worst_case(&self, words: &mut [u32]) -> Result<u32, R> {

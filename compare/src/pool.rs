@@ -77,6 +77,7 @@ macro_rules! bind {
                 stack_len: usize,
                 kept: *mut u32,
                 enough: *mut u32,
+                checks: *mut u32,
             ) -> u32;
             fn $worst_case(words: *mut u32, len: usize, entries: *mut u32) -> u32;
             fn $collect_recursive(words: *mut u32, len: usize, kept: *mut u32, visits: *mut u32) -> u32;
@@ -162,11 +163,12 @@ macro_rules! bind {
                 answer.map(|[kept, visits]| (kept, visits))
             }
 
-            fn collect_stack(&self, words: &mut [u32], stack: &mut [u32]) -> Result<(u32, u32), u32> {
-                results(UNSET, |[kept, enough]| unsafe {
-                    $collect_stack(words.as_mut_ptr(), words.len(), stack.as_mut_ptr(), stack.len(), kept, enough)
+            fn collect_stack(&self, words: &mut [u32], stack: &mut [u32]) -> Result<(u32, u32, u32), u32> {
+                results(UNSET, |[kept, enough, checks]| unsafe {
+                    let (lent, length) = (stack.as_mut_ptr(), stack.len());
+                    $collect_stack(words.as_mut_ptr(), words.len(), lent, length, kept, enough, checks)
                 })
-                .map(|[kept, enough]| (kept, enough))
+                .map(|[kept, enough, checks]| (kept, enough, checks))
             }
 
             fn worst_case(&self, words: &mut [u32]) -> Result<u32, u32> {
@@ -235,7 +237,7 @@ bind! {
 
 #[cfg(before)]
 bind! {
-    /// An earlier version of the library.
+    /// An earlier version of the library. Before 4.0.0 its collect_stack lacks the last argument: do not call it.
     Before:
     before_cellpool_fresh, before_cellpool_copy, before_cellpool_clear, before_cellpool_new, before_cellpool_left,
     before_cellpool_right, before_cellpool_setleft, before_cellpool_setright, before_cellpool_setvalue,
@@ -254,10 +256,28 @@ extern "C" {
         cases: *mut u8,
         entered: *mut u32,
     ) -> u32;
+    fn baseline_collect_stack_unchecked(
+        words: *mut u32,
+        len: usize,
+        stack: *mut u32,
+        stack_len: usize,
+        kept: *mut u32,
+        enough: *mut u32,
+    ) -> u32;
 }
 
 #[cfg(c_baseline)]
 impl PlainC {
+    /// As `collect_stack` without checks: where the stack is full, link reversal does the work. Answers kept and enough.
+    pub fn collect_stack_unchecked(words: &mut [u32], stack: &mut [u32]) -> Result<(u32, u32), u32> {
+        // SAFETY: as above.
+        results(UNSET, |[kept, enough]| unsafe {
+            let (lent, length) = (stack.as_mut_ptr(), stack.len());
+            baseline_collect_stack_unchecked(words.as_mut_ptr(), words.len(), lent, length, kept, enough)
+        })
+        .map(|[kept, enough]| (kept, enough))
+    }
+
     /// Mark a well-formed pool by link reversal, one visit after the other, and tell the visits.
     pub fn mark_by_cases(words: &mut [u32]) -> Result<Marking, u32> {
         // Room for three visits of every cell, and each of them could go to a cell.

@@ -4,9 +4,9 @@
  *
  * Each call is made on a block of its own, which is painted before with one byte and then with another; the lowest byte that
  * has changed tells how far the call went. Inputs are chosen so that every function takes its longest way: all cells used
- * and reached, a stack that is enough and one that is not, a chain of 64 cells for the recursive marker, images of every
- * length of number, and refused calls, also at the last number of an image. A line is printed for each function, its name and
- * the most bytes of its calls.
+ * and reached, a stack that is enough, one that its checks make enough and one that is not, a chain of 64 cells for the
+ * recursive marker, images of every length of number, and refused calls, also at the last number of an image. A line is
+ * printed for each function, its name and the most bytes of its calls.
  *
  * x86-64 with the System V calling convention, as the library is.
  */
@@ -90,6 +90,19 @@ static void all_used(uint32_t *pool, uint32_t n, int tree) {
     }
 }
 
+/* All cells used: a chain over left links, and to the right of each of its cells a chain of three more, over a right link and over
+   equal ones. It ends there, or with forks in the last two cells of the pool: then a check finds every entry needed. */
+static void comb(uint32_t *pool, uint32_t n, int forks) {
+    uint32_t i;
+    all_used(pool, n, 0);
+    for (i = 1; i + 2 <= n; i++) {
+        uint32_t *cell = pool + CELLPOOL_WORDS(i - 1);
+        if (i % 4 == 1) cell[1] = i + 6 <= n ? i + 4 : 0;
+        if (i % 4 == 2) cell[1] = 0;
+        if (i % 4 == 0) cell[1] = forks ? n - 1 : 0, cell[2] = forks ? n : 0;
+    }
+}
+
 static void all_free(void) {
     memset(before, 0, sizeof before);
     before[0] = N;
@@ -102,7 +115,7 @@ static void all_free(void) {
 
 int main(void) {
     const uint64_t w = AT(words), r0 = AT(numbers), r1 = AT(numbers + 1), r2 = AT(numbers + 2), r3 = AT(numbers + 3);
-    int tree;
+    int tree, forks;
 
     all_used(before, N, 1);
     TRY(0, fresh, w, LEN, r0), TRY(1, fresh, w, LEN - 1, r0), TOLD(fresh);
@@ -139,9 +152,15 @@ int main(void) {
     TOLD(collect);
     EVERY_WAY(collect_tally, w, LEN, r0, r1, r2, r3);
     TOLD(collect_tally);
-    EVERY_WAY(collect_stack, w, LEN, AT(stack), N, r0, r1);
-    EVERY_WAY(collect_stack, w, LEN, AT(stack), 1, r0, r1);
-    EVERY_WAY(collect_stack, w, LEN, AT(stack), 0, r0, r1);
+    EVERY_WAY(collect_stack, w, LEN, AT(stack), N, r0, r1, r2);
+    EVERY_WAY(collect_stack, w, LEN, AT(stack), 1, r0, r1, r2);
+    EVERY_WAY(collect_stack, w, LEN, AT(stack), 0, r0, r1, r2);
+    /* Checks that walk from every entry, and drop all of them or none. */
+    for (forks = 0; forks < 2; forks++) {
+        comb(before, N, forks);
+        TRY(0, collect_stack, w, LEN, AT(stack), 10, r0, r1, r2);
+        if (numbers[1] == (uint32_t)forks || numbers[2] == 0) return 1;
+    }
     TOLD(collect_stack);
     TRY(0, worst_case, w, LEN, r0), TRY(1, worst_case, w, LEN - 1, r0), TOLD(worst_case);
     all_used(small, SMALL, 0);

@@ -137,28 +137,39 @@ fn every_answer_has_a_text_of_its_own() {
 }
 
 #[test]
-fn the_words_of_stack_that_the_header_states_are_those_of_the_worst_case() {
+fn the_words_of_stack_and_the_checks_that_the_header_states_are_those_of_the_worst_case() {
     let text = "#include \"cellpool.h\"\n\
         #include <stdio.h>\n\
         #if CELLPOOL_STACK(0) != 0 || CELLPOOL_STACK(4000) != 1999\n\
         #error a constant of the preprocessor is another\n\
         #endif\n\
         static uint32_t words[CELLPOOL_WORDS(4000)], stack[CELLPOOL_STACK(4000)];\n\
+        static void collect(uint32_t n, size_t length) {\n\
+            uint32_t kept = 7777, enough = 7777, checks = 7777, answer;\n\
+            answer = cellpool_collect_stack(words, CELLPOOL_WORDS(n), stack, length, &kept, &enough, &checks);\n\
+            printf(\" %d %d %d %d\", (int)answer, (int)kept, (int)enough, (int)checks);\n\
+        }\n\
         int main(void) {\n\
-            uint32_t n, entries, kept, enough, answer;\n\
+            uint32_t n, entries, answer;\n\
             for (n = 0; n <= 4000; n++) {\n\
-                entries = kept = enough = 7777;\n\
+                entries = 7777;\n\
                 answer = cellpool_worst_case(words, CELLPOOL_WORDS(n), &entries);\n\
                 printf(\"%d %d %d\", (int)CELLPOOL_STACK(n), (int)answer, (int)entries);\n\
-                answer = cellpool_collect_stack(words, CELLPOOL_WORDS(n), stack, CELLPOOL_STACK(n), &kept, &enough);\n\
-                printf(\" %d %d %d\\n\", (int)answer, (int)kept, (int)enough);\n\
+                collect(n, CELLPOOL_STACK(n));\n\
+                collect(n, 10);\n\
+                printf(\"\\n\");\n\
             }\n\
             return 0;\n\
         }\n";
     std::fs::write(made("stack_words.c"), text).expect("the source is written");
     let told = run(&compile("stack_words", &cc(), &["-std=c99", "-O2"], &[made("stack_words.c"), archive()]), &[]);
-    let line = |n: u32| format!("{0} 0 {0} 0 {n} 1\n", (n - 1) / 2);
-    assert_eq!(told, "0 1 7777 1 7777 7777\n".to_string() + &(1..=4000).map(line).collect::<String>());
+    // With that many words no check; with ten as many as they are full, with one more to come.
+    let line = |n: u32| {
+        let entries = (n - 1) / 2;
+        format!("{entries} 0 {entries} 0 {n} 1 0 0 {n} 1 {}\n", if entries > 10 { (entries - 1) / 10 } else { 0 })
+    };
+    let refused = "0 1 7777 1 7777 7777 7777 1 7777 7777 7777\n".to_string();
+    assert_eq!(told, refused + &(1..=4000).map(line).collect::<String>());
 }
 
 #[test]

@@ -3,8 +3,14 @@
 
 mod common;
 
+use cellpool_compare::baseline::PlainRust;
 use cellpool_compare::checks::{self, Comparison};
+use cellpool_compare::generate;
 use cellpool_compare::guard::Guarded;
+use cellpool_compare::model::Pool;
+use cellpool_compare::random::{rounds, seed, Random};
+use cellpool_compare::refusal::SIZE;
+use cellpool_compare::Interface;
 use common::implementations;
 
 fn on_all(comparison: Comparison) {
@@ -88,12 +94,53 @@ fn every_function_at_every_size() {
 }
 
 #[test]
-fn every_stack_length_just_too_short_and_just_enough() {
+fn every_stack_length_just_checked_and_just_not() {
     on_all(checks::STACK_LENGTHS);
 }
 
+/// What the benchmark has beside the checks: a stack that is full is too short at once.
 #[test]
-fn the_worst_case_of_every_size_takes_just_the_stack_words_that_are_answered() {
+fn without_checks_a_stack_is_enough_exactly_if_it_holds_every_entry() {
+    type Collect = fn(&mut [u32], &mut [u32]) -> Result<(u32, u32), u32>;
+    let collects: &[Collect] = &[
+        PlainRust::collect_stack_unchecked,
+        #[cfg(c_baseline)]
+        cellpool_compare::pool::PlainC::collect_stack_unchecked,
+    ];
+    let mut random = Random::new(seed());
+    let mut seen = [0, 0];
+    for words in generate::well_formed_pools(&mut random, rounds(2_000)) {
+        let mut collected = words.clone();
+        let (kept, _) = PlainRust.collect(&mut collected).expect("the pool is well-formed");
+        let needed = Pool::decode(&words).expect("the size is right").stack_needed();
+        for (collect, length) in
+            collects.iter().flat_map(|collect| [0, 1, needed / 2, needed].map(|length| (collect, length)))
+        {
+            let (mut found, mut stack) = (words.clone(), vec![7; length]);
+            let enough = u32::from(length >= needed);
+            assert_eq!(collect(&mut found, &mut stack), Ok((kept, enough)), "{length} words: {words:?}");
+            assert_eq!((found == collected, stack), (true, vec![0; length]));
+            seen[enough as usize] += 1;
+        }
+        // Refused, all stays.
+        let mut longer = [words.as_slice(), &[5]].concat();
+        let before = longer.clone();
+        for collect in collects {
+            let mut stack = [7; 3];
+            assert_eq!(collect(&mut longer, &mut stack), Err(SIZE));
+            assert_eq!((&longer, stack), (&before, [7; 3]));
+        }
+    }
+    assert!(seen.iter().all(|&count| count > 500), "{seen:?}");
+}
+
+#[test]
+fn every_pool_of_few_cells_that_the_checks_tell_apart() {
+    on_all(checks::CHECKED_POOLS);
+}
+
+#[test]
+fn the_worst_case_of_every_size_takes_just_the_stack_words_and_the_checks_that_are_stated() {
     on_all(checks::WORST_CASES);
 }
 

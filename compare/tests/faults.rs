@@ -43,10 +43,55 @@ enum Equal {
     Neither,
     /// They are gone to, marked or not. The stack is not enough where this does not end.
     MarkedToo,
-    /// The stack is not enough where it is full, also if the two unmarked links are equal.
+    /// A full stack is checked also where the two unmarked links are equal.
     FullFirst,
     /// Where they are marked the marking of a register ends, with entries held.
     MarkedLast,
+}
+
+/// What is wrong in how the entries of a full stack are checked, or the checks told.
+#[derive(Clone, Copy, Debug, PartialEq, Eq)]
+enum Mischeck {
+    /// The entries are checked from bottom to top.
+    BottomToTop,
+    /// A walk stops at two equal links: the entry is kept.
+    StopsAtEqual,
+    /// A kept entry stays the old cell.
+    KeepsOldCell,
+    /// The links of the cell reached are marked in advance.
+    MarksInAdvance,
+    /// They are, and it is gone on from them when the entry is popped, as source document 003 recovers.
+    RecoversLater,
+    /// The gaps are closed in reverse order.
+    GapsReversed,
+    /// A check in vain is not counted.
+    VainNotCounted,
+    /// The marks of checks are left when reversal takes over.
+    MarksLeft,
+    /// A full stack is not enough at once: the answer is that of a check in vain.
+    FallsBackAtOnce,
+    /// The check comes before the two links are marked.
+    BeforeMarks,
+    /// It comes before the left one is marked.
+    BeforeLeftMark,
+    /// An entry whose walk marks nothing is looked at twice.
+    LooksTwice,
+    /// The right link is pushed before the check, and checked with the entries.
+    PushedBefore,
+    /// The checks of the first register alone are counted.
+    FirstRegisterOnly,
+    /// A check over no entries is not counted.
+    NoEntriesNotCounted,
+    /// The entries that were dropped are counted, and a check in vain.
+    DroppedCounted,
+    /// The stack is enough only where there was no check.
+    EnoughUnchecked,
+    /// The stack is called enough also where a check was in vain.
+    EnoughInVain,
+    /// The stack is not enough where an entry is kept, also if another went.
+    OneKeptInVain,
+    /// One entry at most is dropped in a check, the first one that may be: those behind it are not looked at.
+    StopsAtGap,
 }
 
 /// What is wrong in how marking by reversal visits a cell, or tells its visits.
@@ -116,6 +161,8 @@ enum Fault {
     Reads(&'static str, Misread),
     /// The stack marker treats equal links so.
     Links(Equal),
+    /// It checks its entries so.
+    Checks(Mischeck),
     /// Cells are visited so.
     Visits(Misvisit),
     /// The worst case is built so.
@@ -153,6 +200,7 @@ enum Fault {
     StackTooShortEarly,
     StackEnoughAtOneLength,
     StackTooShortAtOneLength,
+    StackCheckMoreAtOneLength,
     StackLengthCut,
     StackNotCleared,
     StackLeavesFarWord,
@@ -234,6 +282,34 @@ const EQUAL_LINKS: [Fault; 5] = [
     Links(Equal::FullFirst),
 ];
 
+/// A stack marker that is wrong in its checks, which pools of few cells show.
+const FEW_CELLS: [Fault; 16] = [
+    Checks(Mischeck::BottomToTop),
+    Checks(Mischeck::StopsAtEqual),
+    Checks(Mischeck::KeepsOldCell),
+    Checks(Mischeck::MarksInAdvance),
+    Checks(Mischeck::RecoversLater),
+    Checks(Mischeck::VainNotCounted),
+    Checks(Mischeck::MarksLeft),
+    Checks(Mischeck::FallsBackAtOnce),
+    Checks(Mischeck::BeforeMarks),
+    Checks(Mischeck::BeforeLeftMark),
+    Checks(Mischeck::LooksTwice),
+    Checks(Mischeck::PushedBefore),
+    Checks(Mischeck::DroppedCounted),
+    Checks(Mischeck::EnoughUnchecked),
+    Checks(Mischeck::EnoughInVain),
+    Checks(Mischeck::OneKeptInVain),
+];
+
+/// One that more cells show, or several registers, or no stack word.
+const MORE_CELLS: [Fault; 4] = [
+    Checks(Mischeck::GapsReversed),
+    Checks(Mischeck::FirstRegisterOnly),
+    Checks(Mischeck::NoEntriesNotCounted),
+    Checks(Mischeck::StopsAtGap),
+];
+
 /// A marker by reversal that is wrong, which small pools show.
 const VISITS: [Fault; 7] = [
     Visits(Misvisit::PassLeftGoes),
@@ -276,7 +352,7 @@ const WORST_CASE: [Fault; 14] = [
 
 /// The faults that each comparison finds. Those of the first one show in the answers to a list of calls, without a look at
 /// the words, and no others do.
-const FOUND_BY: [(Comparison, &[Fault]); 27] = [
+const FOUND_BY: [(Comparison, &[Fault]); 33] = [
     (
         checks::REFERENCE,
         &[
@@ -336,7 +412,14 @@ const FOUND_BY: [(Comparison, &[Fault]); 27] = [
             RecursiveLimitOneMore,
         ],
     ),
-    (checks::STACK_LENGTHS, &[StackEnoughAtOneLength, StackTooShortAtOneLength]),
+    (checks::STACK_LENGTHS, &[StackEnoughAtOneLength, StackTooShortAtOneLength, StackCheckMoreAtOneLength]),
+    (checks::COLLECTIONS, &FEW_CELLS),
+    (checks::COLLECTIONS, &MORE_CELLS),
+    (checks::CHECKED_POOLS, &FEW_CELLS),
+    (checks::SMALL_POOLS, &[Checks(Mischeck::NoEntriesNotCounted), Checks(Mischeck::VainNotCounted)]),
+    // Leaves alone, which every check drops, and forks, which it keeps.
+    (checks::WORST_CASES, &[Checks(Mischeck::FallsBackAtOnce), Checks(Mischeck::DroppedCounted)]),
+    (checks::STACK_LENGTHS, &[Checks(Mischeck::EnoughInVain), Checks(Mischeck::FallsBackAtOnce)]),
     (checks::COLLECTIONS, &VISITS),
     (checks::SMALL_POOLS, &VISITS),
     (checks::COLLECTIONS, &EQUAL_LINKS),
@@ -568,10 +651,89 @@ fn misread(
     (answer, numbers[..count].concat().len())
 }
 
-/// Mark with a stack of so many words, with this fault or none. Answers whether they were enough.
-fn mark_with_stack(fault: Option<Equal>, words: &mut [u32], most: usize) -> bool {
-    let unmarked = |words: &[u32], link: u32| link != 0 && words[cell_at(link)] == USED;
-    let mut steps = 0;
+/// What a stack marker with a fault or none has done.
+#[derive(Default)]
+struct Stacked {
+    enough: bool,
+    checks: u32,
+    /// The cells that checks marked.
+    by_checks: Vec<u32>,
+    /// The entries whose links a check marked in advance.
+    advanced: Vec<u32>,
+}
+
+fn unmarked(words: &[u32], link: u32) -> bool {
+    link != 0 && words[cell_at(link)] == USED
+}
+
+/// Check the entries, with this fault or none. Answers whether one went.
+fn check(fault: Fault, words: &mut [u32], entries: &mut Vec<u32>, told: &mut Stacked) -> bool {
+    let is = |other: Mischeck| fault == Checks(other);
+    let mut order: Vec<usize> = (0..entries.len()).rev().collect();
+    if is(Mischeck::BottomToTop) {
+        order.reverse();
+    }
+    if is(Mischeck::LooksTwice) {
+        order.extend(order.clone());
+    }
+    let mut kept: Vec<Option<u32>> = entries.iter().copied().map(Some).collect();
+    for place in order {
+        let moved = kept[place] != Some(entries[place]);
+        let gap = is(Mischeck::StopsAtGap) && kept.contains(&None);
+        // Those that were dropped or moved on are not looked at again, also not where this is the fault.
+        let mut next = kept[place].filter(|_| !moved && !gap);
+        while let Some(node) = next {
+            let (left, right) = (words[cell_at(node) + 1], words[cell_at(node) + 2]);
+            kept[place] = Some(node);
+            next = match (unmarked(words, left), unmarked(words, right)) {
+                _ if told.advanced.contains(&node) => None,
+                (true, true) if left != right || is(Mischeck::StopsAtEqual) => {
+                    if is(Mischeck::MarksInAdvance) || is(Mischeck::RecoversLater) {
+                        words[cell_at(left)] = MARKED;
+                        words[cell_at(right)] = MARKED;
+                    }
+                    if is(Mischeck::RecoversLater) {
+                        told.advanced.push(node);
+                    }
+                    None
+                }
+                (false, false) => {
+                    kept[place] = None;
+                    None
+                }
+                (true, _) => Some(left),
+                (false, true) => Some(right),
+            };
+            if let Some(link) = next {
+                words[cell_at(link)] = MARKED;
+                told.by_checks.push(link);
+            }
+        }
+    }
+    let before = entries.len();
+    let old = std::mem::take(entries);
+    let oldest =
+        |(entry, kept): (u32, Option<u32>)| kept.map(|cell| if is(Mischeck::KeepsOldCell) { entry } else { cell });
+    entries.extend(old.into_iter().zip(kept).filter_map(oldest));
+    let dropped = before - entries.len();
+    if is(Mischeck::GapsReversed) && dropped > 0 {
+        entries.reverse();
+    }
+    let vain = dropped == 0;
+    told.checks += match vain {
+        true if is(Mischeck::VainNotCounted) || (is(Mischeck::NoEntriesNotCounted) && before == 0) => 0,
+        false if is(Mischeck::DroppedCounted) => dropped as u32,
+        _ => 1,
+    };
+    !vain && (dropped == before || !is(Mischeck::OneKeptInVain))
+}
+
+/// Mark with a stack of so many words, with this fault or none.
+fn mark_with_stack(fault: Fault, words: &mut [u32], most: usize) -> Stacked {
+    let is = |other: Mischeck| fault == Checks(other);
+    let equal_links = if let Links(fault) = fault { Some(fault) } else { None };
+    let mut told = Stacked::default();
+    let (mut steps, mut first_checks) = (0, None);
     for register in 2..HEADER {
         let mut node = words[register];
         if !unmarked(words, node) {
@@ -583,12 +745,16 @@ fn mark_with_stack(fault: Option<Equal>, words: &mut [u32], most: usize) -> bool
             let (left, right) = (words[cell_at(node) + 1], words[cell_at(node) + 2]);
             let (go_left, go_right) = (unmarked(words, left), unmarked(words, right));
             let equal = left == right && left != 0;
-            let full_first = fault == Some(Equal::FullFirst) && go_left && go_right && entries.len() == most;
+            let full = go_left && go_right && entries.len() == most;
             steps += 1;
-            if full_first || steps > words.len() {
-                return false;
+            if steps > words.len() {
+                return told;
             }
-            let (go_left, go_right) = match fault {
+            if equal && full && equal_links == Some(Equal::FullFirst) && !check(fault, words, &mut entries, &mut told) {
+                return told;
+            }
+            let (go_left, go_right) = match equal_links {
+                _ if told.advanced.contains(&node) => (true, true),
                 _ if !equal => (go_left, go_right),
                 Some(Equal::Two | Equal::TwoInAnswer) => (go_left, go_right),
                 Some(Equal::Neither) => (false, false),
@@ -596,16 +762,34 @@ fn mark_with_stack(fault: Option<Equal>, words: &mut [u32], most: usize) -> bool
                 _ => (go_left, false),
             };
             if go_left && go_right {
-                if entries.len() == most {
-                    return false;
+                if !is(Mischeck::BeforeMarks) {
+                    words[cell_at(right)] = MARKED;
                 }
+                if !is(Mischeck::BeforeMarks) && !is(Mischeck::BeforeLeftMark) {
+                    words[cell_at(left)] = MARKED;
+                }
+                let full = entries.len() == most;
+                if full && is(Mischeck::FallsBackAtOnce) {
+                    told.checks += 1;
+                    return told;
+                }
+                if full && is(Mischeck::PushedBefore) {
+                    entries.push(right);
+                }
+                if full && !check(fault, words, &mut entries, &mut told) {
+                    told.enough = is(Mischeck::EnoughInVain);
+                    return told;
+                }
+                words[cell_at(left)] = MARKED;
                 words[cell_at(right)] = MARKED;
-                entries.push(right);
+                if !(full && is(Mischeck::PushedBefore)) {
+                    entries.push(right);
+                }
             }
             if go_left || go_right {
                 node = if go_left { left } else { right };
                 words[cell_at(node)] = MARKED;
-            } else if fault == Some(Equal::MarkedLast) && equal {
+            } else if equal_links == Some(Equal::MarkedLast) && equal {
                 break;
             } else if let Some(entry) = entries.pop() {
                 node = entry;
@@ -613,8 +797,13 @@ fn mark_with_stack(fault: Option<Equal>, words: &mut [u32], most: usize) -> bool
                 break;
             }
         }
+        first_checks = first_checks.or(Some(told.checks));
     }
-    true
+    told.enough = !(is(Mischeck::EnoughUnchecked) && told.checks > 0);
+    if let (true, Some(checks)) = (is(Mischeck::FirstRegisterOnly), first_checks) {
+        told.checks = checks;
+    }
+    told
 }
 
 /// Mark by reversal, with this fault or none, and tell the visits. The marking is given up where it does not end.
@@ -877,29 +1066,35 @@ impl Interface for Faulty {
         answer
     }
 
-    fn collect_stack(&self, words: &mut [u32], stack: &mut [u32]) -> Result<(u32, u32), u32> {
+    fn collect_stack(&self, words: &mut [u32], stack: &mut [u32]) -> Result<(u32, u32, u32), u32> {
         self.refuses("stack", words)?;
         let lent = stack.to_vec();
         let shorter = usize::from(self.0 == StackTooShortEarly);
         let length = self.cut(StackLengthCut, lent.len()).saturating_sub(shorter);
-        let mut marked = words.to_vec();
-        let (kept, enough) = PlainRust.collect_stack(words, &mut stack[..length])?;
+        let before = words.to_vec();
+        let (kept, enough, checks) = PlainRust.collect_stack(words, &mut stack[..length])?;
         stack.fill(0);
-        if let Correct | Links(_) = self.0 {
-            let fault = match self.0 {
-                Links(fault) => Some(fault),
-                _ => None,
-            };
-            let enough = mark_with_stack(fault, &mut marked, length);
-            if !enough || fault == Some(Equal::TwoInAnswer) {
-                return Ok((kept, u32::from(enough)));
-            }
-            words.copy_from_slice(&marked);
-            return Ok((sweep(words, cells(words)), 1));
-        }
         match self.0 {
-            StackEnoughAtOneLength if length == 1_000 => return Ok((kept, 1)),
-            StackTooShortAtOneLength if length == 1_234 => return Ok((kept, 0)),
+            Correct | Links(_) | Checks(_) => {
+                let mut marked = before.clone();
+                let told = mark_with_stack(self.0, &mut marked, length);
+                let answer = |kept: u32| Ok((kept, u32::from(told.enough), told.checks));
+                if self.0 == Links(Equal::TwoInAnswer) {
+                    return answer(kept);
+                }
+                if !told.enough || self.0 == Checks(Mischeck::EnoughInVain) {
+                    marked.copy_from_slice(&before);
+                    if self.0 == Checks(Mischeck::MarksLeft) {
+                        told.by_checks.iter().for_each(|&cell| marked[cell_at(cell)] = MARKED);
+                    }
+                    mark_by_reversal(None, &mut marked);
+                }
+                words.copy_from_slice(&marked);
+                return answer(sweep(words, cells(words)));
+            }
+            StackEnoughAtOneLength if length == 1_000 => return Ok((kept, 1, checks)),
+            StackTooShortAtOneLength if length == 1_234 => return Ok((kept, 0, checks)),
+            StackCheckMoreAtOneLength if length == 777 => return Ok((kept, enough, checks + 1)),
             StackNotCleared if length > 2 => stack[length - 1] = 1,
             StackLeavesFarWord if length > 6_000 => stack[6_000] = lent[6_000],
             StackFallbackSwapsLinks if enough == 0 => {
@@ -908,7 +1103,7 @@ impl Interface for Faulty {
             }
             _ => {}
         }
-        Ok((kept, enough))
+        Ok((kept, enough, checks))
     }
 
     fn worst_case(&self, words: &mut [u32]) -> Result<u32, u32> {
@@ -1049,8 +1244,8 @@ impl Interface for Faulty {
 #[test]
 fn no_difference_is_found_without_a_fault() {
     for (comparison, _) in FOUND_BY {
-        // Those without rounds try every size, with plain Rust too.
-        if comparison.rounds > 0 {
+        // Those without rounds try every size, with plain Rust too; but for the pools of few cells, where the marker is its own.
+        if comparison.rounds > 0 || comparison.stream == checks::CHECKED_POOLS.stream {
             let fewer = Comparison { rounds: comparison.rounds / 10, ..comparison };
             assert_eq!(fewer.on(&Faulty(Correct)), Ok(()));
         }
@@ -1125,14 +1320,52 @@ mod in_c {
     const RUN_OF_MARKED: &str =
         "if (REGISTER(i) != 0) ++*runs;\nif (!unmarked(words, REGISTER(i))) continue;\nuint32_t p = REGISTER(i), q = ROOT;";
 
+    /// The stack marker where it looks at the links of the cell in hand, where it marks one before a check, where it makes the check,
+    /// and where it pushes; a check's two passes, and a walk where it ends at two different links; where marks are cleared. Each with
+    /// what stands there where it is wrong.
+    const IN_HAND: &str = "if (unmarked(words, left)) {\n                /* Two";
+    const MARK: &str = "cell(words, left)[STATE] = MARKED; /* a check finds both links marked */";
+    const MARK_TO_PUSH: &str = "cell(words, left)[STATE] = MARKED; /* a check finds both links marked */\n                        \
+                                ++*checks;\n                        height = check(words, stack, height);\n                        \
+                                if (height == stack_len) return 0;\n                    }\n                    \
+                                stack[height++] = right;";
+    const NEITHER_MARKED: &str =
+        "cell(words, right)[STATE] = USED;\n++*checks;\nheight = check(words, stack, height);\n\
+                                  if (height == stack_len) return 0;\n}\ncell(words, right)[STATE] = MARKED;\n\
+                                  stack[height++] = right;";
+    const LEFT_MARKED: &str = "cell(words, left)[STATE] = MARKED;\ncell(words, right)[STATE] = USED;\n++*checks;\n\
+                               height = check(words, stack, height);\nif (height == stack_len) return 0;\n}\n\
+                               cell(words, right)[STATE] = MARKED;\nstack[height++] = right;";
+    const CHECK: &str =
+        "++*checks;\n                        height = check(words, stack, height);\n                        \
+                         if (height == stack_len) return 0;";
+    const CHECK_UNCOUNTED: &str =
+        "height = check(words, stack, height);\nif (height == stack_len) return 0;\n++*checks;";
+    const PUSH: &str = "height = check(words, stack, height);\n                        \
+                        if (height == stack_len) return 0;\n                    }\n                    stack[height++] = right;";
+    const PUSHED_BEFORE: &str = "right = walk(words, right);\nheight = check(words, stack, height);\n\
+                                 if (height == stack_len && right != 0) return 0;\n}\nif (right != 0) stack[height++] = right;";
+    const WALKS: &str = "for (size_t i = height; i-- > 0;) stack[i] = walk(words, stack[i]);";
+    const WALKS_UP: &str = "for (size_t i = 0; i < height; i++) stack[i] = walk(words, stack[i]);";
+    const WALKS_TWICE: &str = "for (size_t i = height; i-- > 0;) stack[i] = walk(words, stack[i]);\n\
+                               for (size_t i = height; i-- > 0;)\nif (stack[i] != 0) stack[i] = walk(words, stack[i]);";
+    const FORK: &str = "if (left != right && unmarked(words, right)) return node;";
+    const FORK_MARKED: &str = "if (left != right && unmarked(words, right))\n\
+                               return cell(words, left)[STATE] = cell(words, right)[STATE] = MARKED, node;";
+    const GAPS: &str = "if (stack[i] != 0) stack[kept++] = stack[i];";
+    const GAPS_REVERSED: &str = "if (stack[i] != 0) stack[kept++] = stack[i];\n\
+                                 for (size_t i = 0; kept < height && 2 * i + 1 < kept; i++) {\nuint32_t other = stack[i];\n\
+                                 stack[i] = stack[kept - 1 - i];\nstack[kept - 1 - i] = other;\n}";
+    const CLEARED_MARK: &str = "if (cell(words, i)[STATE] == MARKED) cell(words, i)[STATE] = USED;";
+
     /// What finds the fault, the text, and what stands in its place.
-    const CHANGES: [(&str, &str, &str); 84] = [
+    const CHANGES: [(&str, &str, &str); 111] = [
         // Lengths cut to 32 or 16 bits.
         ("lengths", "cells_of(size_t len)", "cells_of(uint32_t len)"),
         ("lengths", "size_of(const uint32_t *words, size_t len)", "size_of(const uint32_t *words, uint32_t len)"),
         ("lengths", "size_t n = (len - HEADER) / CELL;", "uint16_t n = (uint16_t)((len - HEADER) / CELL);"),
         ("lengths", "memset(stack, 0, stack_len *", "memset(stack, 0, (uint32_t)stack_len *"),
-        ("lengths", "height == stack_len", "height == (uint32_t)stack_len"),
+        ("lengths", "mark_with_stack(uint32_t *words, uint32_t *stack, size_t", "mark_with_stack(uint32_t *words, uint32_t *stack, uint32_t"),
         ("lengths", "scratch_len < 2 *", "(uint32_t)scratch_len < 2 *"),
         ("lengths", "memset(scratch, 0, scratch_len *", "memset(scratch, 0, (uint32_t)scratch_len *"),
         ("lengths", "size <= out_len", "size <= (uint32_t)out_len"),
@@ -1151,6 +1384,8 @@ mod in_c {
         // Of two equal links one pushed, or written where it would be.
         ("lengths", "right != left && unmarked", "unmarked"),
         ("lengths", "if (right != left && unmarked", "stack[height] = right;\nif (right != left && unmarked"),
+        // A check that looks at the word behind the stack.
+        ("lengths", "size_t kept = 0;", "size_t kept = 0 * *(volatile uint32_t *)(stack + height);"),
         // Results of refused calls touched.
         ("results", "uint32_t *cells) {", "uint32_t *cells) {\n*cells += 0;"),
         ("results", "uint32_t v, uint32_t *visits) {", "uint32_t v, uint32_t *visits) {\n*visits += 0;"),
@@ -1162,7 +1397,8 @@ mod in_c {
             "(collect)(uint32_t *words, size_t len, uint32_t *kept, uint32_t *visits) {\n*visits += 0;",
         ),
         ("results", "uint32_t answer = NAME(collect)", "*total_visits += 0;\nuint32_t answer = NAME(collect)"),
-        ("results", "uint32_t *enough) {", "uint32_t *enough) {\n*enough += 0;"),
+        ("results", "uint32_t n = size_of(words, len), count = 0;", "*enough += 0;\nuint32_t n = size_of(words, len), count = 0;"),
+        ("results", "uint32_t n = size_of(words, len), count = 0;", "*checks += 0;\nuint32_t n = size_of(words, len), count = 0;"),
         ("results", "uint32_t *entries) {", "uint32_t *entries) {\n*entries += 0;"),
         ("results", "if (n > CELLPOOL_MOST_RECURSIVE)", "*kept = 0;\nif (n > CELLPOOL_MOST_RECURSIVE)"),
         ("results", "if (size <= out_len) {", "*bytes = size;\nif (size <= out_len) {"),
@@ -1174,7 +1410,7 @@ mod in_c {
         ("fuzz", "memset(scratch, 0, 2 * (size_t)n *", "memset(scratch, 0, (2 * (size_t)n + 1) *"),
         ("fuzz", "*same = REGISTER(a)", "*(uint64_t *)same = REGISTER(a)"),
         ("fuzz", "words[1] = next;", "words[1] = n == 37 ? 0 : next;"),
-        ("fuzz", "(height == stack_len) return 0;", "(height == stack_len) return stack_len == 5;"),
+        ("fuzz", "(height == stack_len) return 0;", "(height == stack_len) return stack_len == 3;"),
         ("fuzz", "byte > 0x0F", "byte > 0x1F"),
         ("fuzz", "link > k ?", "link > k + 1 ?"),
         // Visits: left cells not gone to; right ones; links exchanged on the way back; a visit not counted.
@@ -1185,15 +1421,11 @@ mod in_c {
         // Two equal links: one pushed; not marked; gone to where they are marked, three times in a row at most; looked at after the
         // stack is found full; the end where they are marked.
         ("fuzz", "right != left && unmarked", "unmarked"),
+        ("fuzz", IN_HAND, "if (left == right) left = right = 0;\nif (unmarked(words, left)) {\n/* Two"),
         (
             "fuzz",
-            "right = cell(words, node)[RIGHT];",
-            "right = cell(words, node)[RIGHT];\nif (left == right) left = right = 0;",
-        ),
-        (
-            "fuzz",
-            "if (unmarked(words, left)) {",
-            "static int again;\nif (unmarked(words, left) || (left == right && left != 0 && ++again % 4 != 0)) {",
+            IN_HAND,
+            "static int again;\nif (unmarked(words, left) || (left == right && left != 0 && ++again % 4 != 0)) {\n/* Two",
         ),
         (
             "fuzz",
@@ -1201,6 +1433,30 @@ mod in_c {
             "if (height == stack_len && unmarked(words, right)) return 0;\nif (right != left && unmarked",
         ),
         ("fuzz", "} else if (height > 0) {", "} else if (height > 0 && (left != right || left == 0)) {"),
+        // Checks: from bottom to top; a walk that stops at two equal links; a kept entry that stays the old cell; the links of the cell
+        // reached marked in advance; gaps closed in reverse order; the check in vain not counted; marks left when reversal takes over;
+        // falling back at once; the check before the links are marked, both, the left one or the right one; entries looked at twice;
+        // the right link pushed before the check; checks of the first register only.
+        ("fuzz", WALKS, WALKS_UP),
+        ("fuzz", FORK, "if (unmarked(words, right)) return node;"),
+        ("fuzz", "stack[i] = walk(words, stack[i]);", "if (walk(words, stack[i]) == 0) stack[i] = 0;"),
+        ("fuzz", FORK, FORK_MARKED),
+        ("fuzz", GAPS, GAPS_REVERSED),
+        ("fuzz", CHECK, CHECK_UNCOUNTED),
+        ("fuzz", CLEARED_MARK, "(void)i;"),
+        ("fuzz", "if (!checked) return 0;", "if (++*checks || !checked) return 0;"),
+        ("fuzz", MARK_TO_PUSH, NEITHER_MARKED),
+        ("fuzz", MARK, ""),
+        ("fuzz", MARK_TO_PUSH, LEFT_MARKED),
+        ("fuzz", WALKS, WALKS_TWICE),
+        ("fuzz", PUSH, PUSHED_BEFORE),
+        ("fuzz", "++*checks;", "*checks += i == 0;"),
+        // Entries counted for checks; a check in vain where one entry is kept; a check that ends at the first gap; the lowest entry
+        // not looked at.
+        ("fuzz", "++*checks;\n", "*checks += (uint32_t)height;\n"),
+        ("fuzz", CHECK, "++*checks;\nheight = check(words, stack, height);\nif (height > 0 || stack_len == 0) return 0;"),
+        ("fuzz", WALKS, "for (size_t i = height; i-- > 0;)\nif ((stack[i] = walk(words, stack[i])) == 0) break;"),
+        ("fuzz", WALKS, "for (size_t i = height; i-- > 1;) stack[i] = walk(words, stack[i]);"),
         // The worst case: a last cell that is not reached, or free; links exchanged, or past N; word 0, the head, a register or a
         // value left; N / 2 answered; word 0 asked for; a word changed where it is refused.
         ("fuzz", "i < n; i += 2", "i + 1 < n; i += 2"),
@@ -1234,6 +1490,13 @@ mod in_c {
         ("fuzz both", "place > 0 && byte == 0 ?", "place > 0 && place < 4 && byte == 0 ?"),
         ("fuzz both", "place > 0 && byte == 0 ?", "byte == 0 ?"),
         ("fuzz both", "right != left && unmarked", "unmarked"),
+        ("fuzz both", "stack[i] = walk(words, stack[i]);", "if (walk(words, stack[i]) == 0) stack[i] = 0;"),
+        ("fuzz both", FORK, FORK_MARKED),
+        ("fuzz both", CHECK, CHECK_UNCOUNTED),
+        ("fuzz both", CLEARED_MARK, "(void)i;"),
+        ("fuzz both", "if (!checked) return 0;", "if (++*checks || !checked) return 0;"),
+        ("fuzz both", "++*checks;", "*checks += i == 0;"),
+        ("fuzz both", GAPS, "if (stack[i] != 0 || i == 0) stack[kept++] = stack[i];"),
         ("fuzz both", "i < n; i += 2", "i + 1 < n; i += 2"),
         ("fuzz both", "*entries = (n - 1) / 2;", "*entries = (n - 1) / 2;\ncell(words, n)[STATE] = FREE;"),
         ("fuzz both", LINKS, LINKS_EXCHANGED),
@@ -1258,26 +1521,35 @@ mod in_c {
         let lent = object("lent/lent", &[]);
         let fuzz = object("fuzz/fuzz", &["-DSTANDALONE"]);
         let text = std::fs::read_to_string(file("baseline/baseline.c")).expect("the plain C version is there");
-        for (place, (program, old, new)) in CHANGES.into_iter().enumerate() {
+        let found = |place: usize| {
+            let (program, old, new) = CHANGES[place];
             assert_eq!(text.matches(old).count(), 1, "{old}");
-            let source = made("changed.c");
+            // Two are tried at a time.
+            let name = format!("changed_{}", place % 2);
+            let source = made(&format!("{name}.c"));
             std::fs::write(&source, text.replace(old, new)).expect("the source is written");
             let random_inputs = vec!["200000".into(), seed().to_string()];
             let (objects, arguments) = match program {
                 "fuzz" => (vec![source, plain.clone(), fuzz.clone()], random_inputs),
                 "fuzz both" => {
                     // Compiled in a moment, where a fault shows at once: no need for speed.
-                    let both = compile("changed.o", &cc(), &["-std=c99", "-O0", "-c"], std::slice::from_ref(&source));
+                    let object = format!("{name}.o");
+                    let both = compile(&object, &cc(), &["-std=c99", "-O0", "-c"], std::slice::from_ref(&source));
                     (vec![source, both, fuzz.clone()], random_inputs)
                 }
                 _ => (vec![source, lent.clone()], vec![program.to_string()]),
             };
-            let changed = compile("changed", &cc(), &["-std=c99", "-O0", "-DBASELINE_AS_CELLPOOL"], &objects);
+            let changed = compile(&name, &cc(), &["-std=c99", "-O0", "-DBASELINE_AS_CELLPOOL"], &objects);
             let arguments: Vec<&str> = arguments.iter().map(String::as_str).collect();
             let status = output(&changed, &arguments).status;
             // The fuzz target stops by a signal, the other program counts.
             let found = if program.starts_with("fuzz") { status.code().is_none() } else { status.code() == Some(1) };
             assert!(found, "change {place} is not found by {program}: {new}");
-        }
+        };
+        std::thread::scope(|scope| {
+            for first in 0..2 {
+                scope.spawn(move || (first..CHANGES.len()).step_by(2).for_each(found));
+            }
+        });
     }
 }

@@ -205,20 +205,51 @@ const SURVEY: &str = r#"digraph pool {
 }
 "#;
 
-/// What examples/stack.c has to write: for n cells (n - 1) / 2 words, rounded down, and 3 * n visits.
+/// What examples/stack.c has to write: for n cells (n - 1) / 2 words, rounded down, and 3 * n visits. Ten words are full after ten
+/// pushes, after twenty and so on up to 1,990, each time with one more to come.
 const LARGEST: &str = "4000 cells, words of stack at most: 1999\n\
-    with a stack of 1999: enough\n\
-    with a stack of 1998: too short, link reversal did the work\n\
+    with a stack of 1999: enough, checks: 0\n\
+    with a stack of 10: enough, checks: 199\n\
     by link reversal: 12000 visits\n";
 
-const FEWER: [(u32, &str); 2] = [
-    (2, "2 cells, words of stack at most: 0\nwith a stack of 0: enough\nby link reversal: 6 visits\n"),
+/// The same of boards with other numbers: two cells need no stack word, three need one, 23 push eleven times, and 24 as often.
+const OTHERS: [(&[&str], &str); 5] = [
     (
-        3,
+        &["-DCELLS=2"],
+        "2 cells, words of stack at most: 0\n\
+         with a stack of 0: enough, checks: 0\n\
+         with a stack of 10: enough, checks: 0\n\
+         by link reversal: 6 visits\n",
+    ),
+    (
+        &["-DCELLS=3", "-DLENT=0"],
         "3 cells, words of stack at most: 1\n\
-         with a stack of 1: enough\n\
-         with a stack of 0: too short, link reversal did the work\n\
+         with a stack of 1: enough, checks: 0\n\
+         with a stack of 0: too short, link reversal did the work, checks: 1\n\
          by link reversal: 9 visits\n",
+    ),
+    (
+        &["-DCELLS=23"],
+        "23 cells, words of stack at most: 11\n\
+         with a stack of 11: enough, checks: 0\n\
+         with a stack of 10: enough, checks: 1\n\
+         by link reversal: 69 visits\n",
+    ),
+    // Five words: a check for the sixth push, and one for the eleventh.
+    (
+        &["-DCELLS=24", "-DLENT=5"],
+        "24 cells, words of stack at most: 11\n\
+         with a stack of 11: enough, checks: 0\n\
+         with a stack of 5: enough, checks: 2\n\
+         by link reversal: 72 visits\n",
+    ),
+    // One word: a check for each push but the first.
+    (
+        &["-DCELLS=24", "-DLENT=1"],
+        "24 cells, words of stack at most: 11\n\
+         with a stack of 11: enough, checks: 0\n\
+         with a stack of 1: enough, checks: 10\n\
+         by link reversal: 72 visits\n",
     ),
 ];
 
@@ -290,9 +321,8 @@ fn installed_into_an_empty_folder_the_examples_build_and_run() {
         }
     }
     assert!(built >= 2, "no compiler");
-    // The same of boards with fewer cells: two of them need no stack word, three need one.
-    for (cells, told) in FEWER {
-        let flags = [flags.clone(), vec![format!("-DCELLS={cells}")]].concat();
+    for (numbers, told) in OTHERS {
+        let flags = [flags.clone(), numbers.iter().map(|number| number.to_string()).collect()].concat();
         let compiler = &compilers()[0];
         let output = fed(&build(&folder, &["stack.c"], compiler, compiler.2[0], &flags), b"");
         assert_eq!((text(&output.stdout).as_str(), output.status.code()), (told, Some(0)));

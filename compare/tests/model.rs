@@ -3,7 +3,7 @@
 use cellpool_compare::cause::{Cause, Link, Name, Place};
 use cellpool_compare::checks::{self, Comparison};
 use cellpool_compare::generate::{self, Shape};
-use cellpool_compare::model::{groups, parse, Cell, Model, Pool};
+use cellpool_compare::model::{groups, parse, Cell, Limited, Model, Pool};
 use cellpool_compare::random::{rounds, seed, Random};
 use cellpool_compare::{Interface, Tally, USED};
 use std::cell::RefCell;
@@ -30,9 +30,36 @@ fn three_markers_of_the_model_agree() {
         pool.mark_with_stack(|hand| in_hand.push(hand.cell));
         in_hand.sort_unstable();
         assert!(in_hand.iter().eq(&reached), "each cell that is reached is in hand once");
+        with_every_limit(&pool, &reached);
         // A push marks two cells, and the first cell was marked before.
         assert!(pool.stack_needed() <= reached.len().saturating_sub(1) / 2);
         assert!(pool.stack_needed() <= told_apart(&pool).stack_needed(), "a stack that was enough still is");
+    }
+}
+
+/// The stack marker with several lengths: it marks what is reached or gives up, and makes no check exactly if it has as
+/// many words as entries without a limit. A push marks two cells, and each check belongs to one.
+fn with_every_limit(pool: &Pool, reached: &BTreeSet<u32>) {
+    let (needed, most) = (pool.stack_needed(), reached.len().saturating_sub(1) / 2);
+    for words in [0, 1, 2, 3, 5, 10, needed.saturating_sub(1), needed, most] {
+        let mut dropped = 0;
+        let mut vain = 0;
+        let limited = pool.mark_with_words(
+            words,
+            |_, _| (),
+            |check| {
+                assert_eq!(check.walks.len(), words, "a check looks at every entry");
+                dropped += check.walks.iter().filter(|walk| walk.kept.is_none()).count();
+                vain += u32::from(check.walks.iter().all(|walk| walk.kept.is_some()));
+            },
+        );
+        let marked = limited.marked();
+        assert_eq!((limited.enough, vain), if limited.enough { (true, 0) } else { (false, 1) });
+        assert!(if limited.enough { marked == *reached } else { marked.is_subset(reached) }, "{words} words: {pool:?}");
+        assert_eq!(limited.checks == 0, words >= needed, "{words} words: {pool:?}");
+        assert!(limited.checks as usize <= most && dropped + vain as usize >= limited.checks as usize);
+        assert_eq!(limited.checks - vain == 0, dropped == 0);
+        assert!(words > 0 || limited.checks == u32::from(!limited.enough));
     }
 }
 
@@ -313,8 +340,81 @@ impl Counting {
     }
 }
 
-/// The links that the stack marker meets, up to where so many words are too few, and whether they are enough only since two
-/// equal unmarked links are one.
+/// What may become of entries in checks, and what these may come to. The first three need several registers, or no word: the pools of
+/// few cells do not meet them.
+const CHECKS: [&str; 17] = [
+    "a check over no entries",
+    "checks from several registers",
+    "the last register's check in vain",
+    "an entry dropped at once",
+    "an entry dropped after a walk",
+    "an entry kept as it is",
+    "an entry kept as the cell reached",
+    "a walk over equal links",
+    "an entry dropped for what the check marked before",
+    "an entry that walks for what the check marked before",
+    "a check in vain",
+    "a check that drops one of several entries",
+    "a check that drops some entries",
+    "a check that drops every entry",
+    "a gap beside two kept entries",
+    "several checks, enough",
+    "a check in vain after others",
+];
+
+/// What becomes of entries in the checks of the stack marker with so many words, and what the checks come to.
+fn checked(pool: &Pool, words: usize) -> BTreeSet<&'static str> {
+    let mut met = BTreeSet::new();
+    let mut registers = BTreeSet::new();
+    let Limited { enough, checks, .. } = pool.mark_with_words(
+        words,
+        |_, _| (),
+        |check| {
+            registers.insert(check.register);
+            for walk in &check.walks {
+                met.insert(match (walk.cells, walk.kept) {
+                    (0, None) => "an entry dropped at once",
+                    (_, None) => "an entry dropped after a walk",
+                    (0, Some(_)) => "an entry kept as it is",
+                    (_, Some(_)) => "an entry kept as the cell reached",
+                });
+                if walk.over_equal {
+                    met.insert("a walk over equal links");
+                }
+                // Two different links were unmarked when the check began, so what is marked now was marked in it.
+                if walk.open == 2 && walk.kept.is_none() {
+                    met.insert("an entry dropped for what the check marked before");
+                } else if walk.open == 2 && walk.cells > 0 {
+                    met.insert("an entry that walks for what the check marked before");
+                }
+            }
+            let gone: Vec<bool> = check.walks.iter().map(|walk| walk.kept.is_none()).collect();
+            met.insert(match gone.iter().filter(|&&gone| gone).count() {
+                _ if gone.is_empty() => "a check over no entries",
+                0 => "a check in vain",
+                1 if gone.len() > 1 => "a check that drops one of several entries",
+                count if count == gone.len() => "a check that drops every entry",
+                _ => "a check that drops some entries",
+            });
+            // Those that are kept have to stay in order.
+            if gone.contains(&true) && gone.iter().filter(|&&gone| !gone).count() > 1 {
+                met.insert("a gap beside two kept entries");
+            }
+        },
+    );
+    match (checks, enough) {
+        (0 | 1, _) => {}
+        (2.., true) => _ = met.insert("several checks, enough"),
+        (2.., false) => _ = met.insert("a check in vain after others"),
+    }
+    if registers.len() > 1 {
+        met.insert(if enough { "checks from several registers" } else { "the last register's check in vain" });
+    }
+    met
+}
+
+/// The links that the stack marker meets without a limit, up to where it holds more entries than so many words, and whether they
+/// make no check only since two equal unmarked links are one.
 fn met(pool: &Pool, words: usize) -> BTreeSet<&'static str> {
     let mut met = BTreeSet::new();
     let mut too_few = false;
@@ -346,7 +446,7 @@ fn met(pool: &Pool, words: usize) -> BTreeSet<&'static str> {
         });
     });
     if !too_few && told_apart(pool).stack_needed() > words {
-        met.insert("enough since equal links are one");
+        met.insert("no check since equal links are one");
     }
     met
 }
@@ -412,15 +512,19 @@ impl Interface for Counting {
         };
         self.count("tally", answer, kind)
     }
-    fn collect_stack(&self, words: &mut [u32], stack: &mut [u32]) -> Result<(u32, u32), u32> {
+    fn collect_stack(&self, words: &mut [u32], stack: &mut [u32]) -> Result<(u32, u32, u32), u32> {
         if let Some(pool) = Pool::decode(words).ok().filter(Pool::well_formed) {
             for kind in met(&pool, stack.len()) {
                 *self.0.borrow_mut().entry(("stack marker", Ok(kind))).or_default() += 1;
             }
+            for kind in checked(&pool, stack.len()) {
+                *self.0.borrow_mut().entry(("stack check", Ok(kind))).or_default() += 1;
+            }
         }
         let answer = Model.collect_stack(words, stack);
-        let kind = |&(kept, enough): &(u32, u32)| match enough {
-            0 => "too short",
+        let kind = |&(kept, enough, checks): &(u32, u32, u32)| match (enough, checks) {
+            (0, _) => "too short",
+            (_, 1..) => "enough with checks",
             _ if kept > 5 && !stack.is_empty() => "enough for many cells",
             _ => "done",
         };
@@ -505,7 +609,7 @@ fn answers() -> Vec<(&'static str, Vec<&'static str>, Vec<Cause>)> {
         ),
         ("collect", vec!["done"], collect()),
         ("tally", vec!["done", "collections stop", "visits stop", "both stop"], collect()),
-        ("stack", vec!["done", "enough for many cells", "too short"], collect()),
+        ("stack", vec!["done", "enough for many cells", "enough with checks", "too short"], collect()),
         (
             "stack marker",
             vec![
@@ -519,10 +623,11 @@ fn answers() -> Vec<(&'static str, Vec<&'static str>, Vec<Cause>)> {
                 "entries held, equal links to one of them",
                 "entries held, equal links to a cell of an earlier register",
                 "entries held, equal links to another marked cell",
-                "enough since equal links are one",
+                "no check since equal links are one",
             ],
             vec![],
         ),
+        ("stack check", CHECKS.to_vec(), vec![]),
         ("worst case", vec!["done", "word 0 was another number"], length()),
         ("recursive", vec!["done"], [collect(), vec![TooLarge]].concat()),
         ("save", vec!["done"], [collect(), vec![Scratch, Output]].concat()),
@@ -553,4 +658,16 @@ fn the_random_inputs_reach_every_answer_and_every_cause_of_every_function() {
     }
     assert_eq!(seldom, BTreeMap::new(), "answers that are reached too seldom, and how often");
     assert_eq!(counts, BTreeMap::new(), "answers that are not to come");
+}
+
+#[test]
+fn the_pools_of_few_cells_reach_every_kind_of_check() {
+    let counting = Counting::default();
+    checks::CHECKED_POOLS.on(&counting).unwrap();
+    let counts = counting.0.into_inner();
+    for kind in &CHECKS[3..] {
+        let count = counts.get(&("stack check", Ok(kind))).copied().unwrap_or(0);
+        assert!(count >= 5, "{kind}: {count}");
+    }
+    assert!(counts.iter().filter(|(reached, _)| reached.0 == "stack").map(|(_, count)| count).sum::<usize>() > 100_000);
 }

@@ -111,16 +111,24 @@ impl Generator {
     }
 }
 
-/// The answers of the model to every marker: reversal, recursive, and with stacks of no words, one word and n words.
-fn answers(words: &[u32], n: usize) -> [Result<(u32, u32), u32>; 5] {
+/// The answers of the model to every marker: reversal, recursive, and with stacks of no words, one word and n words. The third number
+/// is that of the checks, which the first two do not make.
+fn answers(words: &[u32], n: usize) -> [Result<(u32, u32, u32), u32>; 5] {
+    let without = |answer: Result<(u32, u32), u32>| answer.map(|(kept, visits)| (kept, visits, 0));
     let stack = |len: usize| Model.collect_stack(&mut words.to_vec(), &mut vec![7; len]);
-    [Model.collect(&mut words.to_vec()), Model.collect_recursive(&mut words.to_vec()), stack(0), stack(1), stack(n)]
+    [
+        without(Model.collect(&mut words.to_vec())),
+        without(Model.collect_recursive(&mut words.to_vec())),
+        stack(0),
+        stack(1),
+        stack(n),
+    ]
 }
 
 #[test]
 fn the_program_prints_the_totals_of_the_model() {
     let (mut pools, mut cells, mut kept_cells) = (0, 0, 0);
-    let mut sums = [0; 5];
+    let (mut sums, mut checks) = ([0; 5], [0; 5]);
     for seed in 0..SEEDS {
         let generator = Generator::new(seed);
         let n = generator.n as usize;
@@ -132,7 +140,10 @@ fn the_program_prints_the_totals_of_the_model() {
         kept_cells += pool.reached().len() as u32;
         for (marker, answer) in answers(&words, n).into_iter().enumerate() {
             match answer {
-                Ok((_, more)) => sums[marker] += more,
+                Ok((_, more, made)) => {
+                    sums[marker] += more;
+                    checks[marker] += made;
+                }
                 Err(refusal) => assert!(marker == 1 && n > MOST_RECURSIVE && refusal == TOO_LARGE, "seed {seed}"),
             }
         }
@@ -148,6 +159,9 @@ fn the_program_prints_the_totals_of_the_model() {
     for (marker, (name, sum)) in names.iter().zip(sums).enumerate() {
         let more = if marker < 2 { "visits" } else { "enough" };
         writeln!(text, "{name}: agreed {}, differed 0, {more} {sum}", 2 * pools).expect("a string takes it");
+    }
+    for (name, made) in ["no words", "one word", "N words"].iter().zip(&checks[2..]) {
+        writeln!(text, "checks with {name}: {made}").expect("a string takes it");
     }
     let path = concat!(env!("CARGO_MANIFEST_DIR"), "/../crates/trials/stdout");
     assert_eq!(text, std::fs::read_to_string(path).expect("the program's output"));

@@ -329,7 +329,7 @@ fn a_cell_linked_to_itself_and_nil_registers() {
         assert_eq!(pool.collect(&mut lent), Ok((1, 3)));
         assert_eq!(lent, words);
         assert_eq!(pool.collect_recursive(&mut lent), Ok((1, 3)));
-        assert_eq!(pool.collect_stack(&mut lent, &mut []), Ok((1, 1)));
+        assert_eq!(pool.collect_stack(&mut lent, &mut []), Ok((1, 1, 0)));
         assert_eq!(lent, words);
         let mut garbage = pool_words(0, &[], &[[0, 1, 1, 5]]);
         assert_eq!(pool.collect(&mut garbage), Ok((0, 0)));
@@ -337,23 +337,33 @@ fn a_cell_linked_to_itself_and_nil_registers() {
     });
 }
 
-/// A stack collection that changes no word of the pool, with stacks of these lengths: it keeps so many cells, and the stack is
-/// enough from so many words on.
-fn stack_collections(pool: &dyn Interface, words: &[u32], kept: u32, needed: usize, lengths: &[usize]) {
-    for &length in lengths {
+/// A length of the stack, whether it is enough, and the checks.
+type Stacked = (usize, u32, u32);
+
+/// Stack collections that change no word of the pool and keep so many cells.
+fn stack_collections(pool: &dyn Interface, words: &[u32], kept: u32, expected: &[Stacked]) {
+    for &(length, enough, checks) in expected {
         let (mut lent, mut stack) = (words.to_vec(), vec![7; length]);
         let answer = pool.collect_stack(&mut lent, &mut stack);
-        assert_eq!(answer, Ok((kept, u32::from(length >= needed))), "{kept} cells, {length} words");
+        assert_eq!(answer, Ok((kept, enough, checks)), "{kept} cells, {length} words");
         assert_eq!(lent, words);
         assert_eq!(stack, vec![0; length]);
     }
 }
 
+/// Used cells with these links, and their own numbers as values. All are reached.
+fn linked(registers: &[u32], links: &[(u32, u32)]) -> Vec<u32> {
+    let cells: Vec<[u32; 4]> = links.iter().zip(1..).map(|(&(left, right), i)| [0, left, right, i]).collect();
+    pool_words(0, registers, &cells)
+}
+
+const LEAF: (u32, u32) = (0, 0);
+
 #[test]
 fn both_links_to_one_leaf_need_no_stack_word() {
     on_all(|pool| {
         let words = pool_words(0, &[0, 2], &[[0, 0, 0, 5], [0, 1, 1, 6]]);
-        stack_collections(pool, &words, 2, 0, &[0, 1, 2]);
+        stack_collections(pool, &words, 2, &[(0, 1, 0), (1, 1, 0), (2, 1, 0)]);
     });
 }
 
@@ -361,10 +371,11 @@ fn both_links_to_one_leaf_need_no_stack_word() {
 fn links_to_two_leaves_need_one_stack_word() {
     on_all(|pool| {
         let words = pool_words(0, &[0, 3], &[[0, 0, 0, 4], [0, 0, 0, 5], [0, 1, 2, 6]]);
-        stack_collections(pool, &words, 3, 1, &[0, 1, 2]);
+        // With no word the check has no entry to drop.
+        stack_collections(pool, &words, 3, &[(0, 0, 1), (1, 1, 0), (2, 1, 0)]);
         // One of the leaves is marked by an earlier register: then none.
         let words = pool_words(0, &[2, 3], &[[0, 0, 0, 4], [0, 0, 0, 5], [0, 1, 2, 6]]);
-        stack_collections(pool, &words, 3, 0, &[0, 1]);
+        stack_collections(pool, &words, 3, &[(0, 1, 0), (1, 1, 0)]);
     });
 }
 
@@ -374,7 +385,7 @@ fn a_chain_with_equal_links_needs_no_stack_word() {
         for n in [1, 2, 3, 64, 500, 4_000] {
             let cells: Vec<[u32; 4]> = (1..=n).map(|i| [0, (i + 1) % (n + 1), (i + 1) % (n + 1), i]).collect();
             let words = pool_words(0, &[1], &cells);
-            stack_collections(pool, &words, n, 0, &[0, 1, n as usize]);
+            stack_collections(pool, &words, n, &[(0, 1, 0), (1, 1, 0), (n as usize, 1, 0)]);
         }
     });
 }
@@ -385,7 +396,7 @@ fn equal_links_are_followed_where_every_stack_word_is_taken() {
         // Cell 1 leads to 2 and 3: 3 is pushed. Then both links of 2 lead to 4, both of 4 to 5, and of 5 to nil; 3 is popped, which
         // leads to 4 and 6: 4 is marked.
         let cells = [[0, 2, 3, 1], [0, 4, 4, 2], [0, 4, 6, 3], [0, 5, 5, 4], [0, 0, 0, 5], [0, 6, 6, 6]];
-        stack_collections(pool, &pool_words(0, &[1], &cells), 6, 1, &[0, 1, 2]);
+        stack_collections(pool, &pool_words(0, &[1], &cells), 6, &[(0, 0, 1), (1, 1, 0), (2, 1, 0)]);
     });
 }
 
@@ -397,11 +408,11 @@ fn equal_links_to_a_marked_cell_are_not_followed_again() {
         // 5 and 3: 5 is reached, and one word is enough.
         for link in [1, 2, 3, 6] {
             let cells = [[0, 2, 3, 1], [0, link, link, 2], [0, 4, 4, 3], [0, 5, 3, 4], [0, 5, 5, 5], [0, 0, 0, 6]];
-            stack_collections(pool, &pool_words(0, &[6, 1], &cells), 6, 1, &[0, 1, 2]);
+            stack_collections(pool, &pool_words(0, &[6, 1], &cells), 6, &[(0, 0, 1), (1, 1, 0), (2, 1, 0)]);
         }
         // The pushed cell leads to two others: 3 is popped before 5 is pushed, and one word is enough.
         let cells = [[0, 2, 3, 1], [0, 3, 3, 2], [0, 4, 5, 3], [0, 0, 0, 4], [0, 0, 0, 5]];
-        stack_collections(pool, &pool_words(0, &[1], &cells), 5, 1, &[0, 1, 2]);
+        stack_collections(pool, &pool_words(0, &[1], &cells), 5, &[(0, 0, 1), (1, 1, 0), (2, 1, 0)]);
     });
 }
 
@@ -409,19 +420,21 @@ fn equal_links_to_a_marked_cell_are_not_followed_again() {
 fn the_worst_case_for_the_stack() {
     on_all(|pool| {
         // The left of an odd cell is the next odd one, its right the even one between, each nil above N; an even cell is a leaf.
-        const LEAF: [u32; 4] = [0, 0, 0, 0];
+        const END: [u32; 4] = [0, 0, 0, 0];
         let cases: [(&[[u32; 4]], u32); 5] = [
-            (&[LEAF], 0),
-            (&[[0, 0, 2, 0], LEAF], 0),
-            (&[[0, 3, 2, 0], LEAF, LEAF], 1),
-            (&[[0, 3, 2, 0], LEAF, [0, 0, 4, 0], LEAF], 1),
-            (&[[0, 3, 2, 0], LEAF, [0, 5, 4, 0], LEAF, LEAF], 2),
+            (&[END], 0),
+            (&[[0, 0, 2, 0], END], 0),
+            (&[[0, 3, 2, 0], END, END], 1),
+            (&[[0, 3, 2, 0], END, [0, 0, 4, 0], END], 1),
+            (&[[0, 3, 2, 0], END, [0, 5, 4, 0], END, END], 2),
         ];
         for (cells, entries) in cases {
             let mut words = vec![9; 18 + 4 * cells.len()];
             assert_eq!(pool.worst_case(&mut words), Ok(entries));
             assert_eq!(words, pool_words(0, &[1], cells));
-            stack_collections(pool, &words, cells.len() as u32, entries as usize, &[0, 1, 2, 3]);
+            // As many words as entries, and more: no check.
+            let lengths = [entries as usize, entries as usize + 1, 7].map(|length| (length, 1, 0));
+            stack_collections(pool, &words, cells.len() as u32, &lengths);
             // The same on the words of a fresh pool, word 0 as it is and another number.
             for first in [cells.len() as u32, 0, 4_000] {
                 let mut words = fresh(pool, cells.len());
@@ -436,9 +449,16 @@ fn the_worst_case_for_the_stack() {
         // N, the head, the registers and cells 1 and 2; then cells 3,997 to 4,000.
         assert_eq!(largest[..3], [4_000, 0, 1]);
         assert_eq!(largest[3..18], [0; 15]);
-        assert_eq!(largest[18..26], [[0, 3, 2, 0], LEAF].concat());
-        assert_eq!(largest[16_002..], [[0, 3_999, 3_998, 0], LEAF, [0, 0, 4_000, 0], LEAF].concat());
-        stack_collections(pool, &largest, 4_000, 1_999, &[1_998, 1_999]);
+        assert_eq!(largest[18..26], [[0, 3, 2, 0], END].concat());
+        assert_eq!(largest[16_002..], [[0, 3_999, 3_998, 0], END, [0, 0, 4_000, 0], END].concat());
+        // 1,998 leaves fill the stack, and a check drops them all; ten words are full after 10, 20, ... 1,990 pushes, with one
+        // more to come each time.
+        stack_collections(
+            pool,
+            &largest,
+            4_000,
+            &[(0, 0, 1), (1, 1, 1_998), (10, 1, 199), (1_998, 1, 1), (1_999, 1, 0)],
+        );
         for length in [0, 1, 17, 18, 19, 21, 23, 16_017, 16_019, 16_022] {
             let mut refused = vec![9; length];
             assert_eq!(pool.worst_case(&mut refused), Err(1), "{length} words");
@@ -448,24 +468,238 @@ fn the_worst_case_for_the_stack() {
 }
 
 #[test]
-fn marks_are_cleared_where_the_stack_overflows_and_links_are_restored() {
+fn the_checks_of_the_worst_case() {
     on_all(|pool| {
-        // Cell 1 leads to 2 and 3, cell 2 to 4 and 5; cell 6 is garbage, cell 7 free.
-        let cells = [[0, 2, 3, 1], [0, 4, 5, 2], [0, 1, 0, 3], [0, 0, 3, 4], [0, 5, 5, 5], [0, 1, 2, 6], [4, 0, 0, 0]];
-        let mut after = cells;
-        after[5] = [4, 7, 0, 0];
-        for length in 0..4 {
-            let mut words = pool_words(7, &[0, 0, 0, 1], &cells);
-            let mut stack = vec![3; length];
-            assert_eq!(pool.collect_stack(&mut words, &mut stack), Ok((5, u32::from(length >= 2))));
-            assert_eq!(words, pool_words(6, &[0, 0, 0, 1], &after));
+        // The entries are leaves, so that a check drops all of them, and the push comes first on an empty stack. With N = 11, cells 2,
+        // 4, 6, 8 and 10 are pushed. One word: 2 is held; then each of the four others finds it full. Two words: 2 and 4; a check for 6,
+        // which is held with 8; a check for 10. Three words: 2, 4 and 6; a check for 8. Four: a check for 10. Five: none.
+        let cases: [(usize, &[Stacked]); 7] = [
+            (2, &[(0, 1, 0), (1, 1, 0)]),
+            // One push: with no word there is no entry to drop.
+            (3, &[(0, 0, 1), (1, 1, 0)]),
+            (4, &[(0, 0, 1), (1, 1, 0)]),
+            // Two pushes.
+            (5, &[(0, 0, 1), (1, 1, 1), (2, 1, 0)]),
+            (6, &[(0, 0, 1), (1, 1, 1), (2, 1, 0)]),
+            // Three.
+            (7, &[(0, 0, 1), (1, 1, 2), (2, 1, 1), (3, 1, 0)]),
+            // Five.
+            (11, &[(0, 0, 1), (1, 1, 4), (2, 1, 2), (3, 1, 1), (4, 1, 1), (5, 1, 0)]),
+        ];
+        for (n, expected) in cases {
+            let mut words = vec![9; 18 + 4 * n];
+            assert_eq!(pool.worst_case(&mut words), Ok((n as u32 - 1) / 2));
+            stack_collections(pool, &words, n as u32, expected);
+        }
+    });
+}
+
+#[test]
+fn an_entry_is_dropped_after_a_walk() {
+    on_all(|pool| {
+        // One word: cell 1 leads to 2 and 3, and 3 is held; 2 leads to 4 and 5, which are marked, and the stack is full. From 3 only 6 is
+        // unmarked, from 6 only 7, and both links of 7 lead to 1: the entry is dropped, and 5 is pushed.
+        let links = [(2, 3), (4, 5), (6, 0), LEAF, LEAF, (0, 7), (1, 1)];
+        stack_collections(pool, &linked(&[1], &links), 7, &[(0, 0, 1), (1, 1, 1), (2, 1, 0)]);
+    });
+}
+
+#[test]
+fn marks_of_a_check_in_vain_are_cleared_before_reversal() {
+    on_all(|pool| {
+        // One word: 3 is held, and 2 leads to 4 and 5. Both links of 3 lead to 6, which is marked, and 6 to 7 and 8, two different cells
+        // that are unmarked: the entry becomes 6, and none went. With the mark of 6 left, reversal would not reach 7 and 8. Two words:
+        // 3 and 5 are held, then 8 alone.
+        let links = [(2, 3), (4, 5), (6, 6), LEAF, LEAF, (7, 8), LEAF, LEAF];
+        stack_collections(pool, &linked(&[1], &links), 8, &[(0, 0, 1), (1, 0, 1), (2, 1, 0)]);
+        // The same with cell 9 as garbage and cell 10 free: the links of 3 and 6 are as they were.
+        let mut words = linked(&[1], &[links.as_slice(), &[(1, 6), LEAF]].concat());
+        words[18 + 4 * 9..].copy_from_slice(&[4, 0, 0, 0]);
+        let mut after = words.clone();
+        after[1] = 9;
+        after[18 + 4 * 8..18 + 4 * 9].copy_from_slice(&[4, 10, 0, 0]);
+        for (length, enough, checks) in [(0, 0, 1), (1, 0, 1), (2, 1, 0)] {
+            let (mut lent, mut stack) = (words.clone(), vec![3; length]);
+            assert_eq!(pool.collect_stack(&mut lent, &mut stack), Ok((8, enough, checks)));
+            assert_eq!(lent, after);
             assert_eq!(stack, vec![0; length]);
         }
         // A refused one leaves the stack.
-        let mut malformed = pool_words(7, &[0, 0, 0, 7], &cells);
+        words[5] = 10;
         let mut stack = [3; 2];
-        assert_eq!(pool.collect_stack(&mut malformed, &mut stack), Err(3));
+        assert_eq!(pool.collect_stack(&mut words, &mut stack), Err(3));
         assert_eq!(stack, [3; 2]);
+    });
+}
+
+#[test]
+fn an_entry_becomes_the_cell_reached_and_is_gone_on_from_later() {
+    on_all(|pool| {
+        // Two words: 3 and 5 are held, and 4 leads to 6 and 7. 5 is a leaf and is dropped; from 3 only 8 is unmarked, which leads to 9 and
+        // 10: the entry becomes 8, and 7 is pushed above it. 6 and 7 are leaves; 8 is popped, and 10 pushed. One word: 3 is held where
+        // 2 leads to 4 and 5; it becomes 8, and none went.
+        let links = [(2, 3), (4, 5), (8, 0), (6, 7), LEAF, LEAF, LEAF, (9, 10), LEAF, LEAF];
+        stack_collections(pool, &linked(&[1], &links), 10, &[(0, 0, 1), (1, 0, 1), (2, 1, 1), (3, 1, 0)]);
+    });
+}
+
+#[test]
+fn what_an_entry_marks_counts_for_those_below_it() {
+    on_all(|pool| {
+        // Two words: 3 and 5 are held, and 4 leads to 6 and 7. From 5 only 10 is unmarked, and from there 11: it is dropped. 3 leads to
+        // 10 and 11, now both marked: it is dropped too. 7 is pushed, and then 9: one check. (From bottom to top 3 would be kept, and
+        // 9 would find the stack full again.) Three words: 3, 5 and 7 are held, and 9 finds them full: all are dropped. One word: 3
+        // leads to 10 and 11, both unmarked, and none went.
+        let links = [(2, 3), (4, 5), (10, 11), (6, 7), (10, 0), (8, 9), LEAF, LEAF, LEAF, (11, 0), LEAF];
+        let expected = [(0, 0, 1), (1, 0, 1), (2, 1, 1), (3, 1, 1), (4, 1, 0)];
+        stack_collections(pool, &linked(&[1], &links), 11, &expected);
+    });
+}
+
+#[test]
+fn a_check_in_vain_after_a_good_one() {
+    on_all(|pool| {
+        // Two words: 3 and 5 are held, and 4 leads to 6 and 7. 5 is a leaf and is dropped; 3 leads to 10 and 11, and is kept. 7 is pushed;
+        // 6 leads to 8 and 9. 7 leads to 12 and 13, 3 still to 10 and 11: both are kept, and none went. Three words: 3, 5 and 7 are
+        // held, and 9 finds them full: 5 is dropped. Four: no check.
+        let links = [(2, 3), (4, 5), (10, 11), (6, 7), LEAF, (8, 9), (12, 13), LEAF, LEAF, LEAF, LEAF, LEAF, LEAF];
+        let expected = [(0, 0, 1), (1, 0, 1), (2, 0, 2), (3, 1, 1), (4, 1, 0)];
+        stack_collections(pool, &linked(&[1], &links), 13, &expected);
+    });
+}
+
+#[test]
+fn an_entry_moves_on_from_check_to_check() {
+    on_all(|pool| {
+        // Two words: 3 and 5 are held, and 4 leads to 6 and 7. First check: 5 is dropped, 3 leads to 10 and 11 and is kept; 7 is pushed. 6
+        // leads to 10 and 8. Second check: 7 is dropped; 10 is marked now, so that 3 goes to 11, which leads to 12 and 13: the entry
+        // becomes 11; 8 is pushed. 10 leads to 12 and 9. Third check: 8 is dropped; from 11 only 13 is unmarked, a leaf: dropped. 9 is
+        // pushed, 12 is a leaf. Three words: 3, 5 and 7 are held, and the check for 8 drops 5 and 7 and takes 3 to 11; 8 and 9 are
+        // pushed. Four words: 3, 5, 7 and 8, and the check for 9 drops all. Five: no check. One: 3 is kept, and none went.
+        let links = [(2, 3), (4, 5), (10, 11), (6, 7), LEAF, (10, 8), LEAF, LEAF, LEAF, (12, 9), (12, 13), LEAF, LEAF];
+        let expected = [(0, 0, 1), (1, 0, 1), (2, 1, 3), (3, 1, 1), (4, 1, 1), (5, 1, 0)];
+        stack_collections(pool, &linked(&[1], &links), 13, &expected);
+    });
+}
+
+#[test]
+fn the_gaps_are_closed_in_order() {
+    on_all(|pool| {
+        // Three words: 3, 5 and 7 are held, and 6 leads to 8 and 9. First check: 7 leads to 12 and 13 and is kept, 5 is dropped, 3 leads to
+        // 12 and 10 and is kept: 3, 7, and 9 is pushed. 8 leads to 10 and 11. Second check: 9 is dropped, 7 is kept; from 3, with 10
+        // marked, only 12 is unmarked, a leaf: dropped. 7, 11 and 15 are held, and 14 leads to 16 and 17. Third check: 15 and 11 are
+        // dropped, from 7 only 13 is left: dropped. (In the other order, 7 below 3, the second check would drop both, and there would be
+        // no third.)
+        let links = [
+            (2, 3),
+            (4, 5),
+            (12, 10),
+            (6, 7),
+            LEAF,
+            (8, 9),
+            (12, 13),
+            (10, 11),
+            LEAF,
+            (14, 15),
+            LEAF,
+            LEAF,
+            LEAF,
+            (16, 17),
+            LEAF,
+            LEAF,
+            LEAF,
+        ];
+        // One word: 3 is kept. Two: 5 is dropped, then 7 and 3 are kept. Four: 3, 5, 7 and 9 are held, and the check for 11 keeps 7 alone.
+        // Five, and six: the same for 15, and for 17. Seven: no check.
+        let expected = [(0, 0, 1), (1, 0, 1), (2, 0, 2), (3, 1, 3), (4, 1, 1), (5, 1, 1), (6, 1, 1), (7, 1, 0)];
+        stack_collections(pool, &linked(&[1], &links), 17, &expected);
+    });
+}
+
+#[test]
+fn more_words_may_make_more_checks() {
+    on_all(|pool| {
+        let links = [(6, 3), (0, 4), (4, 9), (7, 5), (6, 10), (9, 7), (8, 4), (6, 2), (11, 5), (1, 7), (2, 10)];
+        // One word: 3 is held, and 6 leads to 9 and 7. From 3 only 4 is unmarked, then 5, then 10, which leads to 1 and 7: dropped. 7 is
+        // pushed. From 9 on 11, 2 and nothing more; 7 is popped, and goes to 8. One check.
+        // Two words: 3 and 7 are held, and 9 leads to 11 and 5. 7 leads to 8 and 4 and is kept; 3 goes to 4, which leads to 7 and 5:
+        // dropped. 5 is pushed. 11 leads to 2 and 10. 5 leads to 6 and 10: dropped; 7 goes to 8: dropped. 10 is pushed. Two checks.
+        // Three words: 3, 7 and 5 are held, and 11 leads to 2 and 10: 5 and 3 are dropped, 7 is kept. One check. Four: none.
+        let expected = [(0, 0, 1), (1, 1, 1), (2, 1, 2), (3, 1, 1), (4, 1, 0)];
+        stack_collections(pool, &linked(&[1], &links), 11, &expected);
+    });
+}
+
+#[test]
+fn two_words_may_be_enough_where_three_are_not() {
+    on_all(|pool| {
+        let links = [
+            (2, 15),
+            (3, 14),
+            (4, 13),
+            (5, 12),
+            (6, 9),
+            (7, 8),
+            LEAF,
+            LEAF,
+            (10, 11),
+            LEAF,
+            LEAF,
+            (10, 11),
+            (10, 11),
+            LEAF,
+            (5, 0),
+        ];
+        // Two words: 15 and 14 are held, and 3 leads to 4 and 13. 14 is dropped; 15 goes to 5, which leads to 6 and 9, and becomes that.
+        // 13 is pushed; 4 goes to 12 alone, since 5 is marked, and 12 leads to 10 and 11. So 13 is dropped, 5 is kept, and 11 pushed.
+        // At the end 5 is popped, and 9 and 8 are pushed.
+        // Three words: 15, 14 and 13 are held, and 4 leads to 5 and 12. 13 is kept; 14 is dropped, and 15, since 5 is marked. 12 and 9
+        // are pushed, and 6 leads to 7 and 8. 9, 12 and 13 all lead to 10 and 11, which are unmarked: none went.
+        // Four, and five: 12 is held too, and 9; the check for the next drops 14 and 15, and there is room for the rest. Six: no check.
+        // One: 15 becomes 5 where 2 leads to 3 and 14, and none went.
+        let expected = [(0, 0, 1), (1, 0, 1), (2, 1, 2), (3, 0, 2), (4, 1, 1), (5, 1, 1), (6, 1, 0)];
+        stack_collections(pool, &linked(&[1], &links), 15, &expected);
+    });
+}
+
+#[test]
+fn the_checks_of_all_registers_add_up() {
+    on_all(|pool| {
+        // Two combs of five cells, in registers 0 and 3: a check each with one word, which drops cell 2, and cell 7.
+        let comb = |first: u32| [(first + 2, first + 1), LEAF, (first + 4, first + 3), LEAF, LEAF];
+        let links = [comb(1), comb(6)].concat();
+        let expected = [(0, 0, 1), (1, 1, 2), (2, 1, 0)];
+        stack_collections(pool, &linked(&[1, 0, 0, 6], &links), 10, &expected);
+        // The second register holds a cell of the first comb: only one check.
+        let expected = [(0, 0, 1), (1, 1, 1), (2, 1, 0)];
+        stack_collections(pool, &linked(&[1, 3], &links[..5]), 5, &expected);
+        // A good check for register 0, then one in vain for register 1: 6 leads to 7 and 8, 7 to 9 and 10, and 8, which is held, to 11 and
+        // 12. The marks of the first register are cleared too.
+        let fork = [(7, 8), (9, 10), (11, 12), LEAF, LEAF, LEAF, LEAF];
+        let links = [comb(1).as_slice(), &fork].concat();
+        let expected = [(0, 0, 1), (1, 0, 2), (2, 1, 0)];
+        stack_collections(pool, &linked(&[1, 6], &links), 12, &expected);
+        // The other way round: the first check is in vain, and no other comes.
+        let expected = [(0, 0, 1), (1, 0, 1), (2, 1, 0)];
+        stack_collections(pool, &linked(&[6, 1], &links), 12, &expected);
+    });
+}
+
+#[test]
+fn garbage_and_free_cells_stay_out_of_the_checks() {
+    on_all(|pool| {
+        // Cell 1 leads to 2 and 3, cell 2 to 4 and 5; cell 6 is garbage, cell 7 free. With one word 3 is held, which leads to 1 and nil: it
+        // is dropped for 5.
+        let cells = [[0, 2, 3, 1], [0, 4, 5, 2], [0, 1, 0, 3], [0, 0, 3, 4], [0, 5, 5, 5], [0, 1, 2, 6], [4, 0, 0, 0]];
+        let mut after = cells;
+        after[5] = [4, 7, 0, 0];
+        for (length, enough, checks) in [(0, 0, 1), (1, 1, 1), (2, 1, 0), (3, 1, 0)] {
+            let mut words = pool_words(7, &[0, 0, 0, 1], &cells);
+            let mut stack = vec![3; length];
+            assert_eq!(pool.collect_stack(&mut words, &mut stack), Ok((5, enough, checks)));
+            assert_eq!(words, pool_words(6, &[0, 0, 0, 1], &after));
+            assert_eq!(stack, vec![0; length]);
+        }
     });
 }
 

@@ -6,7 +6,7 @@
 //! sections to run; without any, all are run.
 
 use cellpool_compare::baseline::PlainRust;
-use cellpool_compare::generate::{Shape, SHAPES};
+use cellpool_compare::generate::{comb_and_chain, Shape, SHAPES};
 use cellpool_compare::pool::Archive;
 use cellpool_compare::random::Random;
 use cellpool_compare::{words_for, Interface};
@@ -54,6 +54,32 @@ struct Bench {
     samples: usize,
 }
 
+/// What becomes of collections with a stack: whether it is enough on every graph, or on which share, and the checks.
+struct Outcome {
+    enough: String,
+    checks: String,
+}
+
+impl Outcome {
+    /// By the library, with this stack.
+    fn of(graphs: &mut [Vec<u32>], stack: &mut [u32]) -> Outcome {
+        let answers: Vec<(u32, u32, u32)> = graphs
+            .iter_mut()
+            .map(|words| Archive.collect_stack(words, stack).expect("the pool is well-formed"))
+            .collect();
+        let enough = answers.iter().filter(|(_, enough, _)| *enough == 1).count();
+        let enough = match answers.len() {
+            all if enough == all => "yes".to_string(),
+            _ if enough == 0 => "no".to_string(),
+            all => format!("{enough} of {all}"),
+        };
+        let (least, most) = (answers.iter().map(|answer| answer.2).min(), answers.iter().map(|answer| answer.2).max());
+        let (least, most) = (least.expect("there is a graph"), most.expect("there is a graph"));
+        let checks = if least == most { least.to_string() } else { format!("{least} to {most}") };
+        Outcome { enough, checks }
+    }
+}
+
 /// Nanoseconds of one run of the library, and its time over that of each other implementation.
 struct Figures {
     library: f64,
@@ -85,6 +111,12 @@ impl Bench {
         Bench { pools, samples }
     }
 
+    /// Without an earlier version of the library, whose collect_stack may have an argument less.
+    fn without_before(&self) -> Bench {
+        let pools = self.pools.iter().copied().filter(|(name, _)| *name != "before").collect();
+        Bench { pools, samples: self.samples }
+    }
+
     fn others(&self) -> String {
         self.pools[1..].iter().map(|(name, _)| format!(" library / {name} |")).collect()
     }
@@ -96,22 +128,24 @@ impl Bench {
 
     /// `run` works so many times and answers how long that took.
     fn measure(&self, mut run: impl FnMut(&dyn Interface, usize) -> Duration) -> Figures {
+        self.take_turns(self.pools.len(), |which, repeats| run(self.pools[which].1, repeats))
+    }
+
+    /// So many ways of doing the same, of which `run` takes one: the first is the library's.
+    fn take_turns(&self, ways: usize, mut run: impl FnMut(usize, usize) -> Duration) -> Figures {
         // Warm up, and find how many runs make a sample long enough.
         let mut repeats = 1;
-        for (_, pool) in &self.pools {
-            run(*pool, 1);
-            let once = run(*pool, 4).max(Duration::from_nanos(4)) / 4;
+        for way in 0..ways {
+            run(way, 1);
+            let once = run(way, 4).max(Duration::from_nanos(4)) / 4;
             repeats = repeats.max((SAMPLE.as_nanos() / once.as_nanos().max(1)) as usize);
         }
         let rounds: Vec<Vec<f64>> = (0..self.samples)
-            .map(|_| {
-                let time = |pool: &dyn Interface| run(pool, repeats).as_nanos() as f64 / repeats as f64;
-                self.pools.iter().map(|(_, pool)| *pool).map(time).collect()
-            })
+            .map(|_| (0..ways).map(|way| run(way, repeats).as_nanos() as f64 / repeats as f64).collect())
             .collect();
         Figures {
             library: median(rounds.iter().map(|times| times[0]).collect()),
-            ratios: (1..self.pools.len())
+            ratios: (1..ways)
                 .map(|other| median(rounds.iter().map(|times| times[0] / times[other]).collect()))
                 .collect(),
         }
@@ -135,13 +169,13 @@ impl Bench {
         })
     }
 
-    fn stack(&self, graphs: &mut [Vec<u32>], length: usize) -> (Figures, u32) {
+    fn stack(&self, graphs: &mut [Vec<u32>], length: usize) -> (Figures, Outcome) {
         let mut stack = vec![0; length];
-        let mut enough = 0;
+        let outcome = Outcome::of(graphs, &mut stack);
         let figures = self.repeat(graphs, |pool, words| {
-            enough = pool.collect_stack(black_box(words), &mut stack).expect("the pool is well-formed").1;
+            assert!(pool.collect_stack(black_box(words), &mut stack).is_ok());
         });
-        (figures, enough)
+        (figures, outcome)
     }
 
     fn save(&self, graphs: &mut [Vec<u32>]) -> (Figures, Vec<Vec<u8>>) {
@@ -212,24 +246,72 @@ fn collect(bench: &Bench, random: &mut Random) {
 }
 
 fn stack(bench: &Bench, random: &mut Random) {
-    let n = CELLS;
+    let (n, bench) = (CELLS, bench.without_before());
     println!("### Collect with a lent stack, {n} cells\n");
-    println!("| graph | stack words | enough | library, µs | library's reversal / stack |{}", bench.others());
-    bench.rule(3, 2);
+    println!("| graph | stack words | enough | checks | library, µs | library's reversal / stack |{}", bench.others());
+    bench.rule(3, 3);
     for shape in SHAPES {
         let mut graphs = graphs(shape, n, random);
         let reversal = bench.collect(&mut graphs);
         for length in [n, 16] {
-            let (figures, enough) = bench.stack(&mut graphs, length);
+            let (figures, Outcome { enough, checks }) = bench.stack(&mut graphs, length);
             println!(
-                "| {} | {length} | {} | {:.1} | {:.2} |{}",
+                "| {} | {length} | {enough} | {checks} | {:.1} | {:.2} |{}",
                 shape.name(),
-                if enough == 1 { "yes" } else { "no" },
                 figures.library / 1e3,
                 reversal.library / figures.library,
                 figures.ratios()
             );
         }
+    }
+}
+
+/// The stack of the smaller board.
+const FEW_WORDS: usize = 10;
+
+/// The library's stack marker with few words, which checks a full stack, beside its reversal, beside giving up where the stack is
+/// full, and beside plain code that checks.
+fn checks(bench: &Bench, random: &mut Random) {
+    type Way = fn(&mut [u32], &mut [u32]) -> Result<u32, u32>;
+    let ways: &[(&str, Way)] = &[
+        ("library", |words, stack| Archive.collect_stack(words, stack).map(|(kept, _, _)| kept)),
+        ("library's reversal", |words, _| Archive.collect(words).map(|(kept, _)| kept)),
+        #[cfg(c_baseline)]
+        ("plain C without checks", |words, stack| {
+            cellpool_compare::pool::PlainC::collect_stack_unchecked(words, stack).map(|(kept, _)| kept)
+        }),
+        ("plain Rust without checks", |words, stack| {
+            PlainRust::collect_stack_unchecked(words, stack).map(|(kept, _)| kept)
+        }),
+        #[cfg(c_baseline)]
+        ("plain C", |words, stack| cellpool_compare::pool::PlainC.collect_stack(words, stack).map(|(kept, _, _)| kept)),
+        ("plain Rust", |words, stack| PlainRust.collect_stack(words, stack).map(|(kept, _, _)| kept)),
+    ];
+    let n = CELLS;
+    println!("### Checks of a stack of {FEW_WORDS} words, {n} cells\n");
+    let others: String = ways[1..].iter().map(|(name, _)| format!(" library / {name} |")).collect();
+    println!("| graph | stack words | enough | checks | library, µs |{others}");
+    println!("|---|---:|---|---:|---:|{}", "---:|".repeat(ways.len() - 1));
+    // A comb whose entries are all needed, since all lead to the last two cells, and one where that is so of all held but one.
+    let mut pools: Vec<(&str, Vec<Vec<u32>>)> =
+        SHAPES.into_iter().map(|shape| (shape.name(), graphs(shape, n, random))).collect();
+    let entries = (n - 4) / 2;
+    pools.push(("comb of forks", vec![comb_and_chain(random, entries, entries, n, n)]));
+    pools.push(("comb, the first nine forks", vec![comb_and_chain(random, entries, FEW_WORDS - 1, n, n)]));
+    for (name, mut graphs) in pools {
+        let mut stack = [0; FEW_WORDS];
+        let Outcome { enough, checks } = Outcome::of(&mut graphs, &mut stack);
+        let count = graphs.len();
+        let figures = bench.take_turns(ways.len(), |which, repeats| {
+            let (_, way) = ways[which];
+            let start = now();
+            for place in 0..repeats {
+                assert!(way(black_box(&mut graphs[place % count]), &mut stack).is_ok());
+            }
+            now() - start
+        });
+        let time = figures.library / 1e3;
+        println!("| {name} | {FEW_WORDS} | {enough} | {checks} | {time:.1} |{}", figures.ratios());
     }
 }
 
@@ -300,7 +382,7 @@ fn growth(bench: &Bench, random: &mut Random) {
             let (save, mut images) = bench.save(&mut graphs);
             let load = bench.load(n, &mut images);
             let collect = bench.collect(&mut graphs);
-            let (stack, _) = bench.stack(&mut graphs, n);
+            let (stack, _) = bench.without_before().stack(&mut graphs, n);
             for (row, figures) in rows.iter_mut().zip([collect, stack, save, load]) {
                 row.1 += &format!(" {:.1} ({:.2}) |", figures.library / n as f64, figures.ratios[0]);
             }
@@ -401,9 +483,10 @@ fn scripts(_: &Bench, _: &mut Random) {
 
 type Section = fn(&Bench, &mut Random);
 
-const SECTIONS: [(&str, Section); 7] = [
+const SECTIONS: [(&str, Section); 8] = [
     ("collect", collect),
     ("stack", stack),
+    ("checks", checks),
     ("calls", calls),
     ("build", build),
     ("images", images),

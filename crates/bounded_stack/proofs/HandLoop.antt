@@ -1,169 +1,380 @@
--- The loop that takes one cell after the other in hand: what it keeps, and that it ends.
-use Prim.Native.Nat.{ℕ, _+_, _-_, _<_, _≤_}
+-- The loop that takes one cell after the other in hand: each turn is one of the definition's, and it ends.
+use Prim.Native.Nat.{ℕ, zero, suc, _+_, _*_, _-_, _<_, _≤_}
 use native.Mathlib.Omega.{arith}
-use mathlib.Core.Path.{_≡_, refl, sym, ap, _∙_}
-use mathlib.Core.Logic.{_↔_, inr, ⊎-elim}
-use mathlib.Core.List.{List, [], _∷_, _++_, List·Memᴰ}
-use mathlib.Core.Bool.{Bool, true, false, true≢false, false≢true, cond, not, _&&_}
-use lib.ListN.{length, getD, set, length-set}
-use lib.Dec.{eqb, leb}
-use Rattle.graph.specs.Graph.{Graph}
-use Rattle.graph.specs.Marking.{markedCount}
-use Rattle.graph.specs.Dfs.{marks}
-use Rattle.graph.proofs.Lists.{has-member, member-has, each-nil}
+use mathlib.Core.Path.{_≡_, refl, sym, ap, ap₂, subst, _∙_}
+use mathlib.Core.List.{List, [], _∷_, _++_, append-nil, append-assoc, List·Memᴰ}
+use mathlib.Core.Bool.{Bool, true, false}
+use lib.ListN.{length, getD, set, length-set, length-append}
+use borrow.Author.Tests.{lt-ltb, le-ltb}
 use Rattle.graph.specs.Preorder.{elem}
-use Rattle.graph.proofs.Marks.{marks-member, marks-cases, marks-keeps}
-use Rattle.graph.proofs.Count.{marked-le, marked-same}
-use Rattle.pool.specs.Layout.{poolLength, left, right, state, graphOf, rootsOf}
-use Rattle.pool.specs.States.{isUsed, markCell}
-use Rattle.pool.proofs.States.{marked-not-used}
+use Rattle.graph.proofs.Count.{marked-le}
+use Rattle.pool.specs.Layout.{poolLength, left, right, graphOf, rootsOf}
+use Rattle.pool.specs.States.{markCell}
 use Rattle.questions.proofs.WellFormed.{WellFormed, well-formed-read}
-use Rattle.pool.proofs.Sizes.{both}
-use Rattle.reversal.specs.Reversal.{unmarked}
+use Rattle.questions.proofs.PoolGraph.{pool-within}
 use Rattle.reversal.specs.ReversalTheorem.{markAll}
-use Rattle.reversal.proofs.MarkAll.{length-markAll, state-markAll-same, state-markAll-other}
-use Rattle.reversal.proofs.PoolMarks.{stateMarks, stateMarks-used, stateMarks-other}
-use Rattle.bounded_stack.specs.Steps.{onwardIn, Started, runFromCell, Ran}
-use Rattle.stack_algorithm.specs.Steps.{Settled}
-use Rattle.stack_algorithm.proofs.Fresh.{marked-all, Passing, passing}
-use Rattle.stack_algorithm.proofs.Going.{Going, begin}
-use Rattle.bounded_stack.proofs.Simulation.{entries, entries-length, entries-push, entries-pop, Running, running-length, running-cell, running-new, running-turn, running-end, running-deep, running-undone}
-
--- Where nothing is pending.
-pub settled-going : {g : Graph} {roots seen : List ℕ} → Settled g roots seen → Going g roots seen []
-settled-going {seen = seen} s =
-    record { cells = s .cells; distinct = s .distinct; held = each-nil (λ x. List·Memᴰ x seen); closed = λ x mem. inr (s .closed x mem); few = omega arith }
+use Rattle.reversal.proofs.MarkAll.{length-markAll}
+use Rattle.reversal.proofs.PoolMarks.{stateMarks}
+use Rattle.stack_algorithm.specs.Stack.{onward}
+use Rattle.stack_algorithm.specs.Steps.{Going}
+use Rattle.stack_algorithm.specs.Check.{check, behind, checkAndPush, push, turnBy, limited}
+use Rattle.stack_algorithm.proofs.Going.{Lasting, seen-most, turn-lasting}
+use Rattle.stack_algorithm.proofs.Checking.{Left, check-left, check-going, limited-none, enough-behind, dropped-some, elem-append}
+use Rattle.stack_check.specs.Steps.{onwardIn, entries, Pending, Checkable, checkIn}
+use Rattle.stack_check.proofs.Marked.{Marked, marked-length, pending-cell, looked, new-cell, marked-count, unmarkedCount}
+use Rattle.stack_check.proofs.Marked as marked
+use Rattle.stack_check.proofs.Entries.{entries-length, entries-push, entries-pop}
+use Rattle.bounded_stack.specs.Steps.{resultIn, runFromCell}
 
 -- How many turns are left at most behind this one: one for each cell that is not marked, and one for each entry of the stack.
 abbrev pub turnsLeft : ℕ → ℕ → List ℕ → ℕ → ℕ
-turnsLeft R n words top = n - markedCount n (stateMarks R n words) + top
+turnsLeft R n words top = unmarkedCount R n words + top
+
+-- Between two turns of a run with `room` words that leads to `end`: some checks were made, each of which dropped an entry, and what is left of the run leads
+-- to the same end.
+pub record Running (R n room : ℕ) (pool : List ℕ) (end : List ℕ × List ℕ) (w pending : List ℕ) (checks : ℕ) : Type 0 where
+  pub marked : Marked R pool w pending
+  pub turns : ℕ
+  pub lasting : Lasting n turns (marked .seen) pending
+  pub dropped : List ℕ
+  pub each : elem 0 dropped ≡ false
+  pub counted : checks ≡ length dropped
+  pub few : 2 * checks ≤ length (marked .seen)
+  pub last : behind dropped (limited room n turns (graphOf R pool) (marked .seen) pending) ≡ end
 
 -- What the loop keeps, with the stack's entries below `top` in the lent words.
-pub record Hand (R n p : ℕ) (words₀ stack₀ words stack : List ℕ) (hand top : ℕ) : Type 0 where
+pub record Hand (R n p : ℕ) (words₀ stack₀ words stack : List ℕ) (hand top checks : ℕ) : Type 0 where
   pub lent : length stack ≡ length stack₀
   pub fits : top ≤ length stack₀
-  pub run : (h : Started R n p words₀) → Running R n (h .pool) (length stack₀) (runFromCell R n p words₀ h) words (hand ∷ entries stack top)
+  pub run : (h : Pending R n words₀ (p ∷ []))
+      → Running R n (length stack₀) (h .pool) (runFromCell R n (length stack₀) p words₀ h) words (hand ∷ entries stack top) checks
+
+-- Before a push of the right link r, with the left one l to be taken in hand: there is room, and the push leads to the next turn, which leaves fewer.
+pub record Ready (R n p : ℕ) (words₀ stack₀ words : List ℕ) (top l r : ℕ) (words' stack' : List ℕ) (top' checks' : ℕ) : Type 0 where
+  pub room : top' < length stack'
+  pub lent : length stack' ≡ length stack₀
+  pub hand : Hand R n p words₀ stack₀ words' (set stack' top' r) l (top' + 1) checks'
+  pub less : turnsLeft R n words' (top' + 1) < turnsLeft R n words top
 
 module _ (R n p : ℕ) (words₀ : List ℕ) (room : poolLength R n ≤ length words₀) where
-  module _ (h : Started R n p words₀) where
+  module _ (h : Pending R n words₀ (p ∷ [])) where
     well : WellFormed R n (h .pool)
     well = well-formed-read R n (h .pool) (h .well)
 
     pool-room : poolLength R n ≤ length (h .pool)
-    pool-room = omega (arith, room, ap length (h .words) ∙ length-markAll R (h .pool) (h .seen ++ p ∷ []))
+    pool-room = omega (arith, room, ap length (h .words) ∙ length-markAll R (h .pool) (h .seen))
 
-  pub hand-first : (stack₀ : List ℕ) → Hand R n p words₀ stack₀ words₀ stack₀ p 0
-  unfolding entries
+  pub hand-first : (stack₀ : List ℕ) → Hand R n p words₀ stack₀ words₀ stack₀ p 0 0
+  unfolding entries elem
   hand-first stack₀ =
       record {
         lent = refl;
         fits = omega arith;
         run = λ h.
-            let first : Going (graphOf R (h .pool)) (rootsOf R (h .pool)) (h .seen ++ p ∷ []) (p ∷ []) =
-            rw (h .fresh) at (begin (settled-going (h .settled)) p λ some. h .reached) in
-            record { seen = h .seen ++ p ∷ []; turns = n; words = h .words; going = first; enough = omega (arith, first .few); last = refl; deep = refl };
+            record {
+              marked = record { seen = h .seen; words = h .words; going = h .going };
+              turns = n;
+              lasting = omega (arith, h .going .few);
+              dropped = [];
+              each = refl;
+              counted = refl;
+              few = omega arith;
+              last = refl;
+            };
       }
 
-  module _ (stack₀ words stack : List ℕ) (hand top : ℕ) (s : Hand R n p words₀ stack₀ words stack hand top) where
-    held : length (entries stack top) ≤ length stack₀
-    held = rw (entries-length stack top) (s .fits)
+  module _ (stack₀ words stack : List ℕ) (hand top checks : ℕ) (s : Hand R n p words₀ stack₀ words stack hand top checks) where
+    module _ (h : Pending R n words₀ (p ∷ [])) where
+      pub hand-cell : (0 < hand) × (hand ≤ n) × (left R words hand ≤ n) × (right R words hand ≤ n) × (poolLength R n ≤ length words)
+      hand-cell = pending-cell R n (h .pool) (well h) (pool-room h) (s .run h .marked)
 
-    pub hand-cell : Started R n p words₀ → (0 < hand) × (hand ≤ n) × (left R words hand ≤ n) × (right R words hand ≤ n) × (poolLength R n ≤ length words)
-    hand-cell h = running-cell R n (h .pool) (well h) (pool-room h) (s .run h)
+      pub hand-length : length words ≡ length words₀
+      hand-length =
+          marked-length R n (h .pool) (well h) (pool-room h) (s .run h .marked) ∙ sym (ap length (h .words) ∙ length-markAll R (h .pool) (h .seen))
 
-    pub hand-length : Started R n p words₀ → length words ≡ length words₀
-    hand-length h =
-        running-length R n (h .pool) (well h) (pool-room h) (s .run h)
-        ∙ sym (ap length (h .words) ∙ length-markAll R (h .pool) (h .seen ++ p ∷ []))
+      module _ (new : List ℕ) (links : new ≡ onwardIn R words hand) where
+        -- the links that the loop goes on to are cells
+        pub hand-new : (x : ℕ) → List·Memᴰ x new → (0 < x) × (x ≤ n)
+        hand-new = new-cell R n (h .pool) (well h) (pool-room h) (s .run h .marked) new links
 
-    module _ (new : List ℕ) (links : new ≡ onwardIn R words hand) where
-      -- the links that the loop goes on to are cells
-      pub hand-new : Started R n p words₀ → (x : ℕ) → List·Memᴰ x new → (0 < x) × (x ≤ n)
-      hand-new h x mem = running-new R n (h .pool) (well h) (pool-room h) (s .run h) held x (rw links at mem)
+        -- these marked
+        next : Marked R (h .pool) (markAll R words new) (new ++ entries stack top)
+        next = marked.turned R n (h .pool) (well h) (pool-room h) (s .run h .marked) new links
 
-      turned : (h : Started R n p words₀) → Running R n (h .pool) (length stack₀) (runFromCell R n p words₀ h) (markAll R words new) (new ++ entries stack top)
-      turned h = rw links (running-turn R n (h .pool) (well h) (pool-room h) (s .run h) held)
+        -- as many cells more are marked
+        more : unmarkedCount R n (markAll R words new) + length new ≡ unmarkedCount R n words
+        unfolding next marked.turned
+        more =
+            omega (
+              arith,
+              marked-count R n (h .pool) (well h) (pool-room h) (s .run h .marked),
+              marked-count R n (h .pool) (well h) (pool-room h) next,
+              length-append (s .run h .marked .seen) new,
+              marked-le n (stateMarks R n (markAll R words new)),
+            )
 
-    -- both links are unmarked and the lent words are full: the stack is not enough
-    pub hand-full : (l r : ℕ) → l ∷ r ∷ [] ≡ onwardIn R words hand → length stack ≤ top → (h : Started R n p words₀)
-        → Ran R n (length stack₀) (h .pool) words (runFromCell R n p words₀ h) false
-    hand-full l r links full h =
+        -- the turn of the definition
+        stepped : (t : ℕ) × Lasting n t (s .run h .marked .seen ++ new) (new ++ entries stack top)
+            × (behind (s .run h .dropped) (turnBy (length stack₀) n (graphOf R (h .pool)) (limited (length stack₀) n t (graphOf R (h .pool))) (s .run h .marked .seen) (entries stack top) new)
+            ≡ runFromCell R n (length stack₀) p words₀ h)
+        unfolding limited
+        stepped = go (s .run h .turns) refl
+          where
+            same : new ≡ onward (graphOf R (h .pool)) (s .run h .marked .seen) hand
+            same = links ∙ looked R n (h .pool) (well h) (pool-room h) (s .run h .marked)
+
+            go : (k : ℕ) → s .run h .turns ≡ k
+                → (t : ℕ) × Lasting n t (s .run h .marked .seen ++ new) (new ++ entries stack top)
+                × (behind (s .run h .dropped) (turnBy (length stack₀) n (graphOf R (h .pool)) (limited (length stack₀) n t (graphOf R (h .pool))) (s .run h .marked .seen) (entries stack top) new)
+                ≡ runFromCell R n (length stack₀) p words₀ h)
+            go zero e = absurd (omega (arith, s .run h .lasting, seen-most (pool-within (well h)) (s .run h .marked .going)))
+            go (suc t) e = (
+              t,
+              rw same (turn-lasting (s .run h .marked .going) n t (omega (arith, s .run h .lasting))),
+              rw same
+                  (ap (λ (k : ℕ). behind (s .run h .dropped) (limited (length stack₀) n k (graphOf R (h .pool)) (s .run h .marked .seen) (hand ∷ entries stack top))) (sym e)
+                  ∙ s .run h .last),
+            )
+
+    -- a check comes with two newly marked cells, so that the checks are at most half as many as the cells
+    pub checks-fit : (l r : ℕ) → l ∷ r ∷ [] ≡ onwardIn R words hand → Pending R n words₀ (p ∷ []) → checks + 1 ≤ n
+    unfolding next marked.turned
+    checks-fit l r links h =
+        let after = next h (l ∷ r ∷ []) links in
+        omega (arith, s .run h .few, length-append (s .run h .marked .seen) (l ∷ r ∷ []), seen-most (pool-within (well h)) (after .going))
+
+    -- one link is unmarked: it is marked and taken in hand
+    pub hand-go : (x : ℕ) (w₁ : List ℕ) → x ∷ [] ≡ onwardIn R words hand → w₁ ≡ markCell R words x → Hand R n p words₀ stack₀ w₁ stack x top checks
+    unfolding markAll next marked.turned
+    hand-go x w₁ links e₁ =
         record {
-          answer =
-              sym (running-deep R n (h .pool) (well h) (pool-room h) (turned (l ∷ r ∷ []) links h) (omega (arith, entries-length stack top, s .lent)));
-          marked = λ e. absurd (false≢true e);
-          undone = λ e. running-undone R n (h .pool) (well h) (pool-room h) (s .run h);
+          lent = s .lent;
+          fits = s .fits;
+          run = λ h.
+              let (t, lasting, last) = stepped h (x ∷ []) links in
+              rw e₁
+              (record {
+                marked = next h (x ∷ []) links;
+                turns = t;
+                lasting = lasting;
+                dropped = s .run h .dropped;
+                each = s .run h .each;
+                counted = s .run h .counted;
+                few = omega (arith, s .run h .few, length-append (s .run h .marked .seen) (x ∷ []));
+                last = last;
+              });
         }
 
-    -- both are unmarked: both are marked, the right one is pushed and the left one taken in hand
-    pub hand-push : (l r : ℕ) (w₁ w₂ stack' : List ℕ) → l ∷ r ∷ [] ≡ onwardIn R words hand → top < length stack → w₁ ≡ markCell R words l
-        → w₂ ≡ markCell R w₁ r → stack' ≡ set stack top r → Hand R n p words₀ stack₀ w₂ stack' l (top + 1)
+    pub less-go : Pending R n words₀ (p ∷ []) → (x : ℕ) (w₁ : List ℕ) → x ∷ [] ≡ onwardIn R words hand → w₁ ≡ markCell R words x → turnsLeft R n w₁ top < turnsLeft R n words top
     unfolding markAll
-    hand-push l r w₁ w₂ stack' links fits e₁ e₂ es =
-        record {
-          lent = ap length es ∙ (simp length-set (s .lent));
-          fits = omega (arith, s .lent);
-          run = λ h. rw (e₂, e₁, es, entries-push stack top r fits) (turned (l ∷ r ∷ []) links h);
-        }
+    less-go h x w₁ links e₁ = rw e₁ (omega (arith, more h (x ∷ []) links))
 
-    -- one is unmarked: it is marked and taken in hand
-    pub hand-go : (x : ℕ) (w₁ : List ℕ) → x ∷ [] ≡ onwardIn R words hand → w₁ ≡ markCell R words x → Hand R n p words₀ stack₀ w₁ stack x top
-    unfolding markAll
-    hand-go x w₁ links e₁ = record { lent = s .lent; fits = s .fits; run = λ h. rw e₁ (turned (x ∷ []) links h) }
-
-    -- none is unmarked: the next is popped, or the run ends
-    pub hand-pop : [] ≡ onwardIn R words hand → (top ≡ 0 → ⊥) → Hand R n p words₀ stack₀ words stack (getD stack (top - 1) 0) (top - 1)
-    unfolding markAll
+    -- none is unmarked: the next is popped
+    pub hand-pop : [] ≡ onwardIn R words hand → (top ≡ 0 → ⊥) → Hand R n p words₀ stack₀ words stack (getD stack (top - 1) 0) (top - 1) checks
+    unfolding markAll next marked.turned
     hand-pop links some =
         record {
           lent = s .lent;
           fits = omega (arith, s .fits);
-          run = λ h. rw (entries-pop stack top (omega (arith, some))) at (turned [] links h);
+          run = λ h.
+              let (t, lasting, last) = stepped h [] links in
+              let seen = s .run h .marked .seen in
+              let after : Running R n (length stack₀) (h .pool) (runFromCell R n (length stack₀) p words₀ h) words (entries stack top) checks =
+              record {
+                marked = next h [] links;
+                turns = t;
+                lasting = lasting;
+                dropped = s .run h .dropped;
+                each = s .run h .each;
+                counted = s .run h .counted;
+                few = omega (arith, s .run h .few, length-append seen []);
+                last =
+                    ap (λ (l : List ℕ). behind (s .run h .dropped) (limited (length stack₀) n t (graphOf R (h .pool)) l (entries stack top))) (append-nil seen) ∙ last;
+              } in
+              rw (entries-pop stack top (omega (arith, some))) at after;
         }
 
-    pub hand-last : [] ≡ onwardIn R words hand → top ≡ 0 → (h : Started R n p words₀) → Ran R n (length stack₀) (h .pool) words (runFromCell R n p words₀ h) true
-    unfolding markAll entries
+    -- or the run ends
+    pub hand-last : [] ≡ onwardIn R words hand → top ≡ 0 → (h : Pending R n words₀ (p ∷ []))
+        → _≡_ {A = List ℕ × Bool × ℕ} (words, true, checks) (resultIn R (h .pool) (runFromCell R n (length stack₀) p words₀ h))
+    unfolding entries elem
     hand-last links none h =
-        let end = running-end R n (h .pool) (well h) (pool-room h) (rw none at (turned [] links h)) in
-        record { answer = sym (end .1); marked = λ e. end .0; undone = λ e. absurd (true≢false e) }
+        let (t, lasting, last) = stepped h [] links in
+        let seen = s .run h .marked .seen in
+        let dropped = s .run h .dropped in
+        let end : _≡_ {A = List ℕ × List ℕ} (seen, dropped) (runFromCell R n (length stack₀) p words₀ h) =
+        ap (λ (l : List ℕ). (seen, l)) (sym (append-nil dropped))
+        ∙ (ap (behind dropped) (sym (limited-none (length stack₀) n t (graphOf R (h .pool)) seen))
+        ∙ (ap (λ (l : List ℕ). behind dropped (limited (length stack₀) n t (graphOf R (h .pool)) seen l)) (sym (ap (entries stack) none)) ∙ last)) in
+        rw (s .run h .marked .words, s .run h .counted) (rw (s .run h .each) at (ap (resultIn R (h .pool)) end))
 
-    -- a turn leaves fewer
-    module _ (h : Started R n p words₀) where
-      -- as many cells more are marked as the loop goes on to
-      marked-more : (new : List ℕ) → new ≡ onwardIn R words hand
-          → markedCount n (stateMarks R n (markAll R words new)) ≡ length new + markedCount n (stateMarks R n words)
-      marked-more new links =
-          sym (marked-same n (marks (stateMarks R n words) new) (stateMarks R n (markAll R words new)) (λ x low high. alike x low high (elem x new) refl))
-          ∙ marked-all n (stateMarks R n words) (facts .distinct) λ x mem.
-          let (low, high) = hand-new new links h x mem in
-          (low, high, stateMarks-used R n words (record { positive = low; bounded = high; state = both (not (eqb x 0)) (isUsed (state R words x)) (facts .passes x mem) .1 }))
-        where
-          facts : Passing (unmarked R words) (left R words hand) (right R words hand) new
-          facts = rw links (passing (unmarked R words) (left R words hand) (right R words hand))
-
-          positive : (y : ℕ) → List·Memᴰ y new → 0 < y
-          positive y k = hand-new new links h y k .0
-
-          alike : (x : ℕ) → 0 < x → x ≤ n → (t : Bool) → elem x new ≡ t
-              → (0 < marks (stateMarks R n words) new x) ↔ (0 < stateMarks R n (markAll R words new) x)
-          alike x low high true e =
-              let mem = member-has x new e in
-              let marked = marked-not-used (state R (markAll R words new) x) (state-markAll-same R x low new positive mem words (omega (arith, hand-cell h .4))) in
-              (λ _. stateMarks-other R n (markAll R words new) x (λ u. true≢false (sym (u .state) ∙ marked)), λ _. marks-member (stateMarks R n words) x mem)
-          alike x low high false e =
-              let out : List·Memᴰ x new → ⊥ = λ mem. true≢false (sym (has-member x mem) ∙ e) in
-              let same : stateMarks R n (markAll R words new) x ≡ stateMarks R n words x =
-              ap (λ (k : ℕ). cond (leb 1 x && leb x n && isUsed k) 0 1) (state-markAll-other R x low new positive out words) in (
-                λ k. rw same (⊎-elim (λ mem. absurd (out mem)) (λ above. above) (marks-cases (stateMarks R n words) new x k)),
-                λ k. marks-keeps (stateMarks R n words) new x (rw same at k),
-              )
-
-      pub less-push : (l r : ℕ) (w₁ w₂ : List ℕ) → l ∷ r ∷ [] ≡ onwardIn R words hand → w₁ ≡ markCell R words l → w₂ ≡ markCell R w₁ r
-          → turnsLeft R n w₂ (top + 1) < turnsLeft R n words top
+    module _ (l r : ℕ) (w₁ w₂ : List ℕ) (links : l ∷ r ∷ [] ≡ onwardIn R words hand) (e₁ : w₁ ≡ markCell R words l) (e₂ : w₂ ≡ markCell R w₁ r) where
+      -- both are unmarked: both are marked
+      both : w₂ ≡ markAll R words (l ∷ r ∷ [])
       unfolding markAll
-      less-push l r w₁ w₂ links e₁ e₂ =
-          rw (e₂, e₁) (omega (arith, marked-more (l ∷ r ∷ []) links, marked-le n (stateMarks R n (markAll R words (l ∷ r ∷ [])))))
+      both = e₂ ∙ ap (λ (v : List ℕ). markCell R v r) e₁
 
-      pub less-go : (x : ℕ) (w₁ : List ℕ) → x ∷ [] ≡ onwardIn R words hand → w₁ ≡ markCell R words x → turnsLeft R n w₁ top < turnsLeft R n words top
-      unfolding markAll
-      less-go x w₁ links e₁ = rw e₁ (omega (arith, marked-more (x ∷ []) links, marked-le n (stateMarks R n (markAll R words (x ∷ [])))))
+      -- with room, the right one is pushed and the left one taken in hand
+      hand-push : top < length stack → Hand R n p words₀ stack₀ w₂ (set stack top r) l (top + 1) checks
+      unfolding next marked.turned
+      hand-push fits =
+          record {
+            lent = length-set stack top r ∙ s .lent;
+            fits = omega (arith, s .lent);
+            run = λ h.
+                let (t, lasting, last) = stepped h (l ∷ r ∷ []) links in
+                let room' = lt-ltb (length (entries stack top)) (length stack₀) (omega (arith, entries-length stack top, s .lent)) in
+                rw (both, entries-push stack top r fits)
+                (record {
+                  marked = next h (l ∷ r ∷ []) links;
+                  turns = t;
+                  lasting = lasting;
+                  dropped = s .run h .dropped;
+                  each = s .run h .each;
+                  counted = s .run h .counted;
+                  few = omega (arith, s .run h .few, length-append (s .run h .marked .seen) (l ∷ r ∷ []));
+                  last = rw room' at last;
+                });
+          }
+
+      less-push : Pending R n words₀ (p ∷ []) → turnsLeft R n w₂ (top + 1) < turnsLeft R n words top
+      less-push h = rw both (omega (arith, more h (l ∷ r ∷ []) links))
+
+      pub ready-push : Pending R n words₀ (p ∷ []) → (top ≡ length stack → ⊥) → {words' stack' : List ℕ} {top' checks' : ℕ}
+          → words' ≡ w₂ → stack' ≡ stack → top' ≡ top → checks' ≡ checks → Ready R n p words₀ stack₀ words top l r words' stack' top' checks'
+      ready-push h some ew es et ec =
+          let fits : top < length stack = omega (arith, some, s .fits, s .lent) in
+          rw (ew, es, et, ec) (record { room = fits; lent = s .lent; hand = hand-push fits; less = less-push h })
+
+      -- full: what the check of the entries may rely on
+      module _ (full : top ≡ length stack) where
+        abbrev leftIn : (h : Pending R n words₀ (p ∷ [])) → List ℕ × List ℕ
+        leftIn h = check n (graphOf R (h .pool)) (s .run h .marked .seen ++ l ∷ r ∷ []) (entries stack (length stack))
+
+        pub hand-checkable : Pending R n words₀ (p ∷ []) → Checkable R n w₂ stack
+        unfolding next marked.turned
+        hand-checkable h =
+            let after = next h (l ∷ r ∷ []) links in (
+              l ∷ r ∷ [],
+              record {
+                pool = h .pool;
+                seen = after .seen;
+                well = h .well;
+                words = both ∙ after .words;
+                going = subst (λ (k : ℕ). Going (graphOf R (h .pool)) (rootsOf R (h .pool)) (after .seen) (l ∷ r ∷ entries stack k)) full (after .going);
+              },
+            )
+
+        -- the check was made
+        module _ (w₃ stack' : List ℕ) (kept : ℕ)
+            (made : (hc : Checkable R n w₂ stack) → _≡_ {A = List ℕ × List ℕ} (w₃, entries stack' kept) (checkIn R n w₂ stack hc)) where
+          module _ (h : Pending R n words₀ (p ∷ [])) where
+            left-words : w₃ ≡ markAll R (h .pool) (leftIn h .0)
+            unfolding hand-checkable next marked.turned
+            left-words = ap (λ (x : List ℕ × List ℕ). x .0) (made (hand-checkable h))
+
+            left-entries : entries stack' kept ≡ leftIn h .1
+            unfolding hand-checkable next marked.turned
+            left-entries = ap (λ (x : List ℕ × List ℕ). x .1) (made (hand-checkable h))
+
+            facts : Left (s .run h .marked .seen ++ l ∷ r ∷ []) (entries stack (length stack)) (leftIn h)
+            facts = check-left (graphOf R (h .pool)) n (s .run h .marked .seen ++ l ∷ r ∷ []) (entries stack (length stack))
+
+            kept-fewer : kept ≤ length stack
+            kept-fewer = omega (arith, facts .fewer, entries-length stack (length stack), entries-length stack' kept, ap length left-entries)
+
+            -- the turn of the definition, with the check
+            checkedTurn : (t : ℕ) × Lasting n t (s .run h .marked .seen ++ l ∷ r ∷ []) (l ∷ r ∷ entries stack (length stack))
+                × (behind (s .run h .dropped) (checkAndPush n (graphOf R (h .pool)) (limited (length stack₀) n t (graphOf R (h .pool))) (s .run h .marked .seen ++ l ∷ r ∷ []) (entries stack (length stack)) l r)
+                ≡ runFromCell R n (length stack₀) p words₀ h)
+            checkedTurn =
+                let (t, lasting, last) = stepped h (l ∷ r ∷ []) links in
+                let seen = s .run h .marked .seen in
+                let none = le-ltb (length (entries stack (length stack))) (length stack₀) (omega (arith, entries-length stack (length stack), s .lent)) in (
+                  t,
+                  subst (λ (k : ℕ). Lasting n t (seen ++ l ∷ r ∷ []) (l ∷ r ∷ entries stack k)) full lasting,
+                  rw none at
+                      (subst
+                      (λ (k : ℕ).
+                      behind (s .run h .dropped) (push (length stack₀) n (graphOf R (h .pool)) (limited (length stack₀) n t (graphOf R (h .pool))) seen (entries stack k) l r)
+                      ≡ runFromCell R n (length stack₀) p words₀ h) full last),
+                )
+
+            abbrev gone : ℕ
+            gone = length (entries stack (length stack)) - length (leftIn h .1)
+
+            -- what is pending after the check
+            left-marked : Marked R (h .pool) w₃ (l ∷ r ∷ leftIn h .1)
+            unfolding hand-checkable next marked.turned
+            left-marked =
+                record {
+                  seen = leftIn h .0;
+                  words = left-words;
+                  going = check-going n (s .run h .marked .seen ++ l ∷ r ∷ []) (l ∷ r ∷ []) (entries stack (length stack)) (hand-checkable h .1 .going);
+                }
+
+            counts : length (leftIn h .1) ≡ kept
+            counts = sym (ap length left-entries) ∙ entries-length stack' kept
+
+            -- all entries were needed: the stack is not enough
+            pub hand-vain : kept ≡ top
+                → _≡_ {A = List ℕ × Bool × ℕ} (w₃, false, checks + 1) (resultIn R (h .pool) (runFromCell R n (length stack₀) p words₀ h))
+            unfolding elem
+            hand-vain all =
+                let (t, lasting, last) = checkedTurn in
+                let none : gone ≡ 0 = omega (arith, full, counts, entries-length stack (length stack)) in
+                let end : _≡_ {A = List ℕ × List ℕ} (behind (s .run h .dropped) (leftIn h .0, 0 ∷ [])) (runFromCell R n (length stack₀) p words₀ h) = rw none at last in
+                let enough = enough-behind (s .run h .dropped) (leftIn h .0, 0 ∷ []) (s .run h .each) in
+                rw (left-words, s .run h .counted)
+                (ap₂ (λ (t : Bool) (k : ℕ). (markAll R (h .pool) (leftIn h .0), t, k)) (sym enough) (sym (length-append (s .run h .dropped) (0 ∷ [])))
+                ∙ ap (resultIn R (h .pool)) end)
+
+            -- the cells that it marked, and the entries that it dropped, leave fewer turns
+            less-checked : (kept ≡ top → ⊥) → turnsLeft R n w₃ (kept + 1) < turnsLeft R n words top
+            unfolding left-marked
+            less-checked some =
+                omega (
+                  arith,
+                  full,
+                  kept-fewer,
+                  some,
+                  facts .more,
+                  length-append (s .run h .marked .seen) (l ∷ r ∷ []),
+                  marked-count R n (h .pool) (well h) (pool-room h) (s .run h .marked),
+                  marked-count R n (h .pool) (well h) (pool-room h) left-marked,
+                  marked-le n (stateMarks R n w₃),
+                )
+
+          -- an entry went: the right link is pushed
+          hand-checked : length stack' ≡ length stack → kept < length stack → Hand R n p words₀ stack₀ w₃ (set stack' kept r) l (kept + 1) (checks + 1)
+          unfolding left-marked
+          hand-checked lent some =
+              record {
+                lent = length-set stack' kept r ∙ (lent ∙ s .lent);
+                fits = omega (arith, s .lent);
+                run = λ h.
+                    let (t, lasting, last) = checkedTurn h in
+                    let dropped = gone h in
+                    let went : 0 < dropped = omega (arith, counts h, entries-length stack (length stack)) in
+                    rw (entries-push stack' kept r (omega arith), left-entries h)
+                    (record {
+                      marked = left-marked h;
+                      turns = t;
+                      lasting = omega (arith, lasting, facts h .fewer, facts h .more);
+                      dropped = s .run h .dropped ++ dropped ∷ [];
+                      each = elem-append 0 (s .run h .dropped) (dropped ∷ []) ∙ rw (s .run h .each) (dropped-some dropped went);
+                      counted = rw (length-append (s .run h .dropped) (dropped ∷ [])) (ap (λ (k : ℕ). k + 1) (s .run h .counted));
+                      few = omega (arith, s .run h .few, facts h .more, length-append (s .run h .marked .seen) (l ∷ r ∷ []));
+                      last =
+                          ap (λ (x : List ℕ). (limited (length stack₀) n t (graphOf R (h .pool)) (leftIn h .0) (l ∷ r ∷ leftIn h .1) .0, x))
+                          (append-assoc (s .run h .dropped) (dropped ∷ []) (limited (length stack₀) n t (graphOf R (h .pool)) (leftIn h .0) (l ∷ r ∷ leftIn h .1) .1))
+                          ∙ (rw (lt-ltb 0 dropped went) at last);
+                    });
+              }
+
+          pub ready-checked : Pending R n words₀ (p ∷ []) → length stack' ≡ length stack → (kept ≡ top → ⊥) → {words' stack'' : List ℕ} {top' checks' : ℕ}
+              → words' ≡ w₃ → stack'' ≡ stack' → top' ≡ kept → checks' ≡ checks + 1 → Ready R n p words₀ stack₀ words top l r words' stack'' top' checks'
+          ready-checked h lent some ew es et ec =
+              let fits : kept < length stack = omega (arith, some, full, kept-fewer h) in
+              rw (ew, es, et, ec)
+              (record { room = omega arith; lent = lent ∙ s .lent; hand = hand-checked lent fits; less = less-checked h some })

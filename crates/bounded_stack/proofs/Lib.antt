@@ -1,4 +1,3 @@
 pub mod Cleared
-pub mod Simulation
 pub mod HandLoop
 pub mod RootLoop

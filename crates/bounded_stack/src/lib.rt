@@ -1,59 +1,48 @@
-// Marking with a lent stack, as far as its words go: a push that finds them full ends it.
+// Marking with a lent stack, whose entries are checked where its words are full.
 use pool::Pool;
+use stack_check::Onward;
 ghost use mathlib.Core.Path.{_≡_};
-ghost use Prim.Native.Nat.{_<_, _≤_};
+ghost use mathlib.Core.List.{[], _∷_};
+ghost use Prim.Native.Nat.{_≤_};
 ghost use lib.ListN.{length};
 ghost use mathlib.Core.Bool.{true};
-ghost use Rattle.pool.specs.Layout.{registerCount, poolLength, left, right};
+ghost use Rattle.pool.specs.Layout.{registerCount, poolLength};
 ghost use Rattle.questions.specs.Validity.{wellFormed};
-ghost use Rattle.bounded_stack.specs.Steps.{cleared, linksOf, onwardIn, Started, runFromCell, poolRun, Ran};
+ghost use Rattle.stack_check.specs.Steps.{Pending};
+ghost use Rattle.bounded_stack.specs.Steps.{cleared, resultIn, runFromCell, poolRun};
 
-// Where the marker goes on to from a cell: with two links unmarked it goes to the left one and pushes the right one.
-enum Onward {
-    Nowhere,
-    To(u32),
-    Both(u32, u32),
+// How a marking went: was the stack enough, and how many checks ran?
+pub struct Marking {
+    pub enough: bool,
+    pub checks: u32,
 }
 
-// Looks at both links of a cell. Two equal unmarked links are one.
-fn look(words: &[u32], n: u32, p: u32) -> Onward
-    requires { ⌜ (0 < p) × (p ≤ n) × (left registerCount (now words) p ≤ n) × (right registerCount (now words) p ≤ n) × (poolLength registerCount n ≤ length (now words)) ⌝ }
-    ensures { λ r. ⌜ linksOf r ≡ onwardIn registerCount (now (words .entry)) p ⌝ }
-{
-    let left = pool::link_of(words, p, Pool::LEFT);
-    let right = pool::link_of(words, p, Pool::RIGHT);
-    if reversal::is_unmarked(words, left) {
-        if left == right {
-            Onward::To(left)
-        } else if reversal::is_unmarked(words, right) {
-            Onward::Both(left, right)
-        } else {
-            Onward::To(left)
-        }
-    } else if reversal::is_unmarked(words, right) {
-        Onward::To(right)
-    } else {
-        Onward::Nowhere
-    }
-}
-
-// Marks from a cell in hand that was just marked, with the entries of the stack in the lent words, until the stack is empty. Was the stack enough?
-// Where it is not, some cells are left marked.
-fn mark_from(words: &mut [u32], n: u32, stack: &mut [u32], p: u32) -> bool
-    requires { ⌜ Started registerCount n p (now words) ⌝ }
+// Marks from a cell in hand that was just marked, with the entries of the stack in the lent words, until the stack is empty, or a check of full words finds
+// no entry that may go. Then some cells are left marked.
+fn mark_from(words: &mut [u32], n: u32, stack: &mut [u32], p: u32) -> Marking
+    requires { ⌜ Pending registerCount n (now words) (p ∷ []) ⌝ }
     requires { ⌜ poolLength registerCount n ≤ length (now words) ⌝ }
-    ensures { λ r. ⌜ ((h : Started registerCount n p (now (words .entry))) → Ran registerCount n (length (now (stack .entry))) (h .pool) (now (words .exit)) (runFromCell registerCount n p (now (words .entry)) h) r) ⌝ }
+    ensures { λ r. ⌜ ((h : Pending registerCount n (now (words .entry)) (p ∷ [])) → (now (words .exit), r .enough, r .checks) ≡ resultIn registerCount (h .pool) (runFromCell registerCount n (length (now (stack .entry))) p (now (words .entry)) h)) ⌝ }
 {
     let mut hand = p;
     let mut top = 0;
+    let mut checks = 0;
     loop {
-        match look(words, n, hand) {
+        match stack_check::look(words, n, hand) {
             Onward::Both(left, right) => {
-                if top == stack.len() {
-                    return false;
-                }
                 pool::mark_cell(words, left);
                 pool::mark_cell(words, right);
+                if top == stack.len() {
+                    let remaining = stack_check::check(words, n, stack);
+                    checks += 1;
+                    if remaining == top {
+                        return Marking {
+                            enough: false,
+                            checks,
+                        };
+                    }
+                    top = remaining;
+                }
                 stack[top] = right;
                 top += 1;
                 hand = left;
@@ -64,7 +53,10 @@ fn mark_from(words: &mut [u32], n: u32, stack: &mut [u32], p: u32) -> bool
             }
             Onward::Nowhere => {
                 if top == 0 {
-                    return true;
+                    return Marking {
+                        enough: true,
+                        checks,
+                    };
                 }
                 top -= 1;
                 hand = stack[top];
@@ -89,24 +81,30 @@ pub fn clear_marks(words: &mut [u32], n: u32)
     }
 }
 
-// Marks from every register in order. Was the stack enough? Where it is not, some cells are left marked.
-pub fn mark_registers(words: &mut [u32], n: u32, stack: &mut [u32]) -> bool
+// Marks from every register in order, as long as the stack is enough. Where it is not, some cells are left marked.
+pub fn mark_registers(words: &mut [u32], n: u32, stack: &mut [u32]) -> Marking
     requires { ⌜ (wellFormed registerCount n (now words) ≡ true) × (poolLength registerCount n ≤ length (now words)) ⌝ }
-    ensures { λ r. ⌜ Ran registerCount n (length (now (stack .entry))) (now (words .entry)) (now (words .exit)) (poolRun registerCount n (now (words .entry))) r ⌝ }
+    ensures { λ r. ⌜ (now (words .exit), r .enough, r .checks) ≡ resultIn registerCount (now (words .entry)) (poolRun registerCount n (length (now (stack .entry))) (now (words .entry))) ⌝ }
 {
+    let mut checks = 0;
     let mut k = 0;
     while k < Pool::REGISTERS {
         let p = pool::read_register(words, k);
         if reversal::is_unmarked(words, p) {
             pool::mark_cell(words, p);
-            if mark_from(words, n, stack, p) {
-                k += 1;
-            } else {
-                return false;
+            let run = mark_from(words, n, stack, p);
+            checks += run.checks;
+            if !run.enough {
+                return Marking {
+                    enough: false,
+                    checks,
+                };
             }
-        } else {
-            k += 1;
         }
+        k += 1;
     }
-    true
+    Marking {
+        enough: true,
+        checks,
+    }
 }

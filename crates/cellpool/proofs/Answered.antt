@@ -1,10 +1,12 @@
 -- From the contract of a call to that of its C function.
 use Prim.Native.Nat.{ℕ}
-use mathlib.Core.Path.{_≡_, ap, _∙_}
+use mathlib.Core.Path.{_≡_, sym, ap, _∙_}
 use Rattle.answers.specs.Outcome.{Outcome, answered, allocated, refused, status, given}
 use mathlib.Core.List.{List}
 use Rattle.collector.specs.Collect.{collectOf}
 use Rattle.tally.specs.declared.Tally.{Tally}
+use Rattle.stack_marker.specs.declared.StackAnswer.{StackAnswer}
+use Rattle.stack_marker.specs.StackCollect.{stackOutcome}
 use Rattle.tally.specs.TallyOf.{tallyAfter, tallyOf}
 use Rattle.cellpool.specs.Interface.{givingNone, giving, givingTwo, tallying, withStack, number, numbers, saving}
 
@@ -20,12 +22,13 @@ module _ {A : Type 0} (o : Outcome) (left : A) (x : Outcome × A) (call : _≡_ 
   giving-two-made v u old₀ old₁ said =
       ap (λ (p : ℕ × ℕ × ℕ). (p .0, left, p .1, p .2)) said ∙ ap (λ (y : Outcome × A). givingTwo y old₀ old₁) call
 
--- the same of the collection with a given stack
-pub stack-made : (w stack : List ℕ) (o : Outcome) (x : Outcome × List ℕ × List ℕ) → _≡_ {A = Outcome × List ℕ × List ℕ} (o, w, stack) x
-    → (q v u old₀ old₁ : ℕ) → _≡_ {A = ℕ × ℕ × ℕ} (q, v, u) (numbers o old₀ old₁)
-    → _≡_ {A = ℕ × List ℕ × List ℕ × ℕ × ℕ} (q, w, stack, v, u) (withStack x old₀ old₁)
-stack-made w stack o x call q v u old₀ old₁ said =
-    ap (λ (p : ℕ × ℕ × ℕ). (p .0, w, stack, p .1, p .2)) said ∙ ap (λ (y : Outcome × List ℕ × List ℕ). withStack y old₀ old₁) call
+-- the same of the collection with a lent stack
+pub stack-made : (w stack : List ℕ) (answer : StackAnswer) (x : Outcome × List ℕ × List ℕ) → _≡_ {A = Outcome × List ℕ × List ℕ} (stackOutcome answer, w, stack) x
+    → {answer' : StackAnswer} → answer ≡ answer' → (q v u t old₀ old₁ old₂ : ℕ) → q ≡ status (stackOutcome answer') → v ≡ given (stackOutcome answer') 0 old₀
+    → u ≡ given (stackOutcome answer') 1 old₁ → t ≡ given (stackOutcome answer') 2 old₂
+    → _≡_ {A = ℕ × List ℕ × List ℕ × ℕ × ℕ × ℕ} (q, w, stack, v, u, t) (withStack x old₀ old₁ old₂)
+stack-made w stack answer x call was q v u t old₀ old₁ old₂ said first second third =
+    rw (said, first, second, third, sym was) (ap (λ (y : Outcome × List ℕ × List ℕ). withStack y old₀ old₁ old₂) call)
 
 -- the same of save
 pub saving-made : (scratch out : List ℕ) (o : Outcome) (x : Outcome × List ℕ × List ℕ)

@@ -22,9 +22,9 @@ givingTwo x first second = (status (x .0), x .1, given (x .0) 0 first, given (x 
 abbrev pub tallying : Outcome × List ℕ × Tally → ℕ → ℕ → ℕ × List ℕ × ℕ × ℕ × ℕ × ℕ
 tallying x first second = (status (x .0), x .1, x .2 .collections, x .2 .visits, given (x .0) 0 first, given (x .0) 1 second)
 
--- The same of the collection that is lent a stack.
-abbrev pub withStack : Outcome × List ℕ × List ℕ → ℕ → ℕ → ℕ × List ℕ × List ℕ × ℕ × ℕ
-withStack x first second = (status (x .0), x .1, x .2, given (x .0) 0 first, given (x .0) 1 second)
+-- The collection that is lent a stack: its status, the pool and the stack, and three lent places.
+abbrev pub withStack : Outcome × List ℕ × List ℕ → ℕ → ℕ → ℕ → ℕ × List ℕ × List ℕ × ℕ × ℕ × ℕ
+withStack x first second third = (status (x .0), x .1, x .2, given (x .0) 0 first, given (x .0) 1 second, given (x .0) 2 third)
 
 -- An operation that leaves nothing but the number that it gives.
 abbrev pub number : Outcome → ℕ → ℕ × ℕ

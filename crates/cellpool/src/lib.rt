@@ -3,8 +3,10 @@
 use answers::Answer;
 use pool::Pool;
 use save::Saved;
+use stack_marker::StackAnswer;
 use tally::Tally;
 ghost use mathlib.Core.Path.{_≡_};
+ghost use mathlib.Core.Bool.{cond};
 ghost use Rattle.answers.specs.Outcome.{answerOutcome};
 ghost use Rattle.pool.specs.Fresh.{freshOf};
 ghost use Rattle.occupancy.specs.Occupancy.{occupancyOf};
@@ -167,17 +169,37 @@ pub extern "C" fn cellpool_collect_tally(
     store_two(answer, kept, visits)
 }
 
-// Kept, and 1 where the stack was enough, 0 where it was not.
+// 1 for yes, 0 for no.
+fn flag(yes: bool) -> u32
+    ensures { λ r. ⌜ r ≡ cond yes 1 0 ⌝ }
+{
+    if yes { 1 } else { 0 }
+}
+
+// Kept, 1 where the stack was enough and 0 where it was not, and the checks of its entries.
 #[no_mangle]
 pub extern "C" fn cellpool_collect_stack(
     words: &mut [u32],
     stack: &mut [u32],
     kept: &mut u32,
     enough: &mut u32,
+    checks: &mut u32,
 ) -> u32
-    ensures { λ q. ⌜ (q, now (words .exit), now (stack .exit), now (kept .exit), now (enough .exit)) ≡ withStack (stackOf (now (words .entry)) (now (stack .entry))) (now (kept .entry)) (now (enough .entry)) ⌝ }
+    ensures { λ q. ⌜ (q, now (words .exit), now (stack .exit), now (kept .exit), now (enough .exit), now (checks .exit)) ≡ withStack (stackOf (now (words .entry)) (now (stack .entry))) (now (kept .entry)) (now (enough .entry)) (now (checks .entry)) ⌝ }
 {
-    store_two(stack_marker::collect_stack(words, stack), kept, enough)
+    match stack_marker::collect_stack(words, stack) {
+        StackAnswer::Collected {
+            kept: cells,
+            enough: is_enough,
+            checks: made,
+        } => {
+            *kept = cells;
+            *enough = flag(is_enough);
+            *checks = made;
+            0
+        }
+        StackAnswer::Refused(refusal) => refusal.number(),
+    }
 }
 
 // The words become a pool for which the collection with a stack holds the most entries, and `entries` their number.

@@ -63,7 +63,7 @@ module _ (n : ℕ) (g : Graph) (same : (i : ℕ) → 0 < i → i ≤ n → Agree
           subst (Reach g (1 ∷ roots)) link (Reach.right (odd-reached k (omega arith)) (omega arith))
 
   -- the odd cell 2 k + 1 in hand, where no higher cell is marked: both of its links are unmarked, and not equal
-  both-links : (k : ℕ) (seen : List ℕ) → 2 * k + 3 ≤ n → Each (λ x. x ≤ 2 * k + 1) seen → onward g seen (2 * k + 1) ≡ (2 * suc k + 1) ∷ (2 * k + 2) ∷ []
+  pub both-links : (k : ℕ) (seen : List ℕ) → 2 * k + 3 ≤ n → Each (λ x. x ≤ 2 * k + 1) seen → onward g seen (2 * k + 1) ≡ (2 * suc k + 1) ∷ (2 * k + 2) ∷ []
   both-links k seen h low =
       simp (
         left-link k h,

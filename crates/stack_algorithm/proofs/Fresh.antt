@@ -15,7 +15,7 @@ use Rattle.graph.specs.Theorems.{Distinct}
 use Rattle.graph.proofs.Lists.{Each, each-nil, each-cons, has-member, has-none, member-has}
 use Rattle.graph.proofs.Marks.{mark-other, outside-cell}
 use Rattle.graph.proofs.Count.{marked-le, marked-mark}
-use Rattle.stack_algorithm.specs.Stack.{isUnmarked, unmarkedLinks}
+use Rattle.stack_algorithm.specs.Stack.{isUnmarked, unmarkedLinks, taken}
 
 -- an unmarked link is a cell that is not among the marked ones, and every other one is nil or among them
 pub fresh-true : (seen : List ℕ) (x : ℕ) → isUnmarked seen x ≡ true → (0 < x) × (List·Memᴰ x seen → ⊥)
@@ -35,6 +35,19 @@ member-fresh seen (ℕ.suc x) mem = simp (ne-eqb (suc x) 0 (omega arith), has-me
 
 pub other-fresh : (seen : List ℕ) (x : ℕ) → 0 < x → (List·Memᴰ x seen → ⊥) → isUnmarked seen x ≡ true
 other-fresh seen x some out = simp (ne-eqb x 0 (omega arith), has-none x seen out)
+
+-- a list with a member has some length
+pub member-some : {x : ℕ} {t : List ℕ} → List·Memᴰ x t → 0 < length t
+member-some (List·Memᴰ·head e) = omega arith
+member-some (List·Memᴰ·tail mem) = omega arith
+
+-- at most one cell is taken in hand from a root
+pub taken-one : (seen : List ℕ) (p : ℕ) → length (taken seen p) ≤ 1
+taken-one seen p = go (isUnmarked seen p)
+  where
+    go : (t : Bool) → length (cond t (p ∷ []) []) ≤ 1
+    go true = omega arith
+    go false = omega arith
 
 -- marking a list of cells, none of them twice, of which none was marked: as many more are marked
 pub marked-all : (n : ℕ) (m : ℕ → ℕ) {t : List ℕ} → Distinct t → Each (λ x. (0 < x) × (x ≤ n) × (m x ≡ 0)) t → markedCount n (marks m t) ≡ length t + markedCount n m

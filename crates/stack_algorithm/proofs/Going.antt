@@ -11,18 +11,9 @@ use Rattle.graph.specs.Theorems.{Distinct}
 use Rattle.graph.proofs.Lists.{Each, each-nil, each-cons, each-append, distinct-append}
 use Rattle.graph.proofs.Reached.{reach-least, reach-above, reach-within}
 use Rattle.stack_algorithm.specs.Stack.{isUnmarked, onward, holding, run, taken, runs, stackRun}
-use Rattle.stack_algorithm.specs.Steps.{LinksSeen}
+use Rattle.stack_algorithm.specs.Steps.{LinksSeen, Going}
 use Rattle.stack_algorithm.specs.StackTheorem.{StackEnds, StackMarksTheReached, StackMarksOnce, StackBound}
 use Rattle.stack_algorithm.proofs.Fresh.{fresh-true, fresh-false, distinct-length, Passing, passing}
-
--- Between two turns: what is marked is reached, and none of it twice; what is pending is marked, and so are the links of every marked cell that is not
--- pending; a push marks two cells for one entry, and the first cell is marked without one.
-pub record Going (g : Graph) (roots seen pending : List ℕ) : Type 0 where
-  pub cells : Each (Reach g roots) seen
-  pub distinct : Distinct seen
-  pub held : Each (λ x. List·Memᴰ x seen) pending
-  pub closed : (x : ℕ) → List·Memᴰ x seen → List·Memᴰ x pending ⊎ LinksSeen g seen x
-  pub few : 2 * length pending ≤ suc (length seen)
 
 -- the unmarked links of a reached cell are reached
 pub links-reached : {g : Graph} {roots : List ℕ} {p : ℕ} (seen : List ℕ) → Reach g roots p → Each (Reach g roots) (onward g seen p)

@@ -2,4 +2,9 @@ pub mod Fresh
 pub mod Cases
 pub mod Going
 pub mod Chain
+pub mod Checking
+pub mod NoCheck
+pub mod Longer
 pub mod Comb
+pub mod CombChecks
+pub mod CheckExample

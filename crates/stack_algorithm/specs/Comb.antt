@@ -3,9 +3,11 @@ use Prim.Native.Nat.{ℕ, _+_, _-_, _/_, _%_, _<_, _≤_}
 use mathlib.Core.Path.{_≡_}
 use mathlib.Core.List.{[], _∷_}
 use mathlib.Core.Bool.{cond}
+use lib.ListN.{replicate}
 use lib.Dec.{eqb, leb}
 use Rattle.graph.specs.Graph.{Graph, Reach}
 use Rattle.stack_algorithm.specs.Stack.{maxEntries}
+use Rattle.stack_algorithm.specs.Check.{limitedRun}
 
 -- A link to cell x of n cells, nil where x is past n.
 abbrev pub orNil : ℕ → ℕ → ℕ
@@ -35,3 +37,12 @@ CombReached = (n x : ℕ) → 0 < x → x ≤ n → Reach (comb n) (1 ∷ []) x
 -- of n cells holds more.)
 abbrev pub CombHolds : Type 0
 CombHolds = (n : ℕ) → maxEntries n (comb n) (1 ∷ []) ≡ (n - 1) / 2
+
+-- The comb with one word at least (02, S-5): the entries are leaves, so that each check drops all of them, and the next is made by the push that finds the words
+-- full again.
+abbrev pub CombChecks : Type 0
+CombChecks = (n room : ℕ) → 0 < room → limitedRun room n (comb n) (1 ∷ []) .1 ≡ replicate (((n - 1) / 2 - 1) / room) room
+
+-- With no word, there is no entry that the first check could drop.
+abbrev pub CombWithoutWords : Type 0
+CombWithoutWords = (n : ℕ) → 3 ≤ n → limitedRun 0 n (comb n) (1 ∷ []) .1 ≡ 0 ∷ []

@@ -1,4 +1,7 @@
 pub mod Stack
-pub mod StackTheorem
-pub mod Comb
 pub mod Steps
+pub mod StackTheorem
+pub mod Check
+pub mod CheckTheorem
+pub mod Comb
+pub mod CheckExample

@@ -1,5 +1,5 @@
 -- Marking with a stack that has no limit (01, "Marking with a lent stack", after Kurokawa's Algorithm 2; 02, S-2, "Two links, one branch").
-use Prim.Native.Nat.{ℕ, zero, suc, max}
+use Prim.Native.Nat.{ℕ, zero, suc, _≤_, max}
 use mathlib.Core.List.{List, [], _∷_, _++_}
 use mathlib.Core.Bool.{Bool, true, false, cond, _||_, not}
 use lib.ListN.{length}
@@ -57,3 +57,7 @@ stackMarked n g roots = stackRun n g roots .0
 -- The most entries that its stack ever holds.
 abbrev pub maxEntries : ℕ → Graph → List ℕ → ℕ
 maxEntries n g roots = stackRun n g roots .1
+
+-- 01's "enough": "when Algorithm 2 never holds more entries than there are words".
+abbrev pub HoldsAll : ℕ → ℕ → Graph → List ℕ → Type 0
+HoldsAll room n g roots = maxEntries n g roots ≤ room

@@ -4,14 +4,14 @@ use Rattle.graph.specs.Preorder.{elem, visit, visits, preorder}
 use Rattle.pool.specs.Words.{tabulate, every}
 use Rattle.pool.specs.Layout.{cellCountOfLength, count, cellCount, head, register, cell, setCell}
 use Rattle.pool.specs.Retain.{lowestFree, retain}
-use Rattle.stack_algorithm.specs.Stack.{run, runs}
+use Rattle.stack_algorithm.specs.Check.{check, limited, limitedRuns}
 use Rattle.stack_marker.specs.StackExample.{LeafExample, ForkExample}
 use Rattle.reversal.specs.Reached.{visitsOf}
 
 pub leaf-example : LeafExample
-unfolding elem visit visits preorder visitsOf tabulate every cellCountOfLength count cellCount head register cell setCell lowestFree retain run runs
+unfolding elem visit visits preorder visitsOf tabulate every cellCountOfLength count cellCount head register cell setCell lowestFree retain check limited limitedRuns
 leaf-example = (refl, refl)
 
 pub fork-example : ForkExample
-unfolding elem visit visits preorder visitsOf tabulate every cellCountOfLength count cellCount head register cell setCell lowestFree retain run runs
+unfolding elem visit visits preorder visitsOf tabulate every cellCountOfLength count cellCount head register cell setCell lowestFree retain check limited limitedRuns
 fork-example = (refl, refl)

@@ -5,6 +5,7 @@ mod totals;
 mod words;
 
 use answers::Answer;
+use stack_marker::StackAnswer;
 ghost use mathlib.Core.Path.{_≡_};
 ghost use mathlib.Core.Bool.{true};
 ghost use Prim.Native.Nat.{_≤_};
@@ -35,11 +36,20 @@ struct Trial {
     marker: u32,
 }
 
-// How a trial went: whether the answer and all words were as expected, the kept cells that were expected, and the answer's last number.
+// What a collection said: 0 or the refusal, the kept cells, the visits, or with a stack 1 where it was enough, and the checks of its entries.
+struct Said {
+    status: u32,
+    kept: u32,
+    more: u32,
+    checks: u32,
+}
+
+// How a trial went: whether the answer and all words were as expected, the kept cells that were expected, and the answer's further numbers.
 struct Outcome {
     agreed: bool,
     kept: u32,
     more: u32,
+    checks: u32,
 }
 
 // The trials are numbered: for each seed every marker, on the pool and then on the damaged pool.
@@ -56,12 +66,37 @@ fn trial_of(number: u32) -> Trial
     }
 }
 
+fn of_answer(answer: Answer) -> Said {
+    Said {
+        status: answer.status(),
+        kept: answer.first(),
+        more: answer.second(),
+        checks: 0,
+    }
+}
+
+fn of_stack_answer(answer: StackAnswer) -> Said {
+    match answer {
+        StackAnswer::Collected {
+            kept,
+            enough,
+            checks,
+        } => Said {
+            status: 0,
+            kept,
+            more: if enough { 1 } else { 0 },
+            checks,
+        },
+        StackAnswer::Refused(refusal) => of_answer(Answer::Refused(refusal)),
+    }
+}
+
 // Collects with one of the markers.
-fn collect(words: &mut [u32], stack: &mut [u32], marker: u32) -> Answer {
+fn collect(words: &mut [u32], stack: &mut [u32], marker: u32) -> Said {
     match marker {
-        REVERSAL => collector::collect(words),
-        RECURSIVE => recursive_marker::collect_recursive(words),
-        _ => stack_marker::collect_stack(words, stack),
+        REVERSAL => of_answer(collector::collect(words)),
+        RECURSIVE => of_answer(recursive_marker::collect_recursive(words)),
+        _ => of_stack_answer(stack_marker::collect_stack(words, stack)),
     }
 }
 
@@ -109,18 +144,23 @@ fn expect(after: &mut [u32], trial: Trial) -> u32
     words::keep_marked(after, trial.n, &marks)
 }
 
-// Is the answer the one that has to come: the kept cells, and the visits, or with a stack 1 where it was enough? As many stack words as cells have to be enough.
-fn is_expected(answer: Answer, trial: Trial, kept: u32) -> bool {
-    if answer.status() != refusal_of(trial) {
+// Is it what has to be said: the kept cells, and the visits; with as many stack words as cells, that they were enough, without a check; with none, that they were
+// enough exactly where no check was made, and there is one at most?
+fn is_expected(said: Said, trial: Trial, kept: u32) -> bool {
+    if said.status != refusal_of(trial) {
         return false;
     }
-    if answer.first() != kept {
+    if said.kept != kept {
         return false;
+    }
+    if said.status != 0 {
+        return true;
     }
     let marker = trial.marker;
     match marker {
-        REVERSAL | RECURSIVE => answer.second() as u64 == 3 * (kept as u64),
-        N_WORDS => answer.second() == 1 || answer.status() != 0,
+        REVERSAL | RECURSIVE => said.more as u64 == 3 * (kept as u64),
+        N_WORDS => said.more == 1 && said.checks == 0,
+        NO_WORDS => said.more as u64 + said.checks as u64 == 1,
         _ => true,
     }
 }
@@ -142,14 +182,15 @@ fn run(words: &mut [u32], after: &mut [u32], stack: &mut [u32], trial: Trial) ->
     let kept = expect(after, trial);
     make(words, trial);
     words::set_all(stack, 7);
-    let answer = collect(words, stack, trial.marker);
-    let is_answer = is_expected(answer, trial, kept);
+    let said = collect(words, stack, trial.marker);
+    let is_answer = is_expected(said, trial, kept);
     let is_stack = is_stack_expected(stack, trial);
     let is_same = words::same(words, after);
     Outcome {
         agreed: is_answer & is_stack & is_same,
         kept,
-        more: answer.second(),
+        more: said.more,
+        checks: said.checks,
     }
 }
 
@@ -171,7 +212,7 @@ fn main() {
     let mut words = [0u32; 16018];
     let mut after = [0u32; 16018];
     let mut stack = [0u32; 4000];
-    let mut t = [0u32; 19];
+    let mut t = [0u32; 22];
     let mut number = SEEDS * 2 * MARKERS;
     while 0 < number {
         number -= 1;
@@ -179,9 +220,10 @@ fn main() {
         let outcome = run_in(&mut words, &mut after, &mut stack, trial);
         totals::count_pool(&mut t, trial.marker, trial.malformed, trial.n, outcome.kept);
         totals::count_trial(&mut t, trial.marker, outcome.agreed, outcome.more);
+        totals::count_checks(&mut t, trial.marker, outcome.checks);
     }
     totals::print(
         &t,
-        b"well-formed pools: #\ncells: #\nkept cells: #\nmalformed pools: #\nreversal: agreed #, differed #, visits #\nrecursive marker: agreed #, differed #, visits #\nstack of no words: agreed #, differed #, enough #\nstack of one word: agreed #, differed #, enough #\nstack of N words: agreed #, differed #, enough #\n",
+        b"well-formed pools: #\ncells: #\nkept cells: #\nmalformed pools: #\nreversal: agreed #, differed #, visits #\nrecursive marker: agreed #, differed #, visits #\nstack of no words: agreed #, differed #, enough #\nstack of one word: agreed #, differed #, enough #\nstack of N words: agreed #, differed #, enough #\nchecks with no words: #\nchecks with one word: #\nchecks with N words: #\n",
     );
 }

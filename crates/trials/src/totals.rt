@@ -2,8 +2,8 @@
 use libc::STDOUT_FILENO;
 
 // The number of well-formed pools, of their cells and of the kept cells, of malformed pools; then for each marker on how many pools it agreed, on how
-// many it differed, and the sum of its visits, or of the pools for which its stack was enough.
-pub type Totals = [u32; 19];
+// many it differed, and the sum of its visits, or of the pools for which its stack was enough; then for each marker with a stack its checks.
+pub type Totals = [u32; 22];
 
 fn get(t: &Totals, place: usize) -> u32 {
     if place < t.len() { t[place] } else { 0 }
@@ -38,6 +38,18 @@ pub fn count_trial(t: &mut Totals, marker: u32, agreed: bool, more: u32) {
         count(t, place + 1, 1);
     }
     count(t, place + 2, more);
+}
+
+// The number of the first marker with a stack, and the place of its checks.
+const FIRST_STACK: u32 = 2;
+
+const FIRST_CHECKS: usize = 19;
+
+// The checks of a marker with a stack.
+pub fn count_checks(t: &mut Totals, marker: u32, checks: u32) {
+    if FIRST_STACK <= marker {
+        count(t, FIRST_CHECKS + ((marker - FIRST_STACK) as usize), checks);
+    }
 }
 
 // Prints a text, with the totals in order at its number signs.

@@ -29,8 +29,13 @@ use Rattle.stack_algorithm.proofs.Chain.{equal-links-need-none}
 use Rattle.stack_marker.proofs.StackCollects.{stack-collects}
 use Rattle.stack_algorithm.proofs.Going.{stack-ends, stack-marks-the-reached, stack-marks-once, stack-bound}
 use Rattle.stack_algorithm.proofs.Cases.{stack-cases}
+use Rattle.stack_algorithm.specs.Comb.{comb}
 use Rattle.stack_algorithm.proofs.Comb.{comb-reached}
-use Rattle.worst_case.proofs.Theorems.{worst-case-built, no-pool-holds-more, half-is-enough, fewer-are-not}
+use Rattle.stack_algorithm.proofs.CombChecks.{comb-checks, comb-without-words}
+use Rattle.stack_algorithm.proofs.Checking.{check-loses-nothing, limited-marks-the-reached, limited-marks-only-reached, few-checks}
+use Rattle.stack_algorithm.proofs.NoCheck.{no-check}
+use Rattle.stack_algorithm.proofs.Longer.{limited-ends}
+use Rattle.worst_case.proofs.Theorems.{worst-case-built, no-pool-holds-more, half-is-enough, fewer-are-checked, none-is-not-enough, one-less-is-checked}
 use Rattle.calls.specs.declared.Call.the-variants as call
 use Rattle.batch.proofs.Whole.{runs-one-after-the-other}
 use Rattle.invariant.proofs.Theorems.{reached-pools}
@@ -46,8 +51,8 @@ use Rattle.script.proofs.Scanning.{parts-read}
 use Rattle.replies.proofs.Decimals.{decimals-read-back, fewest-digits}
 use Rattle.runner.specs.Work.{initial}
 use Rattle.runner.proofs.Whole.{starts-whole, parts-join, last-line-ends}
-use Rattle.worked_examples.specs.Instances.{around, three, threeCollected, two, graph, roots, twoRuns, Swapped, image, twoCells, words, scratch, output, calls, list, lent, out, padded, lines, progress, largest}
-use Rattle.worked_examples.proofs.Instances.{pool-instance, reversal-instance, runs-instance, graph-instance, number-instance, image-instance, worst-case-instance, batch-instance, script-instance}
+use Rattle.worked_examples.specs.Instances.{around, three, threeCollected, two, graph, roots, twoRuns, Swapped, image, twoCells, words, scratch, output, calls, list, lent, lentForFive, out, padded, lines, progress, largest}
+use Rattle.worked_examples.proofs.Instances.{pool-instance, reversal-instance, runs-instance, graph-instance, number-instance, image-instance, check-instance, worst-case-instance, batch-instance, script-instance}
 
 pub applied : Unit {0}
 unfolding visitsOf
@@ -60,6 +65,7 @@ applied =
     let i = image-instance in
     let b = batch-instance in
     let s = script-instance in
+    let h = check-instance in
     let c = worst-case-instance in
     let t = collection-keeps-the-reached 3 three (p .some) (p .cells) (p .well-formed) in
     let t = collection-marks-and-sweeps 3 three (p .some) (p .cells) (p .well-formed) in
@@ -102,7 +108,17 @@ applied =
     let t = worst-case-built lent (c .target) in
     let t = no-pool-holds-more registerCount 3 three (p .well-formed) in
     let t = half-is-enough 3 three (9 ∷ []) (p .some) (p .cells) (p .well-formed) (c .half) in
-    let t = fewer-are-not lent [] (c .fewer) in
+    let t = fewer-are-checked lentForFive (9 ∷ []) (c .five) (c .word) in
+    let t = none-is-not-enough lent (c .three-cells) in
+    let t = one-less-is-checked lentForFive (9 ∷ []) (c .one-less) in
+    let t = check-loses-nothing 5 (comb 5) (1 ∷ []) (1 ∷ 3 ∷ 2 ∷ 5 ∷ 4 ∷ []) (5 ∷ 4 ∷ []) (2 ∷ []) (h .before) in
+    let t = limited-ends 1 5 (comb 5) (1 ∷ []) (h .within) 6 (h .turns) in
+    let t = limited-marks-the-reached 1 5 (comb 5) (1 ∷ []) (h .within) (h .enough) in
+    let t = limited-marks-only-reached 1 5 (comb 5) (1 ∷ []) (h .within) in
+    let t = no-check 2 5 (comb 5) (1 ∷ []) (h .within) .1 (h .entries) in
+    let t = few-checks 1 5 (comb 5) (1 ∷ []) (h .within) in
+    let t = comb-checks 5 1 (c .word) in
+    let t = comb-without-words 3 (omega arith) in
     let t = one-to-five-bytes 4294967295 (k .largest) in
     let t = reads-encodings around 1 300 3 (k .bytes) .0 (k .read) in
     let t = reads-encodings around 1 300 3 (k .bytes) .1 (k .encoded) in

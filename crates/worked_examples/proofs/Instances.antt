@@ -14,6 +14,7 @@ use Rattle.graph.specs.Dfs.{mark, marks, Dfs}
 use Rattle.graph.specs.Marking.{outside, markedCount}
 use Rattle.graph.specs.Compare.{Agree, OneToOne}
 use Rattle.graph.proofs.Marks.{outside-cell, outside-past, outside-nil, cells-outside}
+use Rattle.graph.proofs.Lists.{each-nil, each-cons}
 use Rattle.graph.proofs.Depth.{order-dfs}
 use Rattle.graph.proofs.Theorems.{order-closure, preorder-reached}
 use Rattle.graph.proofs.Pairing.{pairing-kept}
@@ -28,6 +29,10 @@ use Rattle.reversal.specs.Reversal.{visitOf, Visits, Run, MarkRoots}
 use Rattle.reversal.specs.Cases.{trace, followed, fourWays, traceRoots, begins}
 use Rattle.reversal.specs.ReversalTheorem.{Agreement, Untouched}
 use Rattle.stack_algorithm.specs.Stack.{run, runs}
+use Rattle.stack_algorithm.specs.Check.{walk, check, limited, limitedRuns}
+use Rattle.stack_algorithm.specs.Comb.{comb}
+use Rattle.stack_algorithm.proofs.Going.{going-first, begin, turn}
+use Rattle.stack_algorithm.proofs.Comb.{link-bound}
 use Rattle.worst_case.specs.WorstCase.{putComb}
 use Rattle.batch.specs.Program.{programOf, programOfCalls}
 use Rattle.batch.specs.Run.{runFrom, afterAll}
@@ -38,7 +43,7 @@ use Rattle.script.specs.Lines.{all, command}
 use Rattle.script.specs.Reader.{spaceOf, letterOf, digitOf, feedOf, endOf, begunOf}
 use Rattle.replies.specs.Replies.{digits, decimal}
 use Rattle.script.specs.Scripts.{nextLine}
-use Rattle.worked_examples.specs.Instances.{three, threeCollected, two, graph, roots, twoRuns, Swapped, around, image, PoolInstance, ReversalInstance, RunsInstance, GraphInstance, NumberInstance, ImageInstance, WorstCaseInstance, BatchInstance, ScriptInstance}
+use Rattle.worked_examples.specs.Instances.{three, threeCollected, two, graph, roots, twoRuns, Swapped, around, image, PoolInstance, ReversalInstance, RunsInstance, GraphInstance, NumberInstance, ImageInstance, CheckInstance, WorstCaseInstance, BatchInstance, ScriptInstance}
 use Rattle.reversal.specs.Reached.{visitsOf}
 
 -- Every element of a list that is tested whole is below a bound.
@@ -66,7 +71,7 @@ apart (List·Memᴰ·head e) = omega arith
 apart (List·Memᴰ·tail (List·Memᴰ·head e)) = omega arith
 
 pub pool-instance : PoolInstance
-unfolding elem visit visits preorder visitsOf tabulate every cellCountOfLength count setCount cellCount head register cell setCell lowestFree retain run runs
+unfolding elem visit visits preorder visitsOf tabulate every cellCountOfLength count setCount cellCount head register cell setCell lowestFree retain limited limitedRuns
 pool-instance =
     record { some = omega arith; most = omega arith; room = omega arith; cells = refl; well-formed = refl; answer = refl; full = refl; stack = refl; no-stack = refl }
 
@@ -250,9 +255,37 @@ image-instance =
       other-read = refl;
     }
 
+pub check-instance : CheckInstance
+unfolding elem run runs walk check limited limitedRuns
+check-instance =
+    record {
+      within = record {
+        root = each-cons (λ x. x ≤ 5) (omega arith) (each-nil (λ x. x ≤ 5));
+        left = λ x reach. link-bound 5 x 2;
+        right = λ x reach. link-bound 5 x 1;
+      };
+      before = turn (turn (begin (going-first (comb 5) (1 ∷ [])) 1 (Reach.root (List·Memᴰ·head refl))));
+      left = refl;
+      run = refl;
+      enough = refl;
+      turns = omega arith;
+      entries = omega arith;
+    }
+
 pub worst-case-instance : WorstCaseInstance
-unfolding elem visit visits preorder visitsOf tabulate every cellCountOfLength count setCount cellCount head register setRegister cell setCell lowestFree retain run runs putComb
-worst-case-instance = record { target = omega arith; built = refl; half = omega arith; fewer = omega arith; short = refl }
+unfolding elem visit visits preorder visitsOf tabulate every cellCountOfLength count setCount cellCount head register setRegister cell setCell lowestFree retain walk check limited limitedRuns putComb
+worst-case-instance =
+    record {
+      target = omega arith;
+      built = refl;
+      half = omega arith;
+      three-cells = omega arith;
+      short = refl;
+      five = omega arith;
+      word = omega arith;
+      one-less = omega arith;
+      checked = refl;
+    }
 
 pub batch-instance : BatchInstance
 unfolding elem visit visits preorder visitsOf tabulate every cellCountOfLength count setCount cellCount head setHead register setRegister cell setCell lowestFree retain programOf programOfCalls runFrom afterAll poolAnswers

@@ -4,12 +4,12 @@ use Rattle.leb128.specs.Leb128.{groups, encode, readFurther, readGroups, readAt
 use Rattle.graph.specs.Preorder.{elem, visit, visits, preorder}
 use Rattle.pool.specs.Words.{tabulate, every}
 use Rattle.pool.specs.Layout.{cellCountOfLength, count, cellCount, register, cell}
-use Rattle.stack_algorithm.specs.Stack.{run, runs}
+use Rattle.stack_algorithm.specs.Check.{walk, check, limited, limitedRuns}
 use Rattle.worst_case.specs.WorstCase.{putComb}
 use Rattle.image.specs.Image.{readEach, readImage}
 use Rattle.worked_examples.specs.Table.{All, WorkedExamples}
 use Rattle.reversal.specs.Reached.{visitsOf}
 
 pub worked-examples : WorkedExamples
-unfolding All groups encode readFurther readGroups readAt elem visit visits preorder visitsOf tabulate every cellCountOfLength count cellCount register cell readEach readImage run runs putComb
-worked-examples = (refl, (refl, (refl, (refl, (refl, (refl, (refl, (refl, (refl, (refl, (refl, (refl, (refl, (refl, (refl, (refl, (refl, (refl, (refl, (refl, (refl, (refl, (refl, (refl, (refl, (refl, (refl, tt)))))))))))))))))))))))))))
+unfolding All groups encode readFurther readGroups readAt elem visit visits preorder visitsOf tabulate every cellCountOfLength count cellCount register cell readEach readImage walk check limited limitedRuns putComb
+worked-examples = (refl, (refl, (refl, (refl, (refl, (refl, (refl, (refl, (refl, (refl, (refl, (refl, (refl, (refl, (refl, (refl, (refl, (refl, (refl, (refl, (refl, (refl, (refl, (refl, (refl, (refl, (refl, (refl, (refl, (refl, (refl, (refl, (refl, (refl, (refl, tt)))))))))))))))))))))))))))))))))))

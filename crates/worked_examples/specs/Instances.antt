@@ -1,5 +1,5 @@
 -- No theorem is vacuous: the hypotheses of each are met by an instance, most of them by one pool, on which what the theorem says is not trivial.
-use Prim.Native.Nat.{ℕ, suc, _*_, _-_, _/_, _^_, _<_, _≤_}
+use Prim.Native.Nat.{ℕ, suc, _+_, _*_, _-_, _/_, _^_, _<_, _≤_}
 use Prim.Native.Char.{code}
 use mathlib.Core.Path.{_≡_}
 use mathlib.Core.List.{List, [], _∷_, _++_, List·Memᴰ}
@@ -23,11 +23,15 @@ use Rattle.reversal.specs.Reversal.{Visitable, marker, MarkRoots}
 use Rattle.reversal.specs.Cases.{trace, followed, fourWays, traceRoots, begins}
 use Rattle.reversal.specs.ReversalTheorem.{Agreement}
 use Rattle.recursive_marker.specs.Steps.{Markable}
-use Rattle.stack_algorithm.specs.Stack.{isUnmarked, stackRun}
+use Rattle.stack_algorithm.specs.Stack.{isUnmarked, stackRun, maxEntries}
+use Rattle.stack_algorithm.specs.Steps.{Going}
+use Rattle.stack_algorithm.specs.Check.{check, isEnough, limitedRun}
+use Rattle.stack_algorithm.specs.Comb.{comb}
 use Rattle.stack_algorithm.specs.StackTheorem.{chain}
 use Rattle.stack_marker.specs.StackCollect.{stackOf}
 use Rattle.stack_marker.specs.StackExample.{forkPool}
 use Rattle.worst_case.specs.WorstCase.{worstCaseOf}
+use Rattle.worst_case.specs.Example.{fivePool}
 use Rattle.calls.specs.declared.Call.{Call}
 use Rattle.calls.specs.declared.Call.the-variants as call
 use Rattle.batch.specs.declared.Ran.the-variants as ran
@@ -79,8 +83,8 @@ pub record PoolInstance : Type 0 where
   pub answer : collectOf three ≡ (answered (2 ∷ 6 ∷ []), threeCollected)
   pub full : collectOf two ≡ (answered (2 ∷ 6 ∷ []), two)
   -- With a lent stack of one word it does the same, and also with none, as the two links that are unmarked are equal.
-  pub stack : stackOf three (9 ∷ []) ≡ (answered (2 ∷ 1 ∷ []), threeCollected, 0 ∷ [])
-  pub no-stack : stackOf three [] ≡ (answered (2 ∷ 1 ∷ []), threeCollected, [])
+  pub stack : stackOf three (9 ∷ []) ≡ (answered (2 ∷ 1 ∷ 0 ∷ []), threeCollected, 0 ∷ [])
+  pub no-stack : stackOf three [] ≡ (answered (2 ∷ 1 ∷ 0 ∷ []), threeCollected, [])
 
 -- `RunFromLink` and `RunFollows`, from link 1, and `RunFromRoots` (that the roots are cells is `within .root` of GraphInstance).
 pub record ReversalInstance : Type 0 where
@@ -221,19 +225,39 @@ out = replicate 7 5
 abbrev pub lent : List ℕ
 lent = replicate 30 9
 
--- The pool that fills the stack, built in these words: cell 1 leads to 3 and 2.
+-- And for one of five.
+abbrev pub lentForFive : List ℕ
+lentForFive = replicate 38 9
+
+-- The pool that fills the stack, built in the words for three cells: cell 1 leads to 3 and 2.
 abbrev pub worstOfThree : List ℕ
 worstOfThree = (3 ∷ 0 ∷ 1 ∷ []) ++ replicate 15 0 ++ (0 ∷ 3 ∷ 2 ∷ 0 ∷ []) ++ replicate 8 0
 
--- `WorstCaseBuilt`, `HalfIsEnough` and `FewerAreNot`. (`NoPoolHoldsMore` asks for a well-formed pool, as in PoolInstance; `CombReached` and `CombHolds` ask
--- for no more than a number of cells.)
+-- `CheckLosesNothing`, `LimitedEnds`, `LimitedMarksTheReached`, `LimitedMarksOnlyReached`, `NoCheck` and `FewChecks`, on the comb of five cells with one word:
+-- with 3 in hand, and 5 and 4 marked, the word holds 2, a leaf, and the check drops it. With two words there is no check.
+pub record CheckInstance : Type 0 where
+  pub within : Within 5 (comb 5) (1 ∷ [])
+  pub before : Going (comb 5) (1 ∷ []) (1 ∷ 3 ∷ 2 ∷ 5 ∷ 4 ∷ []) ((5 ∷ 4 ∷ []) ++ (2 ∷ []))
+  pub left : check 5 (comb 5) (1 ∷ 3 ∷ 2 ∷ 5 ∷ 4 ∷ []) (2 ∷ []) ≡ (1 ∷ 3 ∷ 2 ∷ 5 ∷ 4 ∷ [], [])
+  pub run : limitedRun 1 5 (comb 5) (1 ∷ []) ≡ (1 ∷ 3 ∷ 2 ∷ 5 ∷ 4 ∷ [], 1 ∷ [])
+  pub enough : isEnough (limitedRun 1 5 (comb 5) (1 ∷ [])) ≡ true
+  pub turns : 5 ≤ 6
+  pub entries : maxEntries 5 (comb 5) (1 ∷ []) ≤ 2
+
+-- `WorstCaseBuilt`, `HalfIsEnough`, `FewerAreChecked`, `NoneIsNotEnough` and `OneLessIsChecked`. (`NoPoolHoldsMore` asks for a well-formed pool, as in
+-- PoolInstance; `CombReached`, `CombHolds`, `CombChecks` and `CombWithoutWords` ask for no more than numbers of cells and of words.)
 pub record WorstCaseInstance : Type 0 where
   pub target : 0 < cellCountOfLength registerCount (length lent)
   pub built : worstCaseOf lent ≡ (answered (1 ∷ []), worstOfThree)
   -- one word is enough for the pool of three cells above, and none is not for the one that is built
   pub half : (3 - 1) / 2 ≤ length {A = ℕ} (9 ∷ [])
-  pub fewer : length {A = ℕ} [] < (cellCountOfLength registerCount (length lent) - 1) / 2
-  pub short : stackOf worstOfThree [] ≡ (answered (3 ∷ 0 ∷ []), worstOfThree, [])
+  pub three-cells : 3 ≤ cellCountOfLength registerCount (length lent)
+  pub short : stackOf worstOfThree [] ≡ (answered (3 ∷ 0 ∷ 1 ∷ []), worstOfThree, [])
+  -- of five cells, one word is one less than are needed
+  pub five : 0 < cellCountOfLength registerCount (length lentForFive)
+  pub word : 0 < length {A = ℕ} (9 ∷ [])
+  pub one-less : length {A = ℕ} (9 ∷ []) + 1 ≡ (cellCountOfLength registerCount (length lentForFive) - 1) / 2
+  pub checked : stackOf fivePool (9 ∷ []) ≡ (answered (5 ∷ 1 ∷ 1 ∷ []), fivePool, 0 ∷ [])
 
 -- `RunsOneAfterTheOther`, `RunEquivalence` and `NeverMalformed`.
 pub record BatchInstance : Type 0 where

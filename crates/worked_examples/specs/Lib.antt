@@ -1,2 +1,3 @@
+pub mod CheckedPools
 pub mod Table
 pub mod Instances

@@ -1,4 +1,5 @@
--- The starred cases of document 01 ("Strips flown on paper") and those that 02 names, as one table, and the sentence that every case of it holds.
+-- The starred cases of document 01 ("Strips flown on paper"), those that 02 names and examples of its S-5, as one table, and the sentence that every case of it
+-- holds.
 use Prim.Native.Nat.{ℕ}
 use mathlib.Core.Path.{_≡_}
 use mathlib.Core.List.{List, [], _∷_, _++_}
@@ -8,20 +9,22 @@ use Rattle.pool.specs.Layout.{registerCount, poolLength}
 use Rattle.answers.specs.Outcome.{answered}
 use Rattle.occupancy.specs.Occupancy.{occupancyOf}
 use Rattle.collector.specs.Collect.{collectOf}
+use Rattle.stack_algorithm.specs.CheckExample.{treeLinks, equalLinks, vainLinks, orderLinks, elevenLinks}
 use Rattle.stack_marker.specs.StackCollect.{stackOf}
 use Rattle.stack_marker.specs.StackExample.{leafPool, forkPool}
 use Rattle.worst_case.specs.WorstCase.{worstCaseOf}
 use Rattle.worst_case.specs.Example.{fourPool, fivePool}
 use Rattle.image.specs.Check.{checkOf}
+use Rattle.worked_examples.specs.CheckedPools.{poolFrom, combLinks, twoCombLinks}
 
 -- A case: the bytes of a number; bytes, and what the check of them as an image for a pool of one cell answers; a pool, and what its collection keeps and
--- visits; a pool and a number of stack words, and what the collection with them keeps and whether they are enough (1) or not (0); a number of cells, and
--- what the builder of the worst case for the stack answers; and what percent of n cells is kept.
+-- visits; a pool and a number of stack words, and what the collection with them keeps, whether they are enough (1) or not (0), and how many checks run; a number of
+-- cells, and what the builder of the worst case for the stack answers; and what percent of n cells is kept.
 pub data Case : Type 0 where
   number : ℕ → List ℕ → Case
   checked : List ℕ → ℕ → Case
   collection : List ℕ → ℕ → ℕ → Case
-  stack : List ℕ → ℕ → ℕ → ℕ → Case
+  stack : List ℕ → ℕ → ℕ → ℕ → ℕ → Case
   entries : ℕ → ℕ → Case
   percent : ℕ → ℕ → ℕ → Case
 
@@ -30,7 +33,7 @@ abbrev pub Holds : Case → Type 0
 Holds (number v bytes) = encode v ≡ bytes
 Holds (checked bytes k) = checkOf bytes 1 ≡ k
 Holds (collection w kept visits) = (collectOf w) .0 ≡ answered (kept ∷ visits ∷ [])
-Holds (stack w size kept enough) = (stackOf w (replicate size 0)) .0 ≡ answered (kept ∷ enough ∷ [])
+Holds (stack w size kept enough checks) = (stackOf w (replicate size 0)) .0 ≡ answered (kept ∷ enough ∷ checks ∷ [])
 Holds (entries n most) = (worstCaseOf (replicate (poolLength registerCount n) 9)) .0 ≡ answered (most ∷ [])
 Holds (percent kept n p) = occupancyOf kept n ≡ answered (p ∷ [])
 
@@ -62,21 +65,32 @@ table =
     ∷ collection selfLinked 1 3
     ∷ collection unreached 0 0
     -- "A cell with both links to one leaf: one stack word is enough", and 02, S-2: "the case of the leaf with two equal links becomes enough with none"
-    ∷ stack leafPool 1 2 1
-    ∷ stack leafPool 0 2 1
-    -- links to two leaves: one stack word is enough, none is not
-    ∷ stack forkPool 1 3 1
-    ∷ stack forkPool 0 3 0
-    -- 02, S-3: "That number is (N − 1) / 2 rounded down, and it is answered"; on the pool that is built so many stack words are enough, one less is not
+    ∷ stack leafPool 1 2 1 0
+    ∷ stack leafPool 0 2 1 0
+    -- links to two leaves: one stack word is enough, none is not; 02, S-5: "A check is one such pass, even over no entries"
+    ∷ stack forkPool 1 3 1 0
+    ∷ stack forkPool 0 3 0 1
+    -- 02, S-3: "That number is (N − 1) / 2 rounded down, and it is answered"; on the pool that is built so many stack words need no check, and one less makes one
     ∷ entries 1 0
     ∷ entries 2 0
     ∷ entries 3 1
     ∷ entries 4 1
     ∷ entries 5 2
-    ∷ stack fourPool 1 4 1
-    ∷ stack fourPool 0 4 0
-    ∷ stack fivePool 2 5 1
-    ∷ stack fivePool 1 5 0
+    ∷ stack fourPool 1 4 1 0
+    ∷ stack fourPool 0 4 0 1
+    ∷ stack fivePool 2 5 1 0
+    ∷ stack fivePool 1 5 1 1
+    -- 02, S-5: one check, in vain; two; three, the last of them in vain, and three that each dropped an entry; checks of one register after another; an entry
+    -- that is kept, with another cell, above one that is dropped
+    ∷ stack (poolFrom 1 0 treeLinks) 1 7 0 1
+    ∷ stack (poolFrom 1 0 equalLinks) 1 8 1 2
+    ∷ stack (poolFrom 1 0 vainLinks) 1 12 0 3
+    ∷ stack (poolFrom 1 0 combLinks) 1 9 1 3
+    ∷ stack (poolFrom 1 6 twoCombLinks) 1 10 1 2
+    ∷ stack (poolFrom 1 0 orderLinks) 2 11 1 1
+    -- nothing is promised of longer stacks: two words make more checks than one
+    ∷ stack (poolFrom 1 0 elevenLinks) 1 11 1 1
+    ∷ stack (poolFrom 1 0 elevenLinks) 2 11 1 2
     -- "Gauge 1 of 3: 33"
     ∷ percent 1 3 33
     ∷ []

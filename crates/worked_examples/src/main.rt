@@ -5,8 +5,9 @@ use libc::STDOUT_FILENO;
 use pool::Pool;
 use replies::Reply;
 use replies::Written;
+use stack_marker::StackAnswer;
 
-// Prints a label and what an answer says; of a collection with a stack that is kept, and 1 where the stack was enough.
+// Prints a label and what an answer says.
 fn show(label: &[u8], answer: Answer) {
     io::write_all(STDOUT_FILENO, label);
     let mut line = [0u8; 32];
@@ -14,6 +15,28 @@ fn show(label: &[u8], answer: Answer) {
         return;
     };
     print(&line, end);
+}
+
+// Prints a label and what a collection with a stack says.
+fn show_stack(label: &[u8], answer: StackAnswer) {
+    match answer {
+        StackAnswer::Collected {
+            kept,
+            enough,
+            checks,
+        } => {
+            io::write_all(STDOUT_FILENO, label);
+            io::print_decimal(STDOUT_FILENO, kept as u64);
+            if enough {
+                io::write_all(STDOUT_FILENO, b" kept, enough, checks: ");
+            } else {
+                io::write_all(STDOUT_FILENO, b" kept, too short, checks: ");
+            }
+            io::print_decimal(STDOUT_FILENO, checks as u64);
+            io::write_all(STDOUT_FILENO, b"\n");
+        }
+        StackAnswer::Refused(refusal) => show(label, Answer::Refused(refusal)),
+    }
 }
 
 fn print(line: &[u8], end: usize) {
@@ -58,7 +81,7 @@ fn equal_links() {
     let mut words = [0u32; 38];
     let mut stack = [0u32; 1];
     chain(&mut words);
-    show(
+    show_stack(
         b"chain of 5 with equal links, no stack word: ",
         stack_marker::collect_stack(&mut words, &mut stack[..0]),
     );
@@ -85,7 +108,7 @@ fn both_links_are_read() {
     let mut words = [0u32; 38];
     let mut stack = [0u32; 1];
     leaves(&mut words);
-    show(
+    show_stack(
         b"a cell with two leaves, and one with a right leaf, 1 stack word: ",
         stack_marker::collect_stack(&mut words, &mut stack),
     );
@@ -103,7 +126,7 @@ fn links_after_falling_back() {
     let mut words = [0u32; 38];
     let mut stack = [0u32; 1];
     leaves(&mut words);
-    show(
+    show_stack(
         b"the same, no stack word: ",
         stack_marker::collect_stack(&mut words, &mut stack[..0]),
     );
@@ -116,15 +139,15 @@ fn links_after_falling_back() {
     show(b"that of the right one: ", calls::value(&words, 2));
 }
 
-// "That number is (N − 1) / 2 rounded down, and it is answered": so many stack words are enough for a collection, and with one less it falls back.
+// "That number is (N − 1) / 2 rounded down, and it is answered": so many stack words need no check, and with one less there is one, which drops all entries.
 fn fills_the_stack(label: &[u8], words: &mut [u32], stack: &mut [u32]) {
     show(label, worst_case::worst_case(words));
-    show(
+    show_stack(
         b"its collection with so many stack words: ",
         stack_marker::collect_stack(words, stack),
     );
     if 0 < stack.len() {
-        show(
+        show_stack(
             b"and with one less: ",
             stack_marker::collect_stack(words, &mut stack[1..]),
         );
@@ -144,7 +167,12 @@ fn worst_case_of_5() {
 fn worst_case_of_4000() {
     let mut words = [9u32; 16018];
     let mut stack = [9u32; 1999];
+    let mut ten = [9u32; 10];
     fills_the_stack(b"that of 4000 cells: ", &mut words, &mut stack);
+    show_stack(
+        b"and with ten: ",
+        stack_marker::collect_stack(&mut words, &mut ten),
+    );
 }
 
 // "Clearing r before "new" collects: r may be a or b, and its old cell is live to the ledger."

@@ -4,7 +4,7 @@ use native.Mathlib.Omega.{arith}
 use mathlib.Core.Path.{_≡_, refl, sym, ap, subst, _∙_}
 use mathlib.Core.List.{List, [], _∷_}
 use mathlib.Core.Bool.{true}
-use lib.ListN.{length}
+use lib.ListN.{length, replicate}
 use borrow.Author.Tests.{lt-ltb}
 use Rattle.graph.specs.Graph.{Reach, Within}
 use Rattle.graph.specs.Compare.{Agree}
@@ -20,8 +20,10 @@ use Rattle.pool.proofs.FreshPool.{blank-length, blank-count, blank-zero, blank-
 use Rattle.questions.proofs.WellFormed.{Link, Cell, WellFormed}
 use Rattle.questions.proofs.PoolGraph.{pool-within}
 use Rattle.stack_algorithm.specs.Stack.{maxEntries}
+use Rattle.stack_algorithm.specs.Check.{limitedRun}
 use Rattle.stack_algorithm.specs.Comb.{combLink, comb}
 use Rattle.stack_algorithm.proofs.Comb.{link-bound, comb-reached-in, comb-holds-in}
+use Rattle.stack_algorithm.proofs.CombChecks.{comb-checks-in, comb-without-words-in}
 use Rattle.worst_case.specs.WorstCase.{putComb, worstCaseWords, worstCaseOf}
 use Rattle.worst_case.proofs.Comb.{comb-length, comb-elsewhere, comb-cell}
 
@@ -97,11 +99,33 @@ module _ (R n : ℕ) (w : List ℕ) (room : poolLength R n ≤ length w) where
   built-reached registers i low high =
       rw (built-root registers) (comb-reached-in n (graphOf R (worstCaseWords R n w)) built-links [] i low high)
 
+  -- the roots are cell 1 and the other registers
+  abbrev others : List ℕ
+  others = tabulate (R - 1) (λ k. register (worstCaseWords R n w) (suc k))
+
+  built-roots : 0 < R → rootsOf R (worstCaseWords R n w) ≡ 1 ∷ others
+  built-roots registers =
+      tabulate-first R (λ k. register (worstCaseWords R n w) k) registers ∙ ap (λ (x : ℕ). x ∷ others) (built-root registers)
+
+  -- what holds of the comb with further roots holds of the pool
+  of-comb : 0 < n → 0 < R → (P : List ℕ → Type 0) → (Within n (graphOf R (worstCaseWords R n w)) (1 ∷ others) → P (1 ∷ others)) → P (rootsOf R (worstCaseWords R n w))
+  of-comb some registers P comb =
+      let roots = built-roots registers in
+      subst P (sym roots) (comb (subst (Within n (graphOf R (worstCaseWords R n w))) roots (pool-within (built-well-formed some))))
+
   pub built-entries : 0 < n → 0 < R → maxEntries n (graphOf R (worstCaseWords R n w)) (rootsOf R (worstCaseWords R n w)) ≡ (n - 1) / 2
   built-entries some registers =
       let g = graphOf R (worstCaseWords R n w) in
-      let others = tabulate (R - 1) (λ k. register (worstCaseWords R n w) (suc k)) in
-      let roots : rootsOf R (worstCaseWords R n w) ≡ 1 ∷ others =
-      tabulate-first R (λ k. register (worstCaseWords R n w) k) registers ∙ ap (λ (x : ℕ). x ∷ others) (built-root registers) in
-      subst (λ (roots : List ℕ). maxEntries n g roots ≡ (n - 1) / 2) (sym roots)
-      (comb-holds-in n g built-links others some (subst (Within n g) roots (pool-within (built-well-formed some))))
+      of-comb some registers (λ roots. maxEntries n g roots ≡ (n - 1) / 2) (comb-holds-in n g built-links others some)
+
+  pub built-checks : 0 < n → 0 < R → (words : ℕ) → 0 < words
+      → limitedRun words n (graphOf R (worstCaseWords R n w)) (rootsOf R (worstCaseWords R n w)) .1 ≡ replicate (((n - 1) / 2 - 1) / words) words
+  built-checks some registers words one =
+      let g = graphOf R (worstCaseWords R n w) in
+      of-comb some registers (λ roots. limitedRun words n g roots .1 ≡ replicate (((n - 1) / 2 - 1) / words) words)
+      λ within. comb-checks-in n g built-links others some within words one
+
+  pub built-without-words : 0 < R → 3 ≤ n → limitedRun 0 n (graphOf R (worstCaseWords R n w)) (rootsOf R (worstCaseWords R n w)) .1 ≡ 0 ∷ []
+  built-without-words registers many =
+      let g = graphOf R (worstCaseWords R n w) in
+      of-comb (omega arith) registers (λ roots. limitedRun 0 n g roots .1 ≡ 0 ∷ []) λ within. comb-without-words-in n g built-links others many

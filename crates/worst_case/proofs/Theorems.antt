@@ -1,9 +1,11 @@
 -- The theorems of the pool that fills the stack.
-use Prim.Native.Nat.{ℕ, _-_, _/_, _<_, _≤_}
+use Prim.Native.Nat.{ℕ, _+_, _*_, _-_, _/_, _<_, _≤_}
 use native.Mathlib.Omega.{arith}
-use mathlib.Core.Path.{_≡_, sym, ap, _∙_}
+use mathlib.Core.Path.{_≡_, sym, ap, ap₂, _∙_}
 use mathlib.Core.List.{List, [], _∷_}
-use lib.ListN.{length, replicate}
+use mathlib.Core.Bool.{Bool, cond, not}
+use lib.ListN.{length, replicate, length-replicate}
+use lib.Arith.{digits-div}
 use borrow.Author.Tests.{lt-ltb, le-leb, lt-leb}
 use Rattle.graph.specs.Graph.{Reach}
 use Rattle.graph.proofs.Lists.{each-nil, each-cons}
@@ -15,44 +17,61 @@ use Rattle.pool.proofs.AllKept.{all-counted}
 use Rattle.questions.proofs.WellFormed.{WellFormed, well-formed-read, well-formed-made}
 use Rattle.questions.proofs.PoolGraph.{pool-within}
 use Rattle.reversal.specs.Reached.{isReached, reachedCount}
-use Rattle.answers.specs.Outcome.{Outcome, answered}
+use Rattle.answers.specs.Outcome.{answered}
 use Rattle.collector.specs.Collect.{collected}
 use Rattle.collector.proofs.Collected.{reached-kept, kept-count, collected-full}
-use Rattle.stack_algorithm.specs.Stack.{maxEntries}
+use Rattle.graph.specs.Preorder.{elem}
 use Rattle.stack_algorithm.proofs.Going.{stack-bound}
-use Rattle.stack_marker.specs.StackCollect.{stackOf}
+use Rattle.stack_algorithm.proofs.NoCheck.{no-check}
+use Rattle.stack_algorithm.proofs.CombChecks.{elem-replicate}
+use Rattle.stack_marker.specs.StackCollect.{lentRun, stackOf}
 use Rattle.worst_case.specs.WorstCase.{worstCaseWords, worstCaseOf}
-use Rattle.worst_case.specs.WorstCaseTheorem.{WorstCase, WorstCaseBuilt, NoPoolHoldsMore, HalfIsEnough, FewerAreNot}
-use Rattle.worst_case.proofs.Built.{built-length, built-used, built-value, built-links, built-count, built-head, built-nil, built-well-formed, built-reached, built-entries}
+use Rattle.worst_case.specs.WorstCaseTheorem.{WorstCase, WorstCaseBuilt, NoPoolHoldsMore, HalfIsEnough, FewerAreChecked, NoneIsNotEnough, OneLessIsChecked}
+use Rattle.worst_case.proofs.Built.{built-length, built-used, built-value, built-links, built-count, built-head, built-nil, built-well-formed, built-reached, built-entries, built-checks, built-without-words}
+
+-- the words that are built hold that pool
+module _ (w : List ℕ) (some : 0 < cellCountOfLength registerCount (length w)) where
+  abbrev cellsOf : ℕ
+  cellsOf = cellCountOfLength registerCount (length w)
+
+  abbrev builtOf : List ℕ
+  builtOf = worstCaseWords registerCount cellsOf w
+
+  fits : poolLength registerCount cellsOf ≤ length w
+  fits = length-sized registerCount (length w) some .room
+
+  made : worstCaseOf w ≡ (answered ((cellsOf - 1) / 2 ∷ []), builtOf)
+  made = simp (lt-ltb 0 cellsOf some)
+
+  built : WorstCase cellsOf builtOf
+  built =
+      let cells : cellCountOfLength registerCount (length builtOf) ≡ cellsOf = ap (cellCountOfLength registerCount) (built-length registerCount cellsOf w fits) in
+      record {
+        cells = same-count registerCount builtOf (built-count registerCount cellsOf w fits ∙ sym cells) ∙ cells;
+        well-formed = well-formed-made registerCount cellsOf builtOf (built-well-formed registerCount cellsOf w fits some);
+        used = built-used registerCount cellsOf w fits;
+        reached = built-reached registerCount cellsOf w fits (omega arith);
+        entries = built-entries registerCount cellsOf w fits some (omega arith);
+        values = built-value registerCount cellsOf w fits;
+        head = built-head registerCount cellsOf w fits;
+        nil = built-nil registerCount cellsOf w fits;
+        links = built-links registerCount cellsOf w fits;
+      }
 
 pub worst-case-built : WorstCaseBuilt
-worst-case-built w some =
-    let n = cellCountOfLength registerCount (length w) in
-    let room = length-sized registerCount (length w) some .room in
-    let w' = worstCaseWords registerCount n w in
-    let cells : cellCountOfLength registerCount (length w') ≡ n = ap (cellCountOfLength registerCount) (built-length registerCount n w room) in (
-      w',
-      simp (lt-ltb 0 n some),
-      record {
-        cells = same-count registerCount w' (built-count registerCount n w room ∙ sym cells) ∙ cells;
-        well-formed = well-formed-made registerCount n w' (built-well-formed registerCount n w room some);
-        used = built-used registerCount n w room;
-        reached = built-reached registerCount n w room (omega arith);
-        entries = built-entries registerCount n w room some (omega arith);
-        values = built-value registerCount n w room;
-        head = built-head registerCount n w room;
-        nil = built-nil registerCount n w room;
-        links = built-links registerCount n w room;
-      },
-    )
+worst-case-built w some = (builtOf w some, made w some, built w some)
 
 pub no-pool-holds-more : NoPoolHoldsMore
 no-pool-holds-more R n w well = stack-bound n (graphOf R w) (rootsOf R w) (pool-within (well-formed-read R n w well))
 
 pub half-is-enough : HalfIsEnough
+unfolding elem
 half-is-enough n w stack some cells well long =
-    let enough = le-leb (maxEntries n (graphOf registerCount w) (rootsOf registerCount w)) (length stack) (omega (arith, no-pool-holds-more registerCount n w well)) in
-    rw cells (simp (lt-ltb 0 n some, well, enough))
+    let g = graphOf registerCount w in
+    let roots = rootsOf registerCount w in
+    let within = pool-within (well-formed-read registerCount n w well) in
+    let run = no-check (length stack) n g roots within .1 (omega (arith, stack-bound n g roots within)) in
+    rw cells (simp (lt-ltb 0 n some, well, run))
 
 -- all of the pool that is built is kept, as it is
 module _ (n : ℕ) (w : List ℕ) (some : 0 < n) (built : WorstCase n w) where
@@ -78,15 +97,36 @@ module _ (n : ℕ) (w : List ℕ) (some : 0 < n) (built : WorstCase n w) where
   unchanged : collected registerCount n w ≡ w
   unchanged = collected-full registerCount n w well room kept-all (built .head)
 
-  short : (stack : List ℕ) → length stack < (n - 1) / 2 → stackOf w stack ≡ (answered (n ∷ 0 ∷ []), w, replicate (length stack) 0)
-  short stack few =
-      let too-few = lt-leb (maxEntries n (graphOf registerCount w) (rootsOf registerCount w)) (length stack) (omega (arith, built .entries)) in
-      rw (built .cells) (simp (lt-ltb 0 n some, built .well-formed, too-few, kept-all, unchanged))
+  -- so a collection with a stack answers by the checks alone
+  answers-by-checks : (stack dropped : List ℕ) → lentRun n w stack .1 ≡ dropped
+      → stackOf w stack ≡ (answered (n ∷ cond (not (elem 0 dropped)) 1 0 ∷ length dropped ∷ []), w, replicate (length stack) 0)
+  answers-by-checks stack dropped run = rw (built .cells) (simp (lt-ltb 0 n some, built .well-formed, run, kept-all, unchanged))
 
-pub fewer-are-not : FewerAreNot
-fewer-are-not w stack few =
+pub fewer-are-checked : FewerAreChecked
+fewer-are-checked w stack some words =
+    let n = cellCountOfLength registerCount (length w) in
+    let count = ((n - 1) / 2 - 1) / length stack in
+    let run = built-checks registerCount n w (fits w some) some (omega arith) (length stack) words in
+    let answer = answers-by-checks n (builtOf w some) some (built w some) stack (replicate count (length stack)) run in
+    rw (made w some) (rw (elem-replicate count (length stack) words, length-replicate count (length stack)) at answer)
+
+pub none-is-not-enough : NoneIsNotEnough
+unfolding elem
+none-is-not-enough w many =
     let n = cellCountOfLength registerCount (length w) in
     let some : 0 < n = omega arith in
-    let (w', made, built) = worst-case-built w some in
-    let same : worstCaseOf w .1 ≡ w' = ap (λ (x : Outcome × List ℕ). x .1) made in
-    rw same (short n w' some built stack few)
+    let run = built-without-words registerCount n w (fits w some) (omega arith) many in
+    rw (made w some) (answers-by-checks n (builtOf w some) some (built w some) [] (0 ∷ []) run)
+
+pub one-less-is-checked : OneLessIsChecked
+one-less-is-checked w [] one =
+    let n = cellCountOfLength registerCount (length w) in
+    none-is-not-enough w (omega arith)
+    ∙ ap (λ (t : Bool). (answered (n ∷ cond t 1 0 ∷ 1 ∷ []), worstCaseOf w .1, [])) (sym (lt-leb 5 n (omega arith)))
+one-less-is-checked w (x ∷ stack) one =
+    let n = cellCountOfLength registerCount (length w) in
+    let words = length (x ∷ stack) in
+    let same : (n - 1) / 2 - 1 ≡ 1 * words + 0 = omega arith in
+    let count : ((n - 1) / 2 - 1) / words ≡ 1 = ap (λ (k : ℕ). k / words) same ∙ digits-div 1 (omega arith) in
+    fewer-are-checked w (x ∷ stack) (omega arith) (omega arith)
+    ∙ ap₂ (λ (t : Bool) (k : ℕ). (answered (n ∷ cond t 1 0 ∷ k ∷ []), worstCaseOf w .1, replicate words 0)) (sym (le-leb 5 n (omega arith))) count

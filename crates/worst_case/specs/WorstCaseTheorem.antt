@@ -1,9 +1,10 @@
--- What is proved of the pool that fills the stack, and of every other pool (02, S-3): statements.
-use Prim.Native.Nat.{ℕ, _-_, _/_, _<_, _≤_}
+-- What is proved of the pool that fills the stack, and of every other pool (02, S-3 and S-5): statements.
+use Prim.Native.Nat.{ℕ, _+_, _-_, _/_, _<_, _≤_}
 use mathlib.Core.Path.{_≡_}
 use mathlib.Core.List.{List, [], _∷_}
-use mathlib.Core.Bool.{true}
+use mathlib.Core.Bool.{true, cond}
 use lib.ListN.{length, replicate}
+use lib.Dec.{leb}
 use Rattle.graph.specs.Graph.{Reach}
 use Rattle.graph.specs.Compare.{Agree}
 use Rattle.pool.specs.Layout.{registerCount, cellCountOfLength, cellCount, head, register, state, value, graphOf, rootsOf}
@@ -45,17 +46,33 @@ WorstCaseBuilt =
 abbrev pub NoPoolHoldsMore : Type 0
 NoPoolHoldsMore = (R n : ℕ) (w : List ℕ) → wellFormed R n w ≡ true → maxEntries n (graphOf R w) (rootsOf R w) ≤ (n - 1) / 2
 
--- So a lent stack of (N − 1) / 2 words is enough for every well-formed pool of N cells: the collection with it says so.
+-- So a lent stack of (N − 1) / 2 words is enough for every well-formed pool of N cells, and none of its entries is ever checked: the collection with it says so.
 abbrev pub HalfIsEnough : Type 0
 HalfIsEnough =
     (n : ℕ) (w stack : List ℕ) → 0 < n → cellCount registerCount w ≡ n → wellFormed registerCount n w ≡ true → (n - 1) / 2 ≤ length stack
-    → stackOf w stack ≡ (answered (reachedCount registerCount n w ∷ 1 ∷ []), collected registerCount n w, replicate (length stack) 0)
+    → stackOf w stack ≡ (answered (reachedCount registerCount n w ∷ 1 ∷ 0 ∷ []), collected registerCount n w, replicate (length stack) 0)
 
--- And fewer are not: a collection of the pool that is built keeps all its cells, leaves it as it is, and says that a shorter stack was not enough. For N ≥ 3
--- a stack of one word less is such a stack.
-abbrev pub FewerAreNot : Type 0
-FewerAreNot =
+-- With one word at least (02, S-5): the entries are leaves, so that each check drops all of them. It is enough, keeps all cells and leaves the pool as it is. The
+-- number of checks is ((N − 1) / 2 − 1) / words, rounded down: 0 from (N − 1) / 2 words on.
+abbrev pub FewerAreChecked : Type 0
+FewerAreChecked =
     (w stack : List ℕ)
     → let n = cellCountOfLength registerCount (length w) in
     let built = worstCaseOf w .1 in
-    length stack < (n - 1) / 2 → stackOf built stack ≡ (answered (n ∷ 0 ∷ []), built, replicate (length stack) 0)
+    0 < n → 0 < length stack → stackOf built stack ≡ (answered (n ∷ 1 ∷ ((n - 1) / 2 - 1) / length stack ∷ []), built, replicate (length stack) 0)
+
+-- With no word there is no entry to drop: where a word is needed, none is not enough, and one check says so.
+abbrev pub NoneIsNotEnough : Type 0
+NoneIsNotEnough =
+    (w : List ℕ)
+    → let n = cellCountOfLength registerCount (length w) in
+    let built = worstCaseOf w .1 in
+    3 ≤ n → stackOf built [] ≡ (answered (n ∷ 0 ∷ 1 ∷ []), built, [])
+
+-- So one word less than (N − 1) / 2 makes one check. For N ≥ 5 it is enough; for N = 3 and N = 4 that is no word, and it is not.
+abbrev pub OneLessIsChecked : Type 0
+OneLessIsChecked =
+    (w stack : List ℕ)
+    → let n = cellCountOfLength registerCount (length w) in
+    let built = worstCaseOf w .1 in
+    length stack + 1 ≡ (n - 1) / 2 → stackOf built stack ≡ (answered (n ∷ cond (leb 5 n) 1 0 ∷ 1 ∷ []), built, replicate (length stack) 0)

@@ -1,19 +1,26 @@
 -- `bounded_stack::mark_from` meets its contract: each turn is one of the definition's (`Hand`), and leaves fewer turns.
+use borrow.Author.Needs.{needs}
 use Rattle.bounded_stack.proofs.mark_from.Statement.{statement}
 use Rattle.bounded_stack.proofs.mark_from.Tie as tie
+use Rattle.bounded_stack.proofs.mark_from.Reads as reads
+use Rattle.bounded_stack.proofs.mark_from.Lts as lts
+use Rattle.pool.proofs.mark_cell.Reads as mark-cell-reads
+use Rattle.stack_check.proofs.check.Reads as check-reads
+use Rattle.stack_check.proofs.look.Reads as look-reads
 use native.Mathlib.Omega.{arith}
-use Rattle.pool.specs.Layout.{registerCount}
 use mathlib.Core.Path.{refl, sym, ap, _∙_}
+use mathlib.Core.Logic.{⊎-elim}
+use denote.Ref.{now}
 use mathlib.Core.List.{List·Memᴰ·head, List·Memᴰ·tail}
-use Rattle.bounded_stack.specs.Steps.{linksOf}
-use Rattle.bounded_stack.proofs.HandLoop.{Hand, turnsLeft, hand-first, hand-cell, hand-length, hand-new, hand-full, hand-push, hand-go, hand-pop, hand-last, less-push, less-go}
-use borrow.Author.Needs.{needs}
+use Rattle.pool.specs.Layout.{registerCount}
+use Rattle.stack_check.specs.Steps.{linksOf}
+use Rattle.bounded_stack.proofs.HandLoop.{Hand, turnsLeft, Ready, hand-first, hand-cell, hand-length, hand-new, hand-go, less-go, hand-pop, hand-last, hand-checkable, hand-vain, ready-push, ready-checked, checks-fit}
 
 abbrev Inv-loop : tie.InvT-loop
-Inv-loop words₀ n stack₀ p hand₀ top₀ words stack hand top = Hand registerCount n p words₀ stack₀ words stack hand top
+Inv-loop words₀ n stack₀ p hand₀ top₀ checks₀ words stack hand top checks = Hand registerCount n p words₀ stack₀ words stack hand top checks
 
 abbrev μ-loop : tie.MeasureT-loop
-μ-loop words₀ n stack₀ p hand₀ top₀ words stack hand top = turnsLeft registerCount n words top
+μ-loop words₀ n stack₀ p hand₀ top₀ checks₀ words stack hand top checks = turnsLeft registerCount n words top
 
 loop-holds : tie.Need-loop-holds Inv-loop μ-loop
 loop-holds c = hand-first _ _ _ _ (c .before .before .pre .1) _
@@ -22,84 +29,120 @@ look-requires : tie.Need-look-requires Inv-loop μ-loop
 look-requires c κs =
     let at-turn = c .before in
     let at-start = at-turn .before .before .before in
-    hand-cell _ _ _ _ (at-start .pre .1) _ _ _ _ _ (at-turn .loop .inv) (at-start .pre .0)
+    hand-cell _ _ _ _ (at-start .pre .1) _ _ _ _ _ _ (at-turn .loop .inv) (at-start .pre .0)
 
 enum-known-left : tie.Need-enum-known-left Inv-loop μ-loop
 enum-known-left c = search needs
 
-same-length : tie.Need-same-length Inv-loop μ-loop
-same-length c =
-    let at-turn = c .before .before .before .before .before .before in
-    let at-start = at-turn .before .before .before in
-    hand-length _ _ _ _ (at-start .pre .1) _ _ _ _ _ (at-turn .loop .inv) (at-start .pre .0)
-
-same-length-2 : tie.Need-same-length-2 Inv-loop μ-loop
-same-length-2 c = c .before .before .before .before .before .before .loop .inv .lent
-
-returns : tie.Need-returns Inv-loop μ-loop
-returns c =
+mark-cell-requires : tie.Need-mark-cell-requires Inv-loop μ-loop
+mark-cell-requires c κs =
     let at-left = c .before .before in
     let at-look = at-left .before .before in
     let at-turn = at-look .before .before in
     let at-start = at-turn .before .before .before in
-    hand-full _ _ _ _ (at-start .pre .1) _ _ _ _ _ (at-turn .loop .inv) _ _ (ap linksOf (sym (at-left .left .given .1)) ∙ at-look .look .ensures) (omega (arith, c .if1 .taken))
-
-mark-cell-requires : tie.Need-mark-cell-requires Inv-loop μ-loop
-mark-cell-requires c κs =
-    let at-left = c .before .before .before in
-    let at-look = at-left .before .before in
-    let at-turn = at-look .before .before in
-    let at-start = at-turn .before .before .before in
-    let (low, high) = hand-new _ _ _ _ (at-start .pre .1) _ _ _ _ _ (at-turn .loop .inv) _ (ap linksOf (sym (at-left .left .given .1)) ∙ at-look .look .ensures) (at-start .pre .0) _ (List·Memᴰ·head refl) in
-    (low, omega (arith, at-start .pre .1, hand-length _ _ _ _ (at-start .pre .1) _ _ _ _ _ (at-turn .loop .inv) (at-start .pre .0)))
+    let (low, high) = hand-new _ _ _ _ (at-start .pre .1) _ _ _ _ _ _ (at-turn .loop .inv) (at-start .pre .0) _ (ap linksOf (sym (at-left .left .given .1)) ∙ at-look .look .ensures) _ (List·Memᴰ·head refl) in
+    (low, omega (arith, at-start .pre .1, hand-length _ _ _ _ (at-start .pre .1) _ _ _ _ _ _ (at-turn .loop .inv) (at-start .pre .0)))
 
 mark-cell-requires-2 : tie.Need-mark-cell-requires-2 Inv-loop μ-loop
 mark-cell-requires-2 c κs =
     let at-mark-cell = c .before .before .before in
-    let at-left = at-mark-cell .before .before .before .before in
+    let at-left = at-mark-cell .before .before .before in
     let at-look = at-left .before .before in
     let at-turn = at-look .before .before in
     let at-start = at-turn .before .before .before in
-    let (low, high) = hand-new _ _ _ _ (at-start .pre .1) _ _ _ _ _ (at-turn .loop .inv) _ (ap linksOf (sym (at-left .left .given .1)) ∙ at-look .look .ensures) (at-start .pre .0) _ (List·Memᴰ·tail (List·Memᴰ·head refl)) in
-    (low, omega (arith, at-start .pre .1, hand-length _ _ _ _ (at-start .pre .1) _ _ _ _ _ (at-turn .loop .inv) (at-start .pre .0), at-mark-cell .mark-cell .kept .0))
+    let (low, high) = hand-new _ _ _ _ (at-start .pre .1) _ _ _ _ _ _ (at-turn .loop .inv) (at-start .pre .0) _ (ap linksOf (sym (at-left .left .given .1)) ∙ at-look .look .ensures) _ (List·Memᴰ·tail (List·Memᴰ·head refl)) in
+    (low, omega (arith, at-start .pre .1, hand-length _ _ _ _ (at-start .pre .1) _ _ _ _ _ _ (at-turn .loop .inv) (at-start .pre .0), at-mark-cell .mark-cell .kept .0))
+
+check-requires : tie.Need-check-requires Inv-loop μ-loop
+check-requires c κs =
+    let at-if1 = c .before .before in
+    let at-mark-cell2 = at-if1 .before .before .before in
+    let at-mark-cell = at-mark-cell2 .before .before .before .before in
+    let at-left = at-mark-cell .before .before .before in
+    let at-look = at-left .before .before in
+    let at-turn = at-look .before .before in
+    let at-start = at-turn .before .before .before in
+    (hand-checkable _ _ _ _ (at-start .pre .1) _ _ _ _ _ _ (at-turn .loop .inv) _ _ _ _ (ap linksOf (sym (at-left .left .given .1)) ∙ at-look .look .ensures) (at-mark-cell .mark-cell .ensures) (at-mark-cell2 .mark-cell2 .ensures) (at-if1 .if1 .taken) (at-start .pre .0), omega (arith, at-start .pre .1, hand-length _ _ _ _ (at-start .pre .1) _ _ _ _ _ _ (at-turn .loop .inv) (at-start .pre .0), at-mark-cell .mark-cell .kept .0, at-mark-cell2 .mark-cell2 .kept .0))
+
+add-checks : tie.Need-add-checks Inv-loop μ-loop
+add-checks c =
+    let at-if1 = c .before .before .before .before .before .before .before in
+    let at-mark-cell2 = at-if1 .before .before .before in
+    let at-mark-cell = at-mark-cell2 .before .before .before .before in
+    let at-left = at-mark-cell .before .before .before in
+    let at-look = at-left .before .before in
+    let at-turn = at-look .before .before in
+    let at-start = at-turn .before .before .before in
+    omega (arith, at-start .fits .n, checks-fit _ _ _ _ (at-start .pre .1) _ _ _ _ _ _ (at-turn .loop .inv) _ _ (ap linksOf (sym (at-left .left .given .1)) ∙ at-look .look .ensures) (at-start .pre .0))
+
+same-length : tie.Need-same-length Inv-loop μ-loop
+same-length c =
+    let at-check = c .before .before .before .before .before in
+    let at-if1 = at-check .before .before .before in
+    let at-mark-cell2 = at-if1 .before .before .before in
+    let at-mark-cell = at-mark-cell2 .before .before .before .before in
+    let at-left = at-mark-cell .before .before .before in
+    let at-look = at-left .before .before in
+    let at-turn = at-look .before .before in
+    let at-start = at-turn .before .before .before in
+    at-check .check .kept .0 ∙ (at-mark-cell2 .mark-cell2 .kept .0 ∙ (at-mark-cell .mark-cell .kept .0 ∙ hand-length _ _ _ _ (at-start .pre .1) _ _ _ _ _ _ (at-turn .loop .inv) (at-start .pre .0)))
+
+same-length-2 : tie.Need-same-length-2 Inv-loop μ-loop
+same-length-2 c =
+    let at-check = c .before .before .before .before .before in
+    let at-if1 = at-check .before .before .before in
+    let at-mark-cell2 = at-if1 .before .before .before in
+    let at-mark-cell = at-mark-cell2 .before .before .before .before in
+    let at-left = at-mark-cell .before .before .before in
+    let at-look = at-left .before .before in
+    let at-turn = at-look .before .before in
+    let at-start = at-turn .before .before .before in
+    at-check .check .kept .1 .1 .0 ∙ at-turn .loop .inv .lent
+
+returns : tie.Need-returns Inv-loop μ-loop
+returns c =
+    let at-check = c .before .before .before .before .before in
+    let at-if1 = at-check .before .before .before in
+    let at-mark-cell2 = at-if1 .before .before .before in
+    let at-mark-cell = at-mark-cell2 .before .before .before .before in
+    let at-left = at-mark-cell .before .before .before in
+    let at-look = at-left .before .before in
+    let at-turn = at-look .before .before in
+    let at-start = at-turn .before .before .before in
+    λ h. hand-vain _ _ _ _ (at-start .pre .1) _ _ _ _ _ _ (at-turn .loop .inv) _ _ _ _ (ap linksOf (sym (at-left .left .given .1)) ∙ at-look .look .ensures) (at-mark-cell .mark-cell .ensures) (at-mark-cell2 .mark-cell2 .ensures) (at-if1 .if1 .taken) _ (at-check .check .last .1 .1 .0) _ (at-check .check .ensures) h (c .if2 .taken)
+
+-- before a push there is room, whether a check was made or not
+ready : (c : lts.Joined1 (look-reads.Asked, look-reads.Learnt, mark-cell-reads.Asked, mark-cell-reads.Learnt, check-reads.Asked, check-reads.Learnt) reads.Pre reads.Post Inv-loop μ-loop)
+    → let at-left = c .before .before .before .before .before .before .before .before .before .before in
+    let at-turn = at-left .before .before .before .before in
+    let at-start = at-turn .before .before .before in
+    Ready registerCount (at-start .args .n) (at-start .args .p) (now (at-start .args .words)) (now (at-start .args .stack)) (at-turn .loop .words) (at-turn .loop .top) (at-left .left .given .0 .0) (at-left .left .given .0 .1 .0) (c .if1 .words) (c .if1 .stack) (c .if1 .top) (c .if1 .checks)
+ready c =
+    let at-mark-cell2 = c .before .before .before in
+    let at-mark-cell = at-mark-cell2 .before .before .before .before in
+    let at-left = at-mark-cell .before .before .before in
+    let at-look = at-left .before .before in
+    let at-turn = at-look .before .before in
+    let at-start = at-turn .before .before .before in
+    let links = ap linksOf (sym (at-left .left .given .1)) ∙ at-look .look .ensures in
+    ⊎-elim (λ w. ready-checked _ _ _ _ (at-start .pre .1) _ _ _ _ _ _ (at-turn .loop .inv) _ _ _ _ links (at-mark-cell .mark-cell .ensures) (at-mark-cell2 .mark-cell2 .ensures) (w .0 .taken) _ _ _ (w .3 .ensures) (at-start .pre .0) (w .3 .kept .1 .1 .0) (w .8 .left) (w .9) (w .10) (w .11) (w .12))
+    (λ w. ready-push _ _ _ _ (at-start .pre .1) _ _ _ _ _ _ (at-turn .loop .inv) _ _ _ _ links (at-mark-cell .mark-cell .ensures) (at-mark-cell2 .mark-cell2 .ensures) (at-start .pre .0) (w .0 .left) (w .1) (w .2) (w .3) (w .4))
+    (c .if1 .came)
 
 mul-stack : tie.Need-mul-stack Inv-loop μ-loop
-mul-stack c = omega arith
+mul-stack c = omega (arith, ready (c .before) .room, ready (c .before) .lent)
 
 slice-write-stack : tie.Need-slice-write-stack Inv-loop μ-loop
-slice-write-stack c =
-    let at-mark-cell = c .before .before .before .before .before .before in
-    let at-if1 = at-mark-cell .before .before in
-    let at-loop = at-if1 .before .before .before .before .before .before in
-    omega (arith, at-loop .loop .inv .fits, at-loop .loop .inv .lent, at-if1 .if1 .left)
+slice-write-stack c = ready (c .before) .room
 
 add-top : tie.Need-add-top Inv-loop μ-loop
-add-top c =
-    let at-mark-cell = c .before .before .before .before .before .before in
-    let at-if1 = at-mark-cell .before .before in
-    let at-loop = at-if1 .before .before .before .before .before .before in
-    omega (arith, at-loop .loop .inv .fits, at-loop .loop .inv .lent, at-if1 .if1 .left)
+add-top c = omega (arith, ready (c .before) .room, ready (c .before) .lent)
 
 loop-less : tie.Need-loop-less Inv-loop μ-loop
-loop-less c =
-    let at-mark-cell2 = c .before .before in
-    let at-mark-cell = at-mark-cell2 .before .before .before .before in
-    let at-left = at-mark-cell .before .before .before .before in
-    let at-look = at-left .before .before in
-    let at-turn = at-look .before .before in
-    let at-start = at-turn .before .before .before in
-    less-push _ _ _ _ (at-start .pre .1) _ _ _ _ _ (at-turn .loop .inv) (at-start .pre .0) _ _ _ _ (ap linksOf (sym (at-left .left .given .1)) ∙ at-look .look .ensures) (at-mark-cell .mark-cell .ensures) (at-mark-cell2 .mark-cell2 .ensures)
+loop-less c = ready (c .before) .less
 
 loop-again : tie.Need-loop-again Inv-loop μ-loop
-loop-again c =
-    let at-mark-cell2 = c .before .before in
-    let at-mark-cell = at-mark-cell2 .before .before .before .before in
-    let at-if1 = at-mark-cell .before .before in
-    let at-left = at-if1 .before .before in
-    let at-look = at-left .before .before in
-    let at-turn = at-look .before .before in
-    let at-start = at-turn .before .before .before in
-    hand-push _ _ _ _ (at-start .pre .1) _ _ _ _ _ (at-turn .loop .inv) _ _ _ _ _ (ap linksOf (sym (at-left .left .given .1)) ∙ at-look .look .ensures) (omega (arith, at-turn .loop .inv .fits, at-turn .loop .inv .lent, at-if1 .if1 .left)) (at-mark-cell .mark-cell .ensures) (at-mark-cell2 .mark-cell2 .ensures) refl
+loop-again c = ready (c .before) .hand
 
 enum-known-x : tie.Need-enum-known-x Inv-loop μ-loop
 enum-known-x c = search needs
@@ -110,8 +153,8 @@ mark-cell-requires-3 c κs =
     let at-look = at-x .before .before in
     let at-turn = at-look .before .before in
     let at-start = at-turn .before .before .before in
-    let (low, high) = hand-new _ _ _ _ (at-start .pre .1) _ _ _ _ _ (at-turn .loop .inv) _ (ap linksOf (sym (at-x .x .given .1)) ∙ at-look .look .ensures) (at-start .pre .0) _ (List·Memᴰ·head refl) in
-    (low, omega (arith, at-start .pre .1, hand-length _ _ _ _ (at-start .pre .1) _ _ _ _ _ (at-turn .loop .inv) (at-start .pre .0)))
+    let (low, high) = hand-new _ _ _ _ (at-start .pre .1) _ _ _ _ _ _ (at-turn .loop .inv) (at-start .pre .0) _ (ap linksOf (sym (at-x .x .given .1)) ∙ at-look .look .ensures) _ (List·Memᴰ·head refl) in
+    (low, omega (arith, at-start .pre .1, hand-length _ _ _ _ (at-start .pre .1) _ _ _ _ _ _ (at-turn .loop .inv) (at-start .pre .0)))
 
 loop-less-2 : tie.Need-loop-less-2 Inv-loop μ-loop
 loop-less-2 c =
@@ -120,7 +163,7 @@ loop-less-2 c =
     let at-look = at-x .before .before in
     let at-turn = at-look .before .before in
     let at-start = at-turn .before .before .before in
-    less-go _ _ _ _ (at-start .pre .1) _ _ _ _ _ (at-turn .loop .inv) (at-start .pre .0) _ _ (ap linksOf (sym (at-x .x .given .1)) ∙ at-look .look .ensures) (at-mark-cell3 .mark-cell3 .ensures)
+    less-go _ _ _ _ (at-start .pre .1) _ _ _ _ _ _ (at-turn .loop .inv) (at-start .pre .0) _ _ (ap linksOf (sym (at-x .x .given .1)) ∙ at-look .look .ensures) (at-mark-cell3 .mark-cell3 .ensures)
 
 loop-again-2 : tie.Need-loop-again-2 Inv-loop μ-loop
 loop-again-2 c =
@@ -129,7 +172,7 @@ loop-again-2 c =
     let at-look = at-x .before .before in
     let at-turn = at-look .before .before in
     let at-start = at-turn .before .before .before in
-    hand-go _ _ _ _ (at-start .pre .1) _ _ _ _ _ (at-turn .loop .inv) _ _ (ap linksOf (sym (at-x .x .given .1)) ∙ at-look .look .ensures) (at-mark-cell3 .mark-cell3 .ensures)
+    hand-go _ _ _ _ (at-start .pre .1) _ _ _ _ _ _ (at-turn .loop .inv) _ _ (ap linksOf (sym (at-x .x .given .1)) ∙ at-look .look .ensures) (at-mark-cell3 .mark-cell3 .ensures)
 
 enum-told : tie.Need-enum-told Inv-loop μ-loop
 enum-told c = search needs
@@ -138,7 +181,7 @@ same-length-3 : tie.Need-same-length-3 Inv-loop μ-loop
 same-length-3 c =
     let at-turn = c .before .before .before .before .before in
     let at-start = at-turn .before .before .before in
-    hand-length _ _ _ _ (at-start .pre .1) _ _ _ _ _ (at-turn .loop .inv) (at-start .pre .0)
+    hand-length _ _ _ _ (at-start .pre .1) _ _ _ _ _ _ (at-turn .loop .inv) (at-start .pre .0)
 
 same-length-4 : tie.Need-same-length-4 Inv-loop μ-loop
 same-length-4 c = c .before .before .before .before .before .loop .inv .lent
@@ -149,7 +192,7 @@ returns-2 c =
     let at-look = at-enum-told .before .before in
     let at-turn = at-look .before .before in
     let at-start = at-turn .before .before .before in
-    hand-last _ _ _ _ (at-start .pre .1) _ _ _ _ _ (at-turn .loop .inv) (ap linksOf (sym (at-enum-told .enum-told .given .1)) ∙ at-look .look .ensures) (c .if2 .taken)
+    hand-last _ _ _ _ (at-start .pre .1) _ _ _ _ _ _ (at-turn .loop .inv) (ap linksOf (sym (at-enum-told .enum-told .given .1)) ∙ at-look .look .ensures) (c .if3 .taken)
 
 sub-top : tie.Need-sub-top Inv-loop μ-loop
 sub-top c = omega arith
@@ -159,21 +202,21 @@ mul-hand c = omega arith
 
 slice-read-hand : tie.Need-slice-read-hand Inv-loop μ-loop
 slice-read-hand c =
-    let at-if2 = c .before in
-    let at-turn = at-if2 .before .before .before .before .before in
-    omega (arith, at-turn .loop .inv .fits, at-turn .loop .inv .lent, at-if2 .if2 .left)
+    let at-if3 = c .before in
+    let at-turn = at-if3 .before .before .before .before .before in
+    omega (arith, at-turn .loop .inv .fits, at-turn .loop .inv .lent, at-if3 .if3 .left)
 
 loop-less-3 : tie.Need-loop-less-3 Inv-loop μ-loop
 loop-less-3 c = omega arith
 
 loop-again-3 : tie.Need-loop-again-3 Inv-loop μ-loop
 loop-again-3 c =
-    let at-if2 = c .before in
-    let at-enum-told = at-if2 .before in
+    let at-if3 = c .before in
+    let at-enum-told = at-if3 .before in
     let at-look = at-enum-told .before .before in
     let at-turn = at-look .before .before in
     let at-start = at-turn .before .before .before in
-    hand-pop _ _ _ _ (at-start .pre .1) _ _ _ _ _ (at-turn .loop .inv) (ap linksOf (sym (at-enum-told .enum-told .given .1)) ∙ at-look .look .ensures) (at-if2 .if2 .left)
+    hand-pop _ _ _ _ (at-start .pre .1) _ _ _ _ _ _ (at-turn .loop .inv) (ap linksOf (sym (at-enum-told .enum-told .given .1)) ∙ at-look .look .ensures) (at-if3 .if3 .left)
 
 pub mark-from-spec : {M : Type 1} → statement M
 mark-from-spec =
@@ -184,11 +227,13 @@ mark-from-spec =
     loop-holds
     look-requires
     enum-known-left
+    mark-cell-requires
+    mark-cell-requires-2
+    check-requires
+    add-checks
     same-length
     same-length-2
     returns
-    mark-cell-requires
-    mark-cell-requires-2
     mul-stack
     slice-write-stack
     add-top

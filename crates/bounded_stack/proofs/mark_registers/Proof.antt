@@ -2,16 +2,18 @@
 use Rattle.bounded_stack.proofs.mark_registers.Statement.{statement}
 use Rattle.bounded_stack.proofs.mark_registers.Tie as tie
 use native.Mathlib.Omega.{arith}
-use Rattle.pool.specs.Layout.{registerCount}
 use Prim.Native.Nat.{_-_}
-use mathlib.Core.Path.{sym, _∙_}
-use Rattle.bounded_stack.proofs.RootLoop.{Registers, registers-first, registers-length, registers-last, registers-bound, registers-skip, registers-cell, registers-start, registers-next, registers-full}
+use mathlib.Core.Path.{sym, ap, _∙_}
+use mathlib.Core.Logic.{⊎-elim}
+use lib.ListN.{length}
+use Rattle.pool.specs.Layout.{registerCount}
+use Rattle.bounded_stack.proofs.RootLoop.{Registers, registers-first, registers-length, registers-last, registers-bound, registers-skip, registers-cell, registers-start, registers-fit, registers-next, registers-full}
 
 abbrev Inv-loop : tie.InvT-loop
-Inv-loop words₀ n stack₀ k₀ words stack k = Registers registerCount n words₀ stack₀ words stack k
+Inv-loop words₀ n stack₀ checks₀ k₀ words stack checks k = Registers registerCount n words₀ stack₀ words stack checks k
 
 abbrev μ-loop : tie.MeasureT-loop
-μ-loop words₀ n stack₀ k₀ words stack k = registerCount - k
+μ-loop words₀ n stack₀ checks₀ k₀ words stack checks k = registerCount - k
 
 loop-holds : tie.Need-loop-holds Inv-loop μ-loop
 loop-holds c = registers-first _ _ _ _
@@ -21,7 +23,7 @@ read-register-requires c κs =
     let at-test = c .before in
     let at-turn = at-test .before in
     let at-start = at-turn .before .before .before in
-    (at-test .loop-test .taken, omega (arith, at-start .pre .1, registers-length _ _ _ _ _ _ _ (at-turn .loop .inv)))
+    (at-test .loop-test .taken, omega (arith, at-start .pre .1, registers-length _ _ _ _ _ _ _ _ (at-turn .loop .inv)))
 
 is-unmarked-requires : tie.Need-is-unmarked-requires Inv-loop μ-loop
 is-unmarked-requires c κs =
@@ -29,7 +31,7 @@ is-unmarked-requires c κs =
     let at-test = at-read-register .before .before in
     let at-turn = at-test .before in
     let at-start = at-turn .before .before .before in
-    omega (arith, at-start .pre .1, registers-length _ _ _ _ _ _ _ (at-turn .loop .inv), registers-bound _ _ _ (at-start .pre .0) (at-start .pre .1) _ _ _ _ (at-turn .loop .inv) _ (at-test .loop-test .taken) (at-read-register .read-register .ensures))
+    omega (arith, at-start .pre .1, registers-length _ _ _ _ _ _ _ _ (at-turn .loop .inv), registers-bound _ _ _ (at-start .pre .0) (at-start .pre .1) _ _ _ _ _ (at-turn .loop .inv) _ (at-test .loop-test .taken) (at-read-register .read-register .ensures))
 
 mark-cell-requires : tie.Need-mark-cell-requires Inv-loop μ-loop
 mark-cell-requires c κs =
@@ -39,7 +41,7 @@ mark-cell-requires c κs =
     let at-test = at-read-register .before .before in
     let at-turn = at-test .before in
     let at-start = at-turn .before .before .before in
-    (registers-cell _ _ _ (at-start .pre .0) (at-start .pre .1) _ _ _ _ (at-turn .loop .inv) _ (at-test .loop-test .taken) (at-read-register .read-register .ensures) (sym (at-is-unmarked .is-unmarked .ensures) ∙ at-if1 .if1 .taken), omega (arith, at-start .pre .1, registers-length _ _ _ _ _ _ _ (at-turn .loop .inv), registers-bound _ _ _ (at-start .pre .0) (at-start .pre .1) _ _ _ _ (at-turn .loop .inv) _ (at-test .loop-test .taken) (at-read-register .read-register .ensures)))
+    (registers-cell _ _ _ (at-start .pre .0) (at-start .pre .1) _ _ _ _ _ (at-turn .loop .inv) _ (at-test .loop-test .taken) (at-read-register .read-register .ensures) (sym (at-is-unmarked .is-unmarked .ensures) ∙ at-if1 .if1 .taken), omega (arith, at-start .pre .1, registers-length _ _ _ _ _ _ _ _ (at-turn .loop .inv), registers-bound _ _ _ (at-start .pre .0) (at-start .pre .1) _ _ _ _ _ (at-turn .loop .inv) _ (at-test .loop-test .taken) (at-read-register .read-register .ensures)))
 
 mark-from-requires : tie.Need-mark-from-requires Inv-loop μ-loop
 mark-from-requires c κs =
@@ -50,7 +52,55 @@ mark-from-requires c κs =
     let at-test = at-read-register .before .before in
     let at-turn = at-test .before in
     let at-start = at-turn .before .before .before in
-    (registers-start _ _ _ (at-start .pre .0) (at-start .pre .1) _ _ _ _ (at-turn .loop .inv) _ (at-test .loop-test .taken) (at-read-register .read-register .ensures) (sym (at-is-unmarked .is-unmarked .ensures) ∙ at-if1 .if1 .taken) _ (at-mark-cell .mark-cell .ensures), omega (arith, at-start .pre .1, registers-length _ _ _ _ _ _ _ (at-turn .loop .inv), at-mark-cell .mark-cell .kept .0))
+    (registers-start _ _ _ (at-start .pre .0) (at-start .pre .1) _ _ _ _ _ (at-turn .loop .inv) _ (at-test .loop-test .taken) (at-read-register .read-register .ensures) (sym (at-is-unmarked .is-unmarked .ensures) ∙ at-if1 .if1 .taken) _ (at-mark-cell .mark-cell .ensures), omega (arith, at-start .pre .1, registers-length _ _ _ _ _ _ _ _ (at-turn .loop .inv), at-mark-cell .mark-cell .kept .0))
+
+add-checks : tie.Need-add-checks Inv-loop μ-loop
+add-checks c =
+    let at-mark-from = c .before .before .before .before .before in
+    let at-mark-cell = at-mark-from .before .before .before .before .before in
+    let at-if1 = at-mark-cell .before .before in
+    let at-is-unmarked = at-if1 .before in
+    let at-read-register = at-is-unmarked .before .before in
+    let at-test = at-read-register .before .before in
+    let at-turn = at-test .before in
+    let at-start = at-turn .before .before .before in
+    omega (arith, at-start .fits .n, registers-fit _ _ _ (at-start .pre .0) (at-start .pre .1) _ _ _ _ _ (at-turn .loop .inv) _ (at-test .loop-test .taken) (at-read-register .read-register .ensures) (sym (at-is-unmarked .is-unmarked .ensures) ∙ at-if1 .if1 .taken) _ (at-mark-cell .mark-cell .ensures) _ _ _ (at-mark-from .mark-from .ensures))
+
+same-length : tie.Need-same-length Inv-loop μ-loop
+same-length c =
+    let at-mark-from = c .before .before .before .before .before .before .before in
+    let at-mark-cell = at-mark-from .before .before .before .before .before in
+    let at-if1 = at-mark-cell .before .before in
+    let at-is-unmarked = at-if1 .before in
+    let at-read-register = at-is-unmarked .before .before in
+    let at-test = at-read-register .before .before in
+    let at-turn = at-test .before in
+    let at-start = at-turn .before .before .before in
+    at-mark-from .mark-from .kept .0 ∙ (at-mark-cell .mark-cell .kept .0 ∙ registers-length _ _ _ _ _ _ _ _ (at-turn .loop .inv))
+
+same-length-2 : tie.Need-same-length-2 Inv-loop μ-loop
+same-length-2 c =
+    let at-mark-from = c .before .before .before .before .before .before .before in
+    let at-mark-cell = at-mark-from .before .before .before .before .before in
+    let at-if1 = at-mark-cell .before .before in
+    let at-is-unmarked = at-if1 .before in
+    let at-read-register = at-is-unmarked .before .before in
+    let at-test = at-read-register .before .before in
+    let at-turn = at-test .before in
+    let at-start = at-turn .before .before .before in
+    at-mark-from .mark-from .kept .1 .1 .0 ∙ at-turn .loop .inv .lent
+
+returns : tie.Need-returns Inv-loop μ-loop
+returns c =
+    let at-mark-from = c .before .before .before .before .before .before .before in
+    let at-mark-cell = at-mark-from .before .before .before .before .before in
+    let at-if1 = at-mark-cell .before .before in
+    let at-is-unmarked = at-if1 .before in
+    let at-read-register = at-is-unmarked .before .before in
+    let at-test = at-read-register .before .before in
+    let at-turn = at-test .before in
+    let at-start = at-turn .before .before .before in
+    registers-full _ _ _ (at-start .pre .0) (at-start .pre .1) _ _ _ _ _ (at-turn .loop .inv) _ (at-test .loop-test .taken) (at-read-register .read-register .ensures) (sym (at-is-unmarked .is-unmarked .ensures) ∙ at-if1 .if1 .taken) _ (at-mark-cell .mark-cell .ensures) _ _ _ (at-mark-from .mark-from .ensures) (c .if2 .taken)
 
 add-k : tie.Need-add-k Inv-loop μ-loop
 add-k c = omega arith
@@ -60,60 +110,17 @@ loop-less c = omega arith
 
 loop-again : tie.Need-loop-again Inv-loop μ-loop
 loop-again c =
-    let at-mark-from = c .before .before .before .before .before in
-    let at-mark-cell = at-mark-from .before .before .before .before .before in
-    let at-if1 = at-mark-cell .before .before in
-    let at-is-unmarked = at-if1 .before in
-    let at-read-register = at-is-unmarked .before .before in
-    let at-test = at-read-register .before .before in
-    let at-turn = at-test .before in
-    let at-start = at-turn .before .before .before in
-    registers-next _ _ _ (at-start .pre .0) (at-start .pre .1) _ _ _ _ (at-turn .loop .inv) _ (at-test .loop-test .taken) (at-read-register .read-register .ensures) (sym (at-is-unmarked .is-unmarked .ensures) ∙ at-if1 .if1 .taken) _ (at-mark-cell .mark-cell .ensures) _ _ (at-mark-from .mark-from .ensures) (c .if2 .taken) _ (at-mark-from .mark-from .kept .1 .1 .0)
-
-same-length : tie.Need-same-length Inv-loop μ-loop
-same-length c =
-    let at-mark-from = c .before .before .before .before .before in
-    let at-mark-cell = at-mark-from .before .before .before .before .before in
-    let at-loop-test = at-mark-cell .before .before .before .before .before .before .before in
-    let at-loop = at-loop-test .before in
-    at-mark-from .mark-from .kept .0 ∙ (at-mark-cell .mark-cell .kept .0 ∙ registers-length _ _ _ _ _ _ _ (at-loop .loop .inv))
-
-same-length-2 : tie.Need-same-length-2 Inv-loop μ-loop
-same-length-2 c =
-    let at-mark-from = c .before .before .before .before .before in
-    let at-if1 = at-mark-from .before .before .before .before .before .before .before in
-    let at-loop = at-if1 .before .before .before .before .before .before in
-    at-mark-from .mark-from .kept .1 .1 .0 ∙ at-loop .loop .inv .lent
-
-returns : tie.Need-returns Inv-loop μ-loop
-returns c =
-    let at-mark-from = c .before .before .before .before .before in
-    let at-mark-cell = at-mark-from .before .before .before .before .before in
-    let at-if1 = at-mark-cell .before .before in
-    let at-is-unmarked = at-if1 .before in
-    let at-read-register = at-is-unmarked .before .before in
-    let at-test = at-read-register .before .before in
-    let at-turn = at-test .before in
-    let at-start = at-turn .before .before .before in
-    registers-full _ _ _ (at-start .pre .0) (at-start .pre .1) _ _ _ _ (at-turn .loop .inv) _ (at-test .loop-test .taken) (at-read-register .read-register .ensures) (sym (at-is-unmarked .is-unmarked .ensures) ∙ at-if1 .if1 .taken) _ (at-mark-cell .mark-cell .ensures) _ _ (at-mark-from .mark-from .ensures) (c .if2 .left)
-
-add-k-2 : tie.Need-add-k-2 Inv-loop μ-loop
-add-k-2 c = omega arith
-
-loop-less-2 : tie.Need-loop-less-2 Inv-loop μ-loop
-loop-less-2 c = omega arith
-
-loop-again-2 : tie.Need-loop-again-2 Inv-loop μ-loop
-loop-again-2 c =
     let at-is-unmarked = c .before in
     let at-read-register = at-is-unmarked .before .before in
     let at-test = at-read-register .before .before in
     let at-turn = at-test .before in
     let at-start = at-turn .before .before .before in
-    registers-skip _ _ _ (at-start .pre .0) (at-start .pre .1) _ _ _ _ (at-turn .loop .inv) _ (at-test .loop-test .taken) (at-read-register .read-register .ensures) (sym (at-is-unmarked .is-unmarked .ensures) ∙ c .if1 .left)
+    ⊎-elim (λ w. registers-next _ _ _ (at-start .pre .0) (at-start .pre .1) _ _ _ _ _ (at-turn .loop .inv) _ (at-test .loop-test .taken) (at-read-register .read-register .ensures) (sym (at-is-unmarked .is-unmarked .ensures) ∙ w .0 .taken) _ (w .2 .ensures) _ _ _ (w .7 .ensures) (w .14 .left) (ap length (w .16) ∙ w .7 .kept .1 .1 .0) (w .15) (w .17))
+    (λ w. registers-skip _ _ _ (at-start .pre .0) (at-start .pre .1) _ _ _ _ _ (at-turn .loop .inv) _ (at-test .loop-test .taken) (at-read-register .read-register .ensures) (sym (at-is-unmarked .is-unmarked .ensures) ∙ w .0 .left) (w .1) (w .2) (w .3))
+    (c .if1 .came)
 
 same-length-3 : tie.Need-same-length-3 Inv-loop μ-loop
-same-length-3 c = registers-length _ _ _ _ _ _ _ (c .before .loop .inv)
+same-length-3 c = registers-length _ _ _ _ _ _ _ _ (c .before .loop .inv)
 
 same-length-4 : tie.Need-same-length-4 Inv-loop μ-loop
 same-length-4 c = c .before .loop .inv .lent
@@ -122,7 +129,7 @@ returns-2 : tie.Need-returns-2 Inv-loop μ-loop
 returns-2 c =
     let at-turn = c .before in
     let at-start = at-turn .before .before .before in
-    registers-last _ _ _ (at-start .pre .0) (at-start .pre .1) _ _ _ _ (at-turn .loop .inv) (c .loop-test .left)
+    registers-last _ _ _ (at-start .pre .0) (at-start .pre .1) _ _ _ _ _ (at-turn .loop .inv) (c .loop-test .left)
 
 pub mark-registers-spec : {M : Type 1} → statement M
 mark-registers-spec =
@@ -135,15 +142,13 @@ mark-registers-spec =
     is-unmarked-requires
     mark-cell-requires
     mark-from-requires
-    add-k
-    loop-less
-    loop-again
+    add-checks
     same-length
     same-length-2
     returns
-    add-k-2
-    loop-less-2
-    loop-again-2
+    add-k
+    loop-less
+    loop-again
     same-length-3
     same-length-4
     returns-2)

@@ -21,9 +21,6 @@ sweep-requires c κs = search needs
 clear-requires : tie.Need-clear-requires
 clear-requires c κs = search needs
 
-flag-requires : tie.Need-flag-requires
-flag-requires c κs = search needs
-
 same-length : tie.Need-same-length
 same-length c = search needs
 
@@ -32,13 +29,13 @@ same-length-2 c = search needs
 
 returns : tie.Need-returns
 returns c =
-    let at-clear = c .before .before .before in
+    let at-clear = c .before .before in
     let at-sweep = at-clear .before .before .before .before in
     let at-mark = at-sweep .before .before .before .before .before .before in
     let at-if1 = at-mark .before .before .before in
     let at-well-formed = at-if1 .before in
     let at-start = at-well-formed .before .before .before .before in
-    stack-made _ _ (at-start .args .stack .now) _ (at-mark .mark .last .1 .1 .0) _ _ _ _ (sym (at-well-formed .well-formed .ensures) ∙ at-if1 .if1 .taken) (at-start .pre .0) (at-mark .mark .ensures) (at-mark .mark .kept .1 .1 .0) (at-sweep .sweep .ensures) (at-clear .clear .ensures) (c .flag .ensures)
+    stack-made _ _ (at-start .args .stack .now) _ (at-mark .mark .last .1 .1 .0) _ _ _ _ _ (sym (at-well-formed .well-formed .ensures) ∙ at-if1 .if1 .taken) (at-start .pre .0) (at-mark .mark .ensures) (at-mark .mark .kept .1 .1 .0) (at-sweep .sweep .ensures) (at-clear .clear .ensures)
 
 same-length-3 : tie.Need-same-length-3
 same-length-3 c = search needs
@@ -54,7 +51,6 @@ collect-in-spec =
     mark-requires
     sweep-requires
     clear-requires
-    flag-requires
     same-length
     same-length-2
     returns

@@ -26,9 +26,6 @@ is-stack-expected-requires c κs = search needs
 same-requires : tie.Need-same-requires
 same-requires c κs = search needs
 
-second-requires : tie.Need-second-requires
-second-requires c κs = search needs
-
 same-length : tie.Need-same-length
 same-length c = search needs
 
@@ -40,8 +37,8 @@ same-length-3 c = search needs
 
 returns : tie.Need-returns
 returns c =
-    let answer-and-stack = c .before .before .before .before .before .before .is-expected .result && c .before .before .before .before .is-stack-expected .result in
-    λ e. c .before .same .ensures (both answer-and-stack (c .before .same .result) e .1)
+    let answer-and-stack = c .before .before .before .before .before .is-expected .result && c .before .before .before .is-stack-expected .result in
+    λ e. c .same .ensures (both answer-and-stack (c .same .result) e .1)
 
 pub run-spec : {M : Type 1} → statement M
 run-spec =
@@ -54,7 +51,6 @@ run-spec =
     is-expected-requires
     is-stack-expected-requires
     same-requires
-    second-requires
     same-length
     same-length-2
     same-length-3

@@ -1,9 +1,9 @@
--- `bounded_stack::look` meets its contract: at each return the tests decide the definition's.
+-- `stack_check::look` meets its contract: at each return the tests decide the definition's.
 use borrow.Author.Needs.{needs}
-use Rattle.bounded_stack.proofs.look.Statement.{statement}
-use Rattle.bounded_stack.proofs.look.Tie as tie
+use Rattle.stack_check.proofs.look.Statement.{statement}
+use Rattle.stack_check.proofs.look.Tie as tie
 use mathlib.Core.Path.{sym, _∙_}
-use Rattle.bounded_stack.proofs.Simulation.{look-made, look-equal, look-both}
+use Rattle.stack_check.proofs.Marked.{look-made, look-equal, look-both}
 
 link-of-requires : tie.Need-link-of-requires
 link-of-requires c κs = search needs

@@ -1,0 +1,4 @@
+pub mod Marked
+pub mod Walking
+pub mod Entries
+pub mod Descending

@@ -1,0 +1,96 @@
+// Where the stack marker goes on to from a cell, and the check of its entries where the lent words are full.
+use pool::Pool;
+ghost use mathlib.Core.Path.{_≡_};
+ghost use Prim.Native.Nat.{_<_, _≤_};
+ghost use lib.ListN.{length};
+ghost use Rattle.pool.specs.Layout.{registerCount, poolLength, left, right};
+ghost use Rattle.stack_check.specs.Steps.{linksOf, onwardIn, entries, entryOf, withoutNil, Walkable, walkIn, Checkable, checkIn};
+
+// Where the marker goes on to from a cell: with two links unmarked it goes to the left one and pushes the right one.
+pub enum Onward {
+    Nowhere,
+    To(u32),
+    Both(u32, u32),
+}
+
+// Looks at both links of a cell. Two equal unmarked links are one.
+pub fn look(words: &[u32], n: u32, p: u32) -> Onward
+    requires { ⌜ (0 < p) × (p ≤ n) × (left registerCount (now words) p ≤ n) × (right registerCount (now words) p ≤ n) × (poolLength registerCount n ≤ length (now words)) ⌝ }
+    ensures { λ r. ⌜ linksOf r ≡ onwardIn registerCount (now (words .entry)) p ⌝ }
+{
+    let left = pool::link_of(words, p, Pool::LEFT);
+    let right = pool::link_of(words, p, Pool::RIGHT);
+    if reversal::is_unmarked(words, left) {
+        if left == right {
+            Onward::To(left)
+        } else if reversal::is_unmarked(words, right) {
+            Onward::Both(left, right)
+        } else {
+            Onward::To(left)
+        }
+    } else if reversal::is_unmarked(words, right) {
+        Onward::To(right)
+    } else {
+        Onward::Nowhere
+    }
+}
+
+// From an entry of the stack: while a cell has one unmarked link, marks it and goes there. Gives the cell reached where two are unmarked, and 0 where none is.
+fn walk(words: &mut [u32], n: u32, entry: u32) -> u32
+    requires { ⌜ Walkable registerCount n (now words) entry ⌝ }
+    requires { ⌜ poolLength registerCount n ≤ length (now words) ⌝ }
+    ensures { λ r. ⌜ ((h : Walkable registerCount n (now (words .entry)) entry) → (now (words .exit), entryOf r) ≡ walkIn registerCount n (now (words .entry)) entry h) ⌝ }
+{
+    let mut p = entry;
+    loop {
+        match look(words, n, p) {
+            Onward::Both(_, _) => return p,
+            Onward::To(x) => {
+                pool::mark_cell(words, x);
+                p = x;
+            }
+            Onward::Nowhere => return 0,
+        }
+    }
+}
+
+// Puts what its walk gives in the place of each entry, from the top one to the bottom.
+fn walk_entries(words: &mut [u32], n: u32, stack: &mut [u32])
+    requires { ⌜ Checkable registerCount n (now words) (now stack) ⌝ }
+    requires { ⌜ poolLength registerCount n ≤ length (now words) ⌝ }
+    ensures { λ _. ⌜ ((h : Checkable registerCount n (now (words .entry)) (now (stack .entry))) → (now (words .exit), withoutNil (entries (now (stack .exit)) (length (now (stack .entry))))) ≡ checkIn registerCount n (now (words .entry)) (now (stack .entry)) h) ⌝ }
+{
+    let mut i = stack.len();
+    while 0 < i {
+        i -= 1;
+        let reached = walk(words, n, stack[i]);
+        stack[i] = reached;
+    }
+}
+
+// Moves the entries that are left to the bottom, in their order. Gives how many they are.
+fn close_gaps(stack: &mut [u32]) -> usize
+    ensures { λ r. ⌜ entries (now (stack .exit)) r ≡ withoutNil (entries (now (stack .entry)) (length (now (stack .entry)))) ⌝ }
+{
+    let mut kept = 0;
+    let mut i = 0;
+    while i < stack.len() {
+        let entry = stack[i];
+        i += 1;
+        if entry != 0 {
+            stack[kept] = entry;
+            kept += 1;
+        }
+    }
+    kept
+}
+
+// Checks the entries of a full stack: those that are left stand at the bottom. Gives how many they are.
+pub fn check(words: &mut [u32], n: u32, stack: &mut [u32]) -> usize
+    requires { ⌜ Checkable registerCount n (now words) (now stack) ⌝ }
+    requires { ⌜ poolLength registerCount n ≤ length (now words) ⌝ }
+    ensures { λ r. ⌜ ((h : Checkable registerCount n (now (words .entry)) (now (stack .entry))) → (now (words .exit), entries (now (stack .exit)) r) ≡ checkIn registerCount n (now (words .entry)) (now (stack .entry)) h) ⌝ }
+{
+    walk_entries(words, n, stack);
+    close_gaps(stack)
+}
