@@ -10,10 +10,8 @@ use Rattle.graph.specs.Preorder.{elem}
 use Rattle.graph.proofs.Count.{marked-le}
 use Rattle.pool.specs.Layout.{poolLength, left, right, graphOf, rootsOf}
 use Rattle.pool.specs.States.{markCell}
-use Rattle.questions.proofs.WellFormed.{WellFormed, well-formed-read}
 use Rattle.questions.proofs.PoolGraph.{pool-within}
 use Rattle.reversal.specs.ReversalTheorem.{markAll}
-use Rattle.reversal.proofs.MarkAll.{length-markAll}
 use Rattle.reversal.proofs.PoolMarks.{stateMarks}
 use Rattle.stack_algorithm.specs.Stack.{onward}
 use Rattle.stack_algorithm.specs.Steps.{Going}
@@ -21,7 +19,7 @@ use Rattle.stack_algorithm.specs.Check.{check, behind, checkAndPush, push, turn
 use Rattle.stack_algorithm.proofs.Going.{Lasting, seen-most, turn-lasting}
 use Rattle.stack_algorithm.proofs.Checking.{Left, check-left, check-going, limited-none, enough-behind, dropped-some, elem-append}
 use Rattle.stack_check.specs.Steps.{onwardIn, entries, Pending, Checkable, checkIn}
-use Rattle.stack_check.proofs.Marked.{Marked, marked-length, pending-cell, looked, new-cell, marked-count, unmarkedCount}
+use Rattle.stack_check.proofs.Marked.{Marked, marked-length, pending-well, pending-length, pending-cell, looked, new-cell, marked-count, unmarkedCount}
 use Rattle.stack_check.proofs.Marked as marked
 use Rattle.stack_check.proofs.Entries.{entries-length, entries-push, entries-pop}
 use Rattle.bounded_stack.specs.Steps.{resultIn, runFromCell}
@@ -58,11 +56,8 @@ pub record Ready (R n p : ℕ) (words₀ stack₀ words : List ℕ) (top l r : �
 
 module _ (R n p : ℕ) (words₀ : List ℕ) (room : poolLength R n ≤ length words₀) where
   module _ (h : Pending R n words₀ (p ∷ [])) where
-    well : WellFormed R n (h .pool)
-    well = well-formed-read R n (h .pool) (h .well)
-
     pool-room : poolLength R n ≤ length (h .pool)
-    pool-room = omega (arith, room, ap length (h .words) ∙ length-markAll R (h .pool) (h .seen))
+    pool-room = omega (arith, room, pending-length h)
 
   pub hand-first : (stack₀ : List ℕ) → Hand R n p words₀ stack₀ words₀ stack₀ p 0 0
   unfolding entries elem
@@ -86,20 +81,20 @@ module _ (R n p : ℕ) (words₀ : List ℕ) (room : poolLength R n ≤ length w
   module _ (stack₀ words stack : List ℕ) (hand top checks : ℕ) (s : Hand R n p words₀ stack₀ words stack hand top checks) where
     module _ (h : Pending R n words₀ (p ∷ [])) where
       pub hand-cell : (0 < hand) × (hand ≤ n) × (left R words hand ≤ n) × (right R words hand ≤ n) × (poolLength R n ≤ length words)
-      hand-cell = pending-cell R n (h .pool) (well h) (pool-room h) (s .run h .marked)
+      hand-cell = pending-cell R n (h .pool) (pending-well h) (pool-room h) (s .run h .marked)
 
       pub hand-length : length words ≡ length words₀
       hand-length =
-          marked-length R n (h .pool) (well h) (pool-room h) (s .run h .marked) ∙ sym (ap length (h .words) ∙ length-markAll R (h .pool) (h .seen))
+          marked-length R n (h .pool) (pending-well h) (pool-room h) (s .run h .marked) ∙ sym (pending-length h)
 
       module _ (new : List ℕ) (links : new ≡ onwardIn R words hand) where
         -- the links that the loop goes on to are cells
         pub hand-new : (x : ℕ) → List·Memᴰ x new → (0 < x) × (x ≤ n)
-        hand-new = new-cell R n (h .pool) (well h) (pool-room h) (s .run h .marked) new links
+        hand-new = new-cell R n (h .pool) (pending-well h) (pool-room h) (s .run h .marked) new links
 
         -- these marked
         next : Marked R (h .pool) (markAll R words new) (new ++ entries stack top)
-        next = marked.turned R n (h .pool) (well h) (pool-room h) (s .run h .marked) new links
+        next = marked.turned R n (h .pool) (pending-well h) (pool-room h) (s .run h .marked) new links
 
         -- as many cells more are marked
         more : unmarkedCount R n (markAll R words new) + length new ≡ unmarkedCount R n words
@@ -107,8 +102,8 @@ module _ (R n p : ℕ) (words₀ : List ℕ) (room : poolLength R n ≤ length w
         more =
             omega (
               arith,
-              marked-count R n (h .pool) (well h) (pool-room h) (s .run h .marked),
-              marked-count R n (h .pool) (well h) (pool-room h) next,
+              marked-count R n (h .pool) (pending-well h) (pool-room h) (s .run h .marked),
+              marked-count R n (h .pool) (pending-well h) (pool-room h) next,
               length-append (s .run h .marked .seen) new,
               marked-le n (stateMarks R n (markAll R words new)),
             )
@@ -121,13 +116,13 @@ module _ (R n p : ℕ) (words₀ : List ℕ) (room : poolLength R n ≤ length w
         stepped = go (s .run h .turns) refl
           where
             same : new ≡ onward (graphOf R (h .pool)) (s .run h .marked .seen) hand
-            same = links ∙ looked R n (h .pool) (well h) (pool-room h) (s .run h .marked)
+            same = links ∙ looked R n (h .pool) (pending-well h) (pool-room h) (s .run h .marked)
 
             go : (k : ℕ) → s .run h .turns ≡ k
                 → (t : ℕ) × Lasting n t (s .run h .marked .seen ++ new) (new ++ entries stack top)
                 × (behind (s .run h .dropped) (turnBy (length stack₀) n (graphOf R (h .pool)) (limited (length stack₀) n t (graphOf R (h .pool))) (s .run h .marked .seen) (entries stack top) new)
                 ≡ runFromCell R n (length stack₀) p words₀ h)
-            go zero e = absurd (omega (arith, s .run h .lasting, seen-most (pool-within (well h)) (s .run h .marked .going)))
+            go zero e = absurd (omega (arith, s .run h .lasting, seen-most (pool-within (pending-well h)) (s .run h .marked .going)))
             go (suc t) e = (
               t,
               rw same (turn-lasting (s .run h .marked .going) n t (omega (arith, s .run h .lasting))),
@@ -141,7 +136,7 @@ module _ (R n p : ℕ) (words₀ : List ℕ) (room : poolLength R n ≤ length w
     unfolding next marked.turned
     checks-fit l r links h =
         let after = next h (l ∷ r ∷ []) links in
-        omega (arith, s .run h .few, length-append (s .run h .marked .seen) (l ∷ r ∷ []), seen-most (pool-within (well h)) (after .going))
+        omega (arith, s .run h .few, length-append (s .run h .marked .seen) (l ∷ r ∷ []), seen-most (pool-within (pending-well h)) (after .going))
 
     -- one link is unmarked: it is marked and taken in hand
     pub hand-go : (x : ℕ) (w₁ : List ℕ) → x ∷ [] ≡ onwardIn R words hand → w₁ ≡ markCell R words x → Hand R n p words₀ stack₀ w₁ stack x top checks
@@ -340,8 +335,8 @@ module _ (R n p : ℕ) (words₀ : List ℕ) (room : poolLength R n ≤ length w
                   some,
                   facts .more,
                   length-append (s .run h .marked .seen) (l ∷ r ∷ []),
-                  marked-count R n (h .pool) (well h) (pool-room h) (s .run h .marked),
-                  marked-count R n (h .pool) (well h) (pool-room h) left-marked,
+                  marked-count R n (h .pool) (pending-well h) (pool-room h) (s .run h .marked),
+                  marked-count R n (h .pool) (pending-well h) (pool-room h) left-marked,
                   marked-le n (stateMarks R n w₃),
                 )
 

@@ -60,9 +60,9 @@ pub record CheckExamples : Type 0 where
   pub vain : dropped 1 vainLinks ≡ 1 ∷ 1 ∷ 0 ∷ []
   -- "a last vain one too" is counted, and says that the stack was not enough
   pub answer : (isEnough (runOf 1 vainLinks) ≡ false) × (checkCount (runOf 1 vainLinks) ≡ 3)
-  pub order : dropped 2 orderLinks ≡ 1 ∷ []
-  -- the one check there: 8 and 9 are marked, 8 is left, and its links stay unmarked
+  -- the one check of `orderLinks`: 8 and 9 are marked, 8 is left, and its links stay unmarked
   pub left : check 11 (linked orderLinks) (1 ∷ 2 ∷ 3 ∷ 4 ∷ 5 ∷ 6 ∷ 7 ∷ []) (5 ∷ 3 ∷ []) ≡ (1 ∷ 2 ∷ 3 ∷ 4 ∷ 5 ∷ 6 ∷ 7 ∷ 8 ∷ 9 ∷ [], 8 ∷ [])
+  pub order : dropped 2 orderLinks ≡ 1 ∷ []
   -- the entries that are left keep their order: where no link of 12 and of 13 is marked these stay, and 14, a leaf, goes
   pub gaps : check 15 (linked fifteenLinks) (12 ∷ 13 ∷ 14 ∷ []) (12 ∷ 14 ∷ 13 ∷ []) ≡ (12 ∷ 13 ∷ 14 ∷ [], 12 ∷ 13 ∷ [])
   pub more-checks : (dropped 1 elevenLinks ≡ 1 ∷ []) × (dropped 2 elevenLinks ≡ 1 ∷ 2 ∷ [])

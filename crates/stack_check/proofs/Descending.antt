@@ -10,7 +10,7 @@ use Rattle.stack_algorithm.specs.Steps.{Going}
 use Rattle.stack_algorithm.specs.Check.{walk}
 use Rattle.stack_algorithm.proofs.Checking.{swap, walk-next}
 use Rattle.stack_check.specs.Steps.{entries, entryOf, withoutNil, Walkable, walkIn, Checkable, checkIn}
-use Rattle.stack_check.proofs.Marked.{Marked}
+use Rattle.stack_check.proofs.Marked.{Marked, pending-length}
 use Rattle.stack_check.proofs.Entries.{placeOf, place-entry, walkDown, down-walked, entries-pop, entries-above}
 
 -- With the walks from the entries below i to come, which lead to `end`.
@@ -39,7 +39,7 @@ module _ (R n : ℕ) (w₀ stack₀ : List ℕ) where
     pub down-length : Checkable R n w₀ stack₀ → length w ≡ length w₀
     down-length h =
         ap length (s .run h .marked .words)
-        ∙ (length-markAll R (h .1 .pool) (s .run h .marked .seen) ∙ sym (ap length (h .1 .words) ∙ length-markAll R (h .1 .pool) (h .1 .seen)))
+        ∙ (length-markAll R (h .1 .pool) (s .run h .marked .seen) ∙ sym (pending-length (h .1)))
 
     module _ (some : 0 < i) (h : Checkable R n w₀ stack₀) where
       abbrev entry : ℕ

@@ -19,7 +19,7 @@ use Rattle.graph.proofs.Count.{marked-same}
 use Rattle.pool.specs.Layout.{poolLength, cell, left, right, state, graphOf, rootsOf}
 use Rattle.pool.specs.States.{isUsed}
 use Rattle.pool.proofs.States.{marked-not-used}
-use Rattle.questions.proofs.WellFormed.{WellFormed}
+use Rattle.questions.proofs.WellFormed.{WellFormed, well-formed-read}
 use Rattle.questions.proofs.PoolGraph.{Used, reached-used, pool-within}
 use Rattle.reversal.specs.Reversal.{unmarked}
 use Rattle.reversal.specs.ReversalTheorem.{markAll}
@@ -29,7 +29,7 @@ use Rattle.stack_algorithm.specs.Stack.{isUnmarked, unmarkedLinks, onward}
 use Rattle.stack_algorithm.specs.Steps.{Going}
 use Rattle.stack_algorithm.proofs.Fresh.{member-fresh, other-fresh, marked-all}
 use Rattle.stack_algorithm.proofs.Going.{turn}
-use Rattle.stack_check.specs.Steps.{onwardIn}
+use Rattle.stack_check.specs.Steps.{onwardIn, Pending}
 
 -- the two tests decide which links the marker goes on to
 pub look-made : (R p : ℕ) (w : List ℕ) (l r : ℕ) {a b : Bool} → l ≡ left R w p → r ≡ right R w p → a ≡ unmarked R w l → b ≡ unmarked R w r
@@ -156,6 +156,14 @@ module _ (R n : ℕ) (pool : List ℕ) (well : WellFormed R n pool) (room : pool
             λ k. rw same (⊎-elim (λ mem. absurd (out mem)) (λ above. above) (marks-cases (stateMarks R n pool) (s .seen) x k)),
             λ k. marks-keeps (stateMarks R n pool) (s .seen) x (rw same at k),
           )
+
+-- Of words with some cells pending: the pool is well-formed, and has their length.
+module _ {R n : ℕ} {w pending : List ℕ} (h : Pending R n w pending) where
+  pub pending-well : WellFormed R n (h .pool)
+  pending-well = well-formed-read R n (h .pool) (h .well)
+
+  pub pending-length : length w ≡ length (h .pool)
+  pending-length = ap length (h .words) ∙ length-markAll R (h .pool) (h .seen)
 
 -- How many cells are not marked.
 abbrev pub unmarkedCount : ℕ → ℕ → List ℕ → ℕ

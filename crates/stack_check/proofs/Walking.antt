@@ -8,17 +8,15 @@ use borrow.Author.Tests.{ne-eqb}
 use Rattle.graph.proofs.Count.{marked-le}
 use Rattle.pool.specs.Layout.{poolLength, left, right, graphOf}
 use Rattle.pool.specs.States.{markCell}
-use Rattle.questions.proofs.WellFormed.{WellFormed, well-formed-read}
 use Rattle.questions.proofs.PoolGraph.{pool-within}
 use Rattle.reversal.specs.ReversalTheorem.{markAll}
-use Rattle.reversal.proofs.MarkAll.{length-markAll}
 use Rattle.reversal.proofs.PoolMarks.{stateMarks}
 use Rattle.stack_algorithm.specs.Stack.{onward}
 use Rattle.stack_algorithm.specs.Check.{byLinks, walk}
 use Rattle.stack_algorithm.proofs.Fresh.{member-some}
 use Rattle.stack_algorithm.proofs.Going.{seen-most}
 use Rattle.stack_check.specs.Steps.{onwardIn, entryOf, inWords, Walkable, walkIn}
-use Rattle.stack_check.proofs.Marked.{Marked, marked-length, pending-cell, looked, turned, new-cell, marked-count, unmarkedCount}
+use Rattle.stack_check.proofs.Marked.{Marked, marked-length, pending-well, pending-length, pending-cell, looked, turned, new-cell, marked-count, unmarkedCount}
 
 -- Between two turns: what is left of the walk leads to the same end.
 pub record Walking (R n : ℕ) (pool : List ℕ) (end : List ℕ × List ℕ) (w : List ℕ) (p : ℕ) : Type 0 where
@@ -36,14 +34,8 @@ WalkLoop R n entry w₀ w p = (h : Walkable R n w₀ entry) → Walking R n (h .
 
 module _ (R n entry : ℕ) (w₀ : List ℕ) (room : poolLength R n ≤ length w₀) where
   module _ (h : Walkable R n w₀ entry) where
-    well : WellFormed R n (h .1 .pool)
-    well = well-formed-read R n (h .1 .pool) (h .1 .well)
-
-    long : length w₀ ≡ length (h .1 .pool)
-    long = ap length (h .1 .words) ∙ length-markAll R (h .1 .pool) (h .1 .seen)
-
     pool-room : poolLength R n ≤ length (h .1 .pool)
-    pool-room = omega (arith, long)
+    pool-room = omega (arith, pending-length (h .1))
 
   pub walk-first : WalkLoop R n entry w₀ w₀ entry
   walk-first h =
@@ -58,10 +50,10 @@ module _ (R n entry : ℕ) (w₀ : List ℕ) (room : poolLength R n ≤ length w
   module _ {w : List ℕ} {p : ℕ} (s : WalkLoop R n entry w₀ w p) where
     module _ (h : Walkable R n w₀ entry) where
       pub walk-cell : (0 < p) × (p ≤ n) × (left R w p ≤ n) × (right R w p ≤ n) × (poolLength R n ≤ length w)
-      walk-cell = pending-cell R n (h .1 .pool) (well h) (pool-room h) (s h .marked)
+      walk-cell = pending-cell R n (h .1 .pool) (pending-well (h .1)) (pool-room h) (s h .marked)
 
       pub walk-length : length w ≡ length w₀
-      walk-length = marked-length R n (h .1 .pool) (well h) (pool-room h) (s h .marked) ∙ sym (long h)
+      walk-length = marked-length R n (h .1 .pool) (pending-well (h .1)) (pool-room h) (s h .marked) ∙ sym (pending-length (h .1))
 
       module _ (new : List ℕ) (links : new ≡ onwardIn R w p) where
         -- the step of the definition
@@ -71,17 +63,17 @@ module _ (R n entry : ℕ) (w₀ : List ℕ) (room : poolLength R n ≤ length w
         stepped = go (s h .steps) refl
           where
             same : new ≡ onward (graphOf R (h .1 .pool)) (s h .marked .seen) p
-            same = links ∙ looked R n (h .1 .pool) (well h) (pool-room h) (s h .marked)
+            same = links ∙ looked R n (h .1 .pool) (pending-well (h .1)) (pool-room h) (s h .marked)
 
             go : (k : ℕ) → s h .steps ≡ k
                 → (t : ℕ) × (s h .steps ≡ suc t)
                 × (byLinks new (s h .marked .seen, []) (λ x. walk t (graphOf R (h .1 .pool)) (s h .marked .seen ++ x ∷ []) x) (λ l r. (s h .marked .seen, p ∷ [])) ≡ walkEnd R n entry w₀ h)
-            go zero e = absurd (omega (arith, s h .enough, seen-most (pool-within (well h)) (s h .marked .going)))
+            go zero e = absurd (omega (arith, s h .enough, seen-most (pool-within (pending-well (h .1))) (s h .marked .going)))
             go (suc t) e = (t, e, rw same (ap (λ (k : ℕ). walk k (graphOf R (h .1 .pool)) (s h .marked .seen) p) (sym e) ∙ s h .last))
 
         -- the cells that are marked next
         pub walk-new : (x : ℕ) → List·Memᴰ x new → (0 < x) × (x ≤ n)
-        walk-new x mem = new-cell R n (h .1 .pool) (well h) (pool-room h) (s h .marked) new links x mem
+        walk-new x mem = new-cell R n (h .1 .pool) (pending-well (h .1)) (pool-room h) (s h .marked) new links x mem
 
       -- none is unmarked: the entry is dropped
       pub walk-dropped : [] ≡ onwardIn R w p → _≡_ {A = List ℕ × List ℕ} (w, entryOf 0) (walkIn R n w₀ entry h)
@@ -95,7 +87,7 @@ module _ (R n entry : ℕ) (w₀ : List ℕ) (room : poolLength R n ≤ length w
 
       -- one is: it is marked, and gone to
       next : (x : ℕ) → x ∷ [] ≡ onwardIn R w p → Marked R (h .1 .pool) (markAll R w (x ∷ [])) (x ∷ s h .others)
-      next x links = turned R n (h .1 .pool) (well h) (pool-room h) (s h .marked) (x ∷ []) links
+      next x links = turned R n (h .1 .pool) (pending-well (h .1)) (pool-room h) (s h .marked) (x ∷ []) links
 
       pub walk-less : (x : ℕ) (w₁ : List ℕ) → x ∷ [] ≡ onwardIn R w p → w₁ ≡ markCell R w x → unmarkedCount R n w₁ < unmarkedCount R n w
       unfolding markAll turned next
@@ -103,8 +95,8 @@ module _ (R n entry : ℕ) (w₀ : List ℕ) (room : poolLength R n ≤ length w
           rw e₁
           (omega (
             arith,
-            marked-count R n (h .1 .pool) (well h) (pool-room h) (s h .marked),
-            marked-count R n (h .1 .pool) (well h) (pool-room h) (next x links),
+            marked-count R n (h .1 .pool) (pending-well (h .1)) (pool-room h) (s h .marked),
+            marked-count R n (h .1 .pool) (pending-well (h .1)) (pool-room h) (next x links),
             length-append (s h .marked .seen) (x ∷ []),
             marked-le n (stateMarks R n (markAll R w (x ∷ []))),
           ))

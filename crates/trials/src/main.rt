@@ -219,8 +219,13 @@ fn main() {
         let trial = trial_of(number);
         let outcome = run_in(&mut words, &mut after, &mut stack, trial);
         totals::count_pool(&mut t, trial.marker, trial.malformed, trial.n, outcome.kept);
-        totals::count_trial(&mut t, trial.marker, outcome.agreed, outcome.more);
-        totals::count_checks(&mut t, trial.marker, outcome.checks);
+        totals::count_trial(
+            &mut t,
+            trial.marker,
+            outcome.agreed,
+            outcome.more,
+            outcome.checks,
+        );
     }
     totals::print(
         &t,

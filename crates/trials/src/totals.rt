@@ -29,8 +29,13 @@ pub fn count_pool(t: &mut Totals, marker: u32, malformed: bool, n: u32, kept: u3
     }
 }
 
+// The number of the first marker with a stack, and the place of its checks.
+const FIRST_STACK: u32 = 2;
+
+const FIRST_CHECKS: usize = 19;
+
 // A trial of a marker.
-pub fn count_trial(t: &mut Totals, marker: u32, agreed: bool, more: u32) {
+pub fn count_trial(t: &mut Totals, marker: u32, agreed: bool, more: u32, checks: u32) {
     let place = 4 + 3 * (marker as usize);
     if agreed {
         count(t, place, 1);
@@ -38,15 +43,6 @@ pub fn count_trial(t: &mut Totals, marker: u32, agreed: bool, more: u32) {
         count(t, place + 1, 1);
     }
     count(t, place + 2, more);
-}
-
-// The number of the first marker with a stack, and the place of its checks.
-const FIRST_STACK: u32 = 2;
-
-const FIRST_CHECKS: usize = 19;
-
-// The checks of a marker with a stack.
-pub fn count_checks(t: &mut Totals, marker: u32, checks: u32) {
     if FIRST_STACK <= marker {
         count(t, FIRST_CHECKS + ((marker - FIRST_STACK) as usize), checks);
     }

@@ -46,9 +46,6 @@ count-pool-requires c κs = search needs
 count-trial-requires : tie.Need-count-trial-requires Inv-loop μ-loop
 count-trial-requires c κs = search needs
 
-count-checks-requires : tie.Need-count-checks-requires Inv-loop μ-loop
-count-checks-requires c κs = search needs
-
 loop-less : tie.Need-loop-less Inv-loop μ-loop
 loop-less c = search needs
 
@@ -81,7 +78,6 @@ main-spec =
     run-in-requires
     count-pool-requires
     count-trial-requires
-    count-checks-requires
     loop-less
     loop-again
     slice-aggregate-print
