@@ -19,11 +19,11 @@
 /* Registers: the plan, the log, one for the work of a function, which is nil between calls, and one that stays nil. */
 enum { PLAN, LOG, METRES, NIL };
 
-#define LEN CELLPOOL_WORDS(PLAN_CELLS)
+#define LEN PLAN_WORDS
 
-uint32_t plan_words[CELLPOOL_WORDS(PLAN_CELLS)];
+uint32_t plan_words[PLAN_WORDS];
 plan_slot plan_slots[2];
-uint32_t plan_recoveries, plan_drops;
+uint32_t plan_cells, plan_leftover, plan_recoveries, plan_drops;
 
 static uint32_t scratch[CELLPOOL_SCRATCH(PLAN_CELLS)];
 
@@ -93,8 +93,8 @@ static plan_code settled(uint32_t answer, int *tries) {
 }
 
 plan_code plan_begin(void) {
-    uint32_t cells;
-    return cellpool_fresh(plan_words, LEN, &cells) == CELLPOOL_OK ? PLAN_OK : PLAN_FAULT;
+    uint32_t answer = cellpool_fresh(plan_words, LEN, &plan_cells, &plan_leftover);
+    return answer == CELLPOOL_OK ? PLAN_OK : PLAN_FAULT;
 }
 
 plan_code plan_add(uint32_t waypoint, uint32_t metres) {

@@ -8,8 +8,15 @@
 extern "C" {
 #endif
 
-/* Cells of the pool: a waypoint takes two, an entry of the log one. */
-#define PLAN_CELLS 24u
+/* The pool's memory is what the board's linker leaves for it: here 470 bytes, which are 117 words and two bytes more. */
+#define PLAN_BYTES 470u
+#define PLAN_WORDS (PLAN_BYTES / 4u)
+
+/* Cells of the pool: a waypoint takes two, an entry of the log one. 117 words have 24 cells, and three are left over. */
+#define PLAN_CELLS CELLPOOL_CELLS(PLAN_WORDS)
+#if PLAN_CELLS == 0
+#error "no pool has so many words"
+#endif
 
 typedef enum {
     PLAN_OK,
@@ -29,9 +36,12 @@ typedef struct {
     uint8_t image[CELLPOOL_IMAGE_BYTES(PLAN_CELLS)];
 } plan_slot;
 
-/* The board's memory: the pool, and two slots of storage that keeps its content. */
-extern uint32_t plan_words[CELLPOOL_WORDS(PLAN_CELLS)];
+/* The board's memory: the pool, and two slots of storage that keeps its content. The last plan_leftover words are no part
+   of the pool: the board may keep something of its own there. */
+extern uint32_t plan_words[PLAN_WORDS];
 extern plan_slot plan_slots[2];
+/* The pool's cells and the words left over, once there is a plan. */
+extern uint32_t plan_cells, plan_leftover;
 /* How often the plan was taken from a slot, and how often the log was dropped to make room. */
 extern uint32_t plan_recoveries, plan_drops;
 

@@ -1,6 +1,7 @@
 /*
  * The board's day, on a desk: what firmware.c does where the pool is full, memory is damaged, and storage is damaged too.
- * The figures in the comments are counted by hand: a waypoint takes two cells of 24, an entry of the log one.
+ * The figures in the comments are counted by hand: a waypoint takes two cells of 24, an entry of the log one. The board
+ * keeps something of its own in the three words left over, which is there all day.
  */
 #include "firmware.h"
 
@@ -18,7 +19,7 @@ static void expect(const char *what, unsigned long found, unsigned long expected
 /* The cells that the plan and the log reach. */
 static unsigned long live(void) {
     uint32_t kept = 0, visits;
-    expect("collect", cellpool_collect(plan_words, CELLPOOL_WORDS(PLAN_CELLS), &kept, &visits), CELLPOOL_OK);
+    expect("collect", cellpool_collect(plan_words, PLAN_WORDS, &kept, &visits), CELLPOOL_OK);
     return kept;
 }
 
@@ -30,9 +31,17 @@ static void fly(uint32_t waypoint) {
 }
 
 int main(void) {
+    /* The words left over: behind 18 of the pool and 4 of each cell. */
+    uint32_t *const spare = plan_words + CELLPOOL_WORDS(PLAN_CELLS);
     uint32_t i, number, metres;
 
+    for (i = 0; i < 3; i++) spare[i] = 1000 + i;
     expect("begin", plan_begin(), PLAN_OK);
+    expect("cells", plan_cells, 24);
+    expect("cells known to the compiler", PLAN_CELLS, 24);
+    expect("words left over", plan_leftover, 3);
+    printf("%lu bytes of memory: %lu cells, %lu words left over\n", (unsigned long)PLAN_BYTES, (unsigned long)plan_cells,
+           (unsigned long)plan_leftover);
     for (i = 10; i >= 1; i--) expect("add", plan_add(i, 100 + 10 * i), PLAN_OK);
     expect("cells of ten waypoints", live(), 20);
     expect("store", plan_store(), PLAN_OK);
@@ -79,6 +88,9 @@ int main(void) {
     plan_words[1 + 4] = 99;
     expect("store of damaged words, no slot good", plan_store(), PLAN_LOST);
     expect("cells of nothing", live(), 0);
+    for (i = 0; i < 3; i++) expect("a word left over", spare[i], 1000 + i);
+    printf("the words left over at the end of the day: %lu, %lu, %lu\n", (unsigned long)spare[0], (unsigned long)spare[1],
+           (unsigned long)spare[2]);
     printf("%s\n", unexpected == 0 ? "all as expected" : "not as expected");
     return unexpected == 0 ? 0 : 1;
 }

@@ -1,11 +1,13 @@
 /*
  * cellpool: a pool of cells of two links and a value, in 32-bit words that the caller lends.
  *
- * A pool of N cells, N from 1 to 4,000, is a block of 18 + 4 * N words (CELLPOOL_WORDS):
+ * A pool of N cells, N from 1 to 4,000, is a block of 18 + 4 * N words (CELLPOOL_WORDS) and none to three more, which
+ * are left over: any length from 22 to 16,021 is that of a pool, and N comes from the length alone (CELLPOOL_CELLS).
  *   word 0        N
  *   word 1        head of the chain of free cells, 0 for none
  *   words 2..17   registers 0 to 15
  *   then four words for each cell 1 to N: state (0 used, 4 free), left, right, value
+ *   then the words left over, whose content is the caller's
  * A link is 0 (nil) or the number of a cell. It is valid if it is 0 or the number of a used cell. A pool is
  * well-formed if every state is 0 or 4 and all registers and all links of used cells are valid.
  *
@@ -13,6 +15,10 @@
  * lent block as it was, except where a function says so below, and neither reads nor writes the numbers lent for
  * results (cellpool_load's rest apart): these may be uninitialised. A function checks for its refusals in the order in
  * which they are listed with it.
+ *
+ * The words left over hold nothing of the pool. Accepted or refused, no function changes them, and nothing that it
+ * answers or leaves depends on what they hold: a save is the same bytes with them and without. Between calls the caller
+ * may keep anything there; during a call they belong to the lent block as all others do.
  *
  * What the caller sees to
  *   - Pointers are not null, also where a length is 0, and aligned as C asks for their type: words, stack, scratch and
@@ -85,8 +91,11 @@
  * 4.0.0: cellpool_collect_stack has an argument more, checks, and where every word holds a cell it checks these cells
  * before link reversal takes over: *enough may be 1 where it was 0. A stack that was enough still is, with 0 checks, and
  * the cells kept are the same.
+ * 5.0.0: the length of a pool may be 1 to 3 words more than 18 + 4 * N, which was refused with 1, and these words stay as
+ * they are. cellpool_fresh has an argument more, leftover, and CELLPOOL_CELLS comes. Nothing else has changed for lengths
+ * that were accepted, nor in images.
  */
-#define CELLPOOL_VERSION_MAJOR 4
+#define CELLPOOL_VERSION_MAJOR 5
 #define CELLPOOL_VERSION_MINOR 0
 #define CELLPOOL_VERSION_PATCH 0
 #define CELLPOOL_VERSION (10000 * CELLPOOL_VERSION_MAJOR + 100 * CELLPOOL_VERSION_MINOR + CELLPOOL_VERSION_PATCH)
@@ -108,8 +117,12 @@ extern "C" {
 /* Most cells of a pool for cellpool_collect_recursive. */
 #define CELLPOOL_MOST_RECURSIVE 64u
 
-/* Words of a pool of n cells, and words of scratch that cellpool_save needs. */
+/* The fewest words of a pool of n cells; the cells of a pool of len words, as cellpool_fresh answers them, and 0 where it
+   refuses that length. len is evaluated up to three times. */
 #define CELLPOOL_WORDS(n) (18u + 4u * (n))
+#define CELLPOOL_CELLS(len)                                                                                            \
+    ((len) < CELLPOOL_WORDS(1u) || (len) >= CELLPOOL_WORDS(CELLPOOL_MOST_CELLS + 1u) ? 0u : ((len) - 18u) / 4u)
+/* Words of scratch that cellpool_save needs for a pool of n cells. */
 #define CELLPOOL_SCRATCH(n) (2u * (n))
 /* Words of stack with which cellpool_collect_stack makes no check on any pool of n cells, and as many as the pool of
    cellpool_worst_case takes. 0 for two cells and fewer (an array of C has one element at least). n is evaluated twice. */
@@ -121,8 +134,9 @@ extern "C" {
 /* Answers. */
 enum {
     CELLPOOL_OK = 0,
-    /* The length is not 18 + 4 * N with N from 1 to 4,000, or word 0 is not that N; for cellpool_check_image and
-       cellpool_occupancy: N is not from 1 to 4,000, or more cells are kept than there are. */
+    /* The length is not 18 + 4 * N and none to three more, with N from 1 to 4,000 (it is below 22 or above 16,021), or
+       word 0 is not that N; for cellpool_check_image and cellpool_occupancy: N is not from 1 to 4,000, or more cells are
+       kept than there are. */
     CELLPOOL_REFUSED_SIZE = 1,
     /* A register number is 16 or more. */
     CELLPOOL_REFUSED_REGISTER = 2,
@@ -168,9 +182,10 @@ static inline const char *cellpool_refusal_text(uint32_t answer) {
     }
 }
 
-/* Make the words a pool: N by the length alone, all registers nil, all cells free. *cells becomes N. Refused: 1. */
+/* Make the words a pool: N by the length alone, all registers nil, all cells free. *cells becomes N, and *leftover the
+   number of words left over, 0 to 3, the last ones of the block. Refused: 1. */
 CELLPOOL_MUST_USE
-uint32_t cellpool_fresh(uint32_t *words, size_t len, uint32_t *cells);
+uint32_t cellpool_fresh(uint32_t *words, size_t len, uint32_t *cells, uint32_t *leftover);
 
 /* Register r gets the content of register a. Refused: 1, 2, 3. */
 CELLPOOL_MUST_USE
@@ -244,7 +259,8 @@ uint32_t cellpool_collect_stack(uint32_t *words, size_t len, uint32_t *stack, si
                                 uint32_t *enough, uint32_t *checks);
 
 /* Make the words a pool for which cellpool_collect_stack takes the most stack words, where it has them: N by the length
-   alone, all cells used and reached from register 0, which holds cell 1, registers 1 to 15 nil, the head 0, all values 0.
+   alone, as with cellpool_fresh, all cells used and reached from register 0, which holds cell 1, registers 1 to 15 nil,
+   the head 0, all values 0.
    If i is odd, the left link of cell i is i + 2 and the right one i + 1, each nil where that is above N; if i is even, both
    are nil. *entries becomes the words held, (N - 1) / 2, rounded down: no well-formed pool of N cells takes more, whatever
    its registers hold, so with a stack of that many words (CELLPOOL_STACK) there is no check. With fewer words, but one at
@@ -264,8 +280,8 @@ CELLPOOL_MUST_USE
 uint32_t cellpool_save(const uint32_t *words, size_t len, uint32_t *scratch, size_t scratch_len, uint8_t *out,
                        size_t out_len, size_t *bytes);
 
-/* Make the words the pool of an image, N by their length alone. *rest becomes the place of the first byte behind the
-   image; refused, it becomes bytes_len. Refused: 1, then number by number 6, 7, 12, 9, 8. */
+/* Make the words the pool of an image, N by their length alone, as with cellpool_fresh. *rest becomes the place of the
+   first byte behind the image; refused, it becomes bytes_len. Refused: 1, then number by number 6, 7, 12, 9, 8. */
 CELLPOOL_MUST_USE
 uint32_t cellpool_load(uint32_t *words, size_t len, const uint8_t *bytes, size_t bytes_len, size_t *rest);
 

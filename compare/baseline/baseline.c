@@ -25,9 +25,9 @@ static size_t cell_at(uint32_t i) { return HEADER + CELL * ((size_t)i - 1); }
 static uint32_t *cell(uint32_t *words, uint32_t i) { return words + cell_at(i); }
 static const uint32_t *cell_in(const uint32_t *words, uint32_t i) { return words + cell_at(i); }
 
-/* N by the length, 0 where it is refused. */
+/* N by the length, 0 where it is refused; up to three words behind the cells are left over. */
 static uint32_t cells_of(size_t len) {
-    if (len < HEADER + CELL || (len - HEADER) % CELL != 0) return 0;
+    if (len < HEADER + CELL) return 0;
     size_t n = (len - HEADER) / CELL;
     return n <= CELLPOOL_MOST_CELLS ? (uint32_t)n : 0;
 }
@@ -258,14 +258,15 @@ uint32_t baseline_mark_by_cases(uint32_t *words, size_t len, uint32_t *times, ui
 }
 #endif
 
-uint32_t NAME(fresh)(uint32_t *words, size_t len, uint32_t *cells) {
+uint32_t NAME(fresh)(uint32_t *words, size_t len, uint32_t *cells, uint32_t *leftover) {
     uint32_t n = cells_of(len);
     if (n == 0) return CELLPOOL_REFUSED_SIZE;
-    memset(words, 0, len * sizeof *words);
+    memset(words, 0, CELLPOOL_WORDS(n) * sizeof *words);
     words[0] = n;
     for (uint32_t i = 1; i <= n; i++) cell(words, i)[STATE] = FREE;
     sweep(words, n);
     *cells = n;
+    *leftover = (uint32_t)len - CELLPOOL_WORDS(n);
     return CELLPOOL_OK;
 }
 
@@ -425,7 +426,7 @@ uint32_t baseline_collect_stack_unchecked(uint32_t *words, size_t len, uint32_t 
 uint32_t NAME(worst_case)(uint32_t *words, size_t len, uint32_t *entries) {
     uint32_t n = cells_of(len);
     if (n == 0) return CELLPOOL_REFUSED_SIZE;
-    memset(words, 0, len * sizeof *words);
+    memset(words, 0, CELLPOOL_WORDS(n) * sizeof *words);
     words[0] = n;
     REGISTER(0) = 1;
     for (uint32_t i = 1; i < n; i += 2) {

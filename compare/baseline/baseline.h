@@ -4,7 +4,7 @@
 
 #include "cellpool.h"
 
-uint32_t baseline_fresh(uint32_t *, size_t, uint32_t *);
+uint32_t baseline_fresh(uint32_t *, size_t, uint32_t *, uint32_t *);
 uint32_t baseline_copy(uint32_t *, size_t, uint32_t, uint32_t);
 uint32_t baseline_clear(uint32_t *, size_t, uint32_t);
 uint32_t baseline_new(uint32_t *, size_t, uint32_t, uint32_t, uint32_t, uint32_t, uint32_t *);

@@ -135,10 +135,10 @@ static void reply(uint32_t refusal, unsigned count, uint32_t first, uint32_t sec
 }
 
 static uint32_t fresh(uint32_t n) {
-    uint32_t cells;
+    uint32_t cells, leftover;
     if (n < 1 || n > CELLPOOL_MOST_CELLS) return CELLPOOL_REFUSED_SIZE;
     used = CELLPOOL_WORDS(n);
-    return cellpool_fresh(words, used, &cells);
+    return cellpool_fresh(words, used, &cells, &leftover);
 }
 
 static void run_line(const struct line *line) {

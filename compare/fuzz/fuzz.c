@@ -5,12 +5,15 @@
  * version (../baseline/baseline.c), on equal blocks: answers, results, and every word and byte of every block have to be the
  * same. The branches of the plain C version, which is compiled with this file, guide the fuzzer.
  *
- * The blocks stand against pages that may be neither read nor written, so that also an archive compiled without a sanitizer
- * is caught at the first access outside. The library is compared with itself too: a refusal is one that the header lists with
- * its function and changes nothing but what the header names, the forms of collect agree, a stack makes no check exactly from
- * one length on, the worst case for the stack takes just as many words as are answered, and with fewer a check for each push
- * that finds them full, an image that was saved loads and saves as the same bytes, while every cut of it is refused, and any
- * image that loads is saved as the bytes that were read exactly if its cells are numbered in the order of the visits. The cases of the plain C version's visits add up to the cells that the library keeps.
+ * The blocks stand against pages that may be neither read nor written, so that also an archive compiled without a
+ * sanitizer is caught at the first access outside. The library is compared with itself too: a refusal is one that the
+ * header lists with its function and changes nothing but what the header names, refusal 1 comes exactly where the
+ * length is that of no pool or, where the function asks for it, word 0 is not its number of cells, the words left over
+ * stay, the forms of collect agree, a stack makes no check exactly from one length on, the worst case for the stack
+ * takes just as many words as are answered, and with fewer a check for each push that finds them full, an image that
+ * was saved loads, whatever is left over, and saves as the same bytes, while every cut of it is refused, and any image
+ * that loads is saved as the bytes that were read exactly if its cells are numbered in the order of the visits. The
+ * cases of the plain C version's visits add up to the cells that the library keeps.
  *
  * With -DSTANDALONE a main is added that runs pseudo-random inputs: fuzz [inputs [seed]].
  */
@@ -64,8 +67,8 @@ static void *lend(int block, size_t bytes) {
 
 static uint32_t *words_of(int side) { return (uint32_t *)blocks[WORDS].at[side]; }
 
-/* The pool's cells, by its length. */
-static uint32_t cells;
+/* The pool's cells, by its length, and the words left over behind them. */
+static uint32_t cells, leftover;
 
 enum {
     COPY, CLEAR, NEW, LEFT, RIGHT, SETLEFT, SETRIGHT, SETVALUE, VALUE, SAME, COLLECT,
@@ -133,7 +136,7 @@ static uint32_t run(int side, const Call *call, Results *results) {
     case VALUE: return BY(side, value)(words, len, a, number + 1);
     case SAME: return BY(side, same)(words, len, a, b, number + 1);
     case COLLECT: return BY(side, collect)(words, len, number + 1, number + 3);
-    case FRESH: return BY(side, fresh)(words, len, number + 1);
+    case FRESH: return BY(side, fresh)(words, len, number + 1, number + 3);
     case TALLY: return BY(side, collect_tally)(words, len, number + 5, number + 7, number + 1, number + 3);
     case STACKED: return BY(side, collect_stack)(words, len, stack, stack_len, number + 1, number + 3, number + 5);
     case WORST: return BY(side, worst_case)(words, len, number + 1);
@@ -145,10 +148,18 @@ static uint32_t run(int side, const Call *call, Results *results) {
     }
 }
 
+/* Before a call: is the length that of a pool, and word 0 its number of cells where the function asks for that? */
+static int size_fits(int function) {
+    int by_length = function == FRESH || function == WORST || function == LOAD;
+    return cells >= 1 && cells <= CELLPOOL_MOST_CELLS && (by_length || words_of(LIBRARY)[0] == cells);
+}
+
 /* Make a call on both sides, from the library's blocks as they are, and compare. */
 static uint32_t make(Call call, Results *results) {
     Results start, found[SIDES];
     uint32_t answer[SIDES], lent = functions[call.function].lent;
+    size_t tail = blocks[WORDS].bytes - leftover * sizeof(uint32_t);
+    int fits = size_fits(call.function);
     called = functions[call.function].name;
     for (int i = 0; i < 9; i++) start.number[i] = UNSET;
     for (int i = 0; i < 3; i++) start.size[i] = UNSET;
@@ -170,6 +181,10 @@ static uint32_t make(Call call, Results *results) {
     for (int block = 0; block < BLOCKS; block++) {
         if ((lent & BIT(block)) == 0) continue;
         DEMAND(memcmp(blocks[block].at[LIBRARY], blocks[block].at[PLAIN], blocks[block].bytes) == 0);
+    }
+    if (lent & BIT(WORDS)) {
+        DEMAND((answer[LIBRARY] == 1) == !fits);
+        DEMAND(memcmp(blocks[WORDS].at[LIBRARY] + tail, blocks[WORDS].before + tail, blocks[WORDS].bytes - tail) == 0);
     }
     if (answer[LIBRARY] != 0) {
         /* Refused, save clears its scratch where only the output is too short, and load answers where the bytes end. */
@@ -240,7 +255,8 @@ static void lend_pool(Input *input, uint8_t mode) {
     else if (kind < 0xF4) cells = kind % 4u;
     else if (kind < 0xF8) cells = number_of(input, 4001) % 4003u;
     else cells = 4000u - 3u + kind % 8u;
-    size_t len = CELLPOOL_WORDS(cells) + (kind == 0xFE ? 1 : 0);
+    leftover = byte_of(input) % 4u;
+    size_t len = CELLPOOL_WORDS(cells) + leftover;
     uint32_t *words = lend(WORDS, len * sizeof *words);
     for (size_t i = 0; i < len; i++) {
         uint32_t number = number_of(input, cells);
@@ -398,6 +414,7 @@ static void any_call(Input *input) {
         break;
     }
     if (make(call, &results) != 0) return;
+    if (call.function == FRESH) DEMAND(results.number[1] == cells && results.number[3] == leftover);
     if (call.function == LOAD) loaded(results.size[1]);
     if (call.function == WORST) built(results.number[1]);
     if (call.function == SAVE) {
@@ -469,7 +486,8 @@ static void forms_of_collect(Input *input) {
     memcpy(words_of(LIBRARY), start, bytes);
 }
 
-/* An image that was saved fits its bytes and no fewer; it loads, and saves as the same bytes; every cut is refused. */
+/* An image that was saved fits its bytes and no fewer; it loads, whatever is left over behind the cells, and saves as the same
+   bytes; every cut is refused. */
 static void saved_and_loaded(Input *input) {
     Results first, other;
     uint8_t *out = lend_filled(OUT, CELLPOOL_IMAGE_BYTES((size_t)cells), 1, 0x77);
@@ -479,7 +497,8 @@ static void saved_and_loaded(Input *input) {
     memcpy(lend(IMAGE, bytes), out, bytes);
     lend_filled(OUT, bytes - 1, 1, 0x77);
     DEMAND(make_plainly(SAVE, NULL) == 10);
-    lend_filled(WORDS, CELLPOOL_WORDS((size_t)cells), sizeof(uint32_t), 0x44);
+    leftover = byte_of(input) % 4u;
+    lend_filled(WORDS, CELLPOOL_WORDS((size_t)cells) + leftover, sizeof(uint32_t), 0x44);
     DEMAND(make_plainly(LOAD, &other) == 0 && other.size[1] == bytes);
     out = lend_filled(OUT, bytes, 1, 0x77);
     DEMAND(make_plainly(SAVE, &other) == 0 && other.size[1] == bytes);

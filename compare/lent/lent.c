@@ -3,7 +3,8 @@
  *
  *   lent lengths   Lengths that are right, or too short, without their upper bits. Of a block so long only the first page may
  *                  be touched, and an access behind it is noticed. It must come where the stack needs more words, and where
- *                  all of a block is to end 0, and must not come elsewhere. Blocks of length 0 are not touched.
+ *                  all of a block is to end 0, and must not come elsewhere. Blocks of length 0 are not touched, and neither
+ *                  are the words left over behind a pool's cells.
  *   lent results   A refused call neither reads nor writes the numbers lent for its results.
  *
  * Every difference is printed, and the program then ends with 1.
@@ -67,7 +68,7 @@ static uint8_t *space(size_t bytes, size_t front) {
 }
 
 /* A pool of two cells: register 0 holds cell 2, whose links both lead to cell 1. It needs no stack word. Register 1 is nil. */
-enum { N = 2, LEN = CELLPOOL_WORDS(N), SCRATCH = CELLPOOL_SCRATCH(N) };
+enum { N = 2, LEN = CELLPOOL_WORDS(N), TOO_SHORT = CELLPOOL_WORDS(1) - 1, SCRATCH = CELLPOOL_SCRATCH(N) };
 static uint32_t pool[LEN], scratch[SCRATCH], stack[1], numbers[4];
 static size_t sizes[1];
 
@@ -116,7 +117,7 @@ static int pending(void) {
 
 /* The words have a wrong length, and are not touched. */
 static void refused_words(size_t len) {
-    EXPECT(1, cellpool_fresh(none, len, numbers));
+    EXPECT(1, cellpool_fresh(none, len, numbers, numbers + 1));
     EXPECT(1, cellpool_copy(none, len, 0, 0));
     EXPECT(1, cellpool_clear(none, len, 0));
     EXPECT(1, cellpool_new(none, len, 0, 0, 0, 7, numbers));
@@ -153,6 +154,42 @@ static void no_elements(void) {
     EXPECT(6, cellpool_check_image(no_bytes, 0, N));
 }
 
+/* The words left over stand on a page of which nothing may be touched. Register 0 holds cell 1, and cell 2 is garbage. */
+static void left_over(uint32_t leftover) {
+    static uint8_t written[IMAGE];
+    uint32_t *words = front + page / sizeof *front - LEN;
+    size_t len = LEN + leftover;
+#define EXPECT_ON(expected, call) EXPECT(expected, (memcpy(words, changed(2, 1), sizeof pool), call))
+    EXPECT_ON(0, cellpool_fresh(words, len, numbers, numbers + 1));
+    DEMAND(numbers[0] == N && numbers[1] == leftover);
+    EXPECT_ON(0, cellpool_copy(words, len, 3, 0));
+    EXPECT_ON(0, cellpool_clear(words, len, 0));
+    EXPECT_ON(0, cellpool_new(words, len, 0, 0, 0, 7, numbers));
+    DEMAND(numbers[0] == 3 && words[2] == 2);
+    EXPECT_ON(0, cellpool_left(words, len, 1, 0));
+    EXPECT_ON(0, cellpool_right(words, len, 1, 0));
+    EXPECT_ON(0, cellpool_setleft(words, len, 0, 0));
+    EXPECT_ON(0, cellpool_setright(words, len, 0, 0));
+    EXPECT_ON(0, cellpool_setvalue(words, len, 0, 9));
+    EXPECT_ON(0, cellpool_value(words, len, 0, numbers));
+    EXPECT_ON(0, cellpool_same(words, len, 0, 1, numbers));
+    EXPECT_ON(0, cellpool_collect(words, len, numbers, numbers + 1));
+    EXPECT_ON(0, cellpool_collect_tally(words, len, numbers, numbers + 1, numbers + 2, numbers + 3));
+    EXPECT_ON(0, cellpool_collect_stack(words, len, stack, 1, numbers, numbers + 1, numbers + 2));
+    EXPECT_ON(0, cellpool_worst_case(words, len, numbers));
+    EXPECT_ON(0, cellpool_collect_recursive(words, len, numbers, numbers + 1));
+    EXPECT_ON(0, cellpool_save(words, len, scratch, SCRATCH, written, IMAGE, sizes));
+    EXPECT_ON(0, cellpool_load(words, len, image, IMAGE, sizes));
+    DEMAND(sizes[0] == IMAGE);
+    /* The pool is tested to its end, and a register that leads past it is not followed there. */
+    memcpy(words, changed(2, N + 1), sizeof pool);
+    EXPECT(3, cellpool_copy(words, len, 0, 0));
+    EXPECT(3, cellpool_collect(words, len, numbers, numbers + 1));
+    memcpy(words, changed(1, N + 1), sizeof pool);
+    EXPECT(3, cellpool_new(words, len, 0, 0, 0, 7, numbers));
+#undef EXPECT_ON
+}
+
 /* A check looks at the words of the stack and at none beside them: they are the last ones of a page. The leaves are dropped. */
 static void full_stack(uint32_t length) {
     set_up_largest();
@@ -181,7 +218,7 @@ static void long_blocks(size_t upper) {
     EXPECT(12, cellpool_load(pool, LEN, saved + IMAGE - 2, upper + 2, sizes));
     DEMAND(sizes[0] == upper + 2);
     EXPECT(12, cellpool_check_image(saved + IMAGE - 2, upper + 2, N));
-    EXPECT(1, cellpool_load(pool, LEN + 1, no_bytes, upper + 3, sizes));
+    EXPECT(1, cellpool_load(pool, TOO_SHORT, no_bytes, upper + 3, sizes));
     DEMAND(sizes[0] == upper + 3);
     EXPECT(1, cellpool_check_image(no_bytes, upper + 3, 0));
 
@@ -231,8 +268,11 @@ static void lengths(void) {
     full_stack(1);
     full_stack(10);
     full_stack(1000);
-    refused_words(CELLPOOL_WORDS(0));
-    refused_words(CELLPOOL_WORDS(4001));
+    for (uint32_t leftover = 0; leftover < 4; leftover++) {
+        left_over(leftover);
+        refused_words(CELLPOOL_WORDS(0) + leftover);
+        refused_words(CELLPOOL_WORDS(4001) + leftover);
+    }
     for (size_t i = 0; i < sizeof bits / sizeof *bits; i++) long_blocks((size_t)1 << bits[i]);
 }
 
@@ -243,7 +283,7 @@ static void results(void) {
     uint32_t *lent = (uint32_t *)space(1, 0);
     size_t *size = (size_t *)lent;
 
-    EXPECT(1, cellpool_fresh(pool, LEN - 1, lent));
+    EXPECT(1, cellpool_fresh(pool, TOO_SHORT, lent, lent + 1));
 
     EXPECT(1, cellpool_new(changed(0, 1), LEN, 0, 0, 0, 7, lent));
     set_up();
@@ -277,7 +317,7 @@ static void results(void) {
     EXPECT(3, cellpool_collect_tally(changed(3, 3), LEN, lent, lent + 1, lent + 2, lent + 3));
     EXPECT(1, cellpool_collect_stack(changed(0, 1), LEN, stack, 1, lent, lent + 1, lent + 2));
     EXPECT(3, cellpool_collect_stack(changed(3, 3), LEN, stack, 1, lent, lent + 1, lent + 2));
-    EXPECT(1, cellpool_worst_case(pool, LEN - 1, lent));
+    EXPECT(1, cellpool_worst_case(pool, TOO_SHORT, lent));
     EXPECT(1, cellpool_collect_recursive(changed(0, 1), LEN, lent, lent + 1));
     EXPECT(3, cellpool_collect_recursive(changed(3, 3), LEN, lent, lent + 1));
     large[0] = 65;

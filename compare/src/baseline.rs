@@ -4,7 +4,7 @@
 
 use crate::refusal::*;
 use crate::visit::{Case, Marking};
-use crate::{cell_at, Interface, Tally, CELL, FREE, HEADER, MOST_CELLS, MOST_RECURSIVE, REGISTERS, USED};
+use crate::{cell_at, words_for, Interface, Tally, CELL, FREE, HEADER, MOST_CELLS, MOST_RECURSIVE, REGISTERS, USED};
 
 #[derive(Clone, Copy, Debug, Default)]
 pub struct PlainRust;
@@ -21,13 +21,12 @@ const VALUE: usize = 3;
 const HEAD: usize = 1;
 const REGISTER_0: usize = 2;
 
+/// N by the length: up to three words behind the cells are left over.
 fn size_of_length(len: usize) -> Result<u32, u32> {
-    let cells = len.wrapping_sub(HEADER);
-    let n = cells / CELL;
-    if len < HEADER || !cells.is_multiple_of(CELL) || !(1..=MOST_CELLS).contains(&n) {
+    if len < words_for(1) || len >= words_for(MOST_CELLS + 1) {
         return Err(SIZE);
     }
-    Ok(n as u32)
+    Ok(((len - HEADER) / CELL) as u32)
 }
 
 fn size(words: &[u32]) -> Result<u32, u32> {
@@ -483,13 +482,14 @@ impl PlainRust {
 }
 
 impl Interface for PlainRust {
-    fn fresh(&self, words: &mut [u32]) -> Result<u32, u32> {
+    fn fresh(&self, words: &mut [u32]) -> Result<(u32, u32), u32> {
         let n = size_of_length(words.len())?;
-        words[0] = n;
-        words[REGISTER_0..HEADER].fill(0);
-        words[HEADER..].fill(FREE);
-        sweep(words, n);
-        Ok(n)
+        let (pool, leftover) = words.split_at_mut(words_for(n as usize));
+        pool[0] = n;
+        pool[REGISTER_0..HEADER].fill(0);
+        pool[HEADER..].fill(FREE);
+        sweep(pool, n);
+        Ok((n, leftover.len() as u32))
     }
 
     fn copy(&self, words: &mut [u32], r: u32, a: u32) -> Result<(), u32> {
@@ -589,7 +589,7 @@ impl Interface for PlainRust {
 
     fn worst_case(&self, words: &mut [u32]) -> Result<u32, u32> {
         let n = size_of_length(words.len())?;
-        words.fill(0);
+        words[..words_for(n as usize)].fill(0);
         words[0] = n;
         words[REGISTER_0] = 1;
         // From the end of the left links on.

@@ -31,8 +31,6 @@ pub enum Place {
 pub enum Cause {
     /// The length is below 18.
     Short,
-    /// The length is another one that is not 18 + 4 * N.
-    Form,
     /// N is 0.
     NoCells,
     /// N is above 4,000.
@@ -92,7 +90,7 @@ impl From<Cause> for u32 {
     fn from(cause: Cause) -> u32 {
         use Cause::*;
         match cause {
-            Short | Form | NoCells | ManyCells | WordZero | Kept => SIZE,
+            Short | NoCells | ManyCells | WordZero | Kept => SIZE,
             Number(_) => REGISTER,
             TooLarge => TOO_LARGE,
             Scratch | Output => NO_ROOM,

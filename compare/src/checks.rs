@@ -49,6 +49,7 @@ pub const LENT_LENGTHS: Comparison = Comparison { stream: 15, rounds: 0, run: ev
 pub const ROUND_TRIPS: Comparison = Comparison { stream: 16, rounds: 10_000, run: round_trips };
 pub const WORST_CASES: Comparison = Comparison { stream: 17, rounds: 0, run: worst_cases };
 pub const CHECKED_POOLS: Comparison = Comparison { stream: 18, rounds: 0, run: checked_pools };
+pub const LEFTOVERS: Comparison = Comparison { stream: 19, rounds: 1_000, run: leftovers };
 
 fn equal<T: PartialEq + Debug>(what: impl Fn() -> String, found: T, expected: T) -> Outcome {
     if found == expected {
@@ -78,11 +79,11 @@ fn one_call(pool: &dyn Interface, words: &mut [u32], call: Call) -> Outcome {
     equal_words(what, &found, words)
 }
 
-/// A function that makes words a pool by their length alone, and its name.
-type Builder = (&'static str, fn(&dyn Interface, &mut [u32]) -> Result<u32, u32>);
+/// A function that makes words a pool by their length alone, and its name. The second number is 0 where only one is answered.
+type Builder = (&'static str, fn(&dyn Interface, &mut [u32]) -> Result<(u32, u32), u32>);
 
 const FRESH: Builder = ("fresh", |pool, words| pool.fresh(words));
-const WORST_CASE: Builder = ("worst case", |pool, words| pool.worst_case(words));
+const WORST_CASE: Builder = ("worst case", |pool, words| pool.worst_case(words).map(|entries| (entries, 0)));
 
 /// Such a function on the words, which are then those of the model.
 fn build(pool: &dyn Interface, (name, builder): Builder, words: &mut [u32]) -> Outcome {
@@ -132,15 +133,17 @@ pub fn against_reference(pool: &dyn Interface, random: &mut Random, rounds: usiz
         };
         let count = random.between(1, 150);
         let list = generate::calls(random, count);
-        reference_list(pool, n, limit, &list).map_err(|text| format!("round {round}: {text}"))?;
+        let words = generate::blank(random, n);
+        reference_list(pool, n, words, limit, &list).map_err(|text| format!("round {round}: {text}"))?;
     }
     Ok(())
 }
 
-/// One list of calls: where the answers first differ, and where they must.
-fn reference_list(pool: &dyn Interface, n: usize, limit: u64, list: &[Call]) -> Outcome {
-    let mut words = vec![0; words_for(n)];
-    equal(|| format!("fresh of {n}"), pool.fresh(&mut words), Ok(n as u32))?;
+/// One list of calls on these words of a pool of `n` cells, whatever is left over: where the answers first differ, and where they
+/// must.
+fn reference_list(pool: &dyn Interface, n: usize, mut words: Vec<u32>, limit: u64, list: &[Call]) -> Outcome {
+    let leftover = words.len() - words_for(n);
+    equal(|| format!("fresh of {n}"), pool.fresh(&mut words), Ok((n as u32, leftover as u32)))?;
     let found: Vec<Answer> = list.iter().map(|&call| apply(pool, &mut words, call).0).collect();
     let mut reference = Reference::new(limit);
     let mut apart = None;
@@ -157,7 +160,7 @@ fn reference_list(pool: &dyn Interface, n: usize, limit: u64, list: &[Call]) -> 
 }
 
 /// The largest pool filled, and used again after everything was dropped.
-fn largest_pool_filled(pool: &dyn Interface, _: &mut Random, _: usize) -> Outcome {
+fn largest_pool_filled(pool: &dyn Interface, random: &mut Random, _: usize) -> Outcome {
     let n = MOST_CELLS;
     let fill = |v: usize| Call::New { r: 0, a: 0, b: 1, v: v as u32 };
     let mut list: Vec<Call> = (0..n + 2).map(fill).collect();
@@ -167,7 +170,7 @@ fn largest_pool_filled(pool: &dyn Interface, _: &mut Random, _: usize) -> Outcom
     list.extend((0..100).map(fill));
     list.push(Call::Collect);
     for limit in [n - 1, n, n + 1] {
-        reference_list(pool, n, limit as u64, &list)?;
+        reference_list(pool, n, generate::blank(random, n), limit as u64, &list)?;
     }
     Ok(())
 }
@@ -192,11 +195,11 @@ fn small_pools(pool: &dyn Interface, random: &mut Random, _: usize) -> Outcome {
         bases.extend([states.len(), n + 2, n + 2].repeat(n));
         for code in 0..bases.iter().product() {
             let small = digits(code, &bases);
-            let mut words = vec![0; words_for(n)];
+            let mut words = generate::blank(random, n);
             words[0] = n as u32;
             words[1] = small[0];
             words[2] = small[1];
-            for (cell, content) in words[HEADER..].chunks_mut(CELL).zip(small[2..].chunks(3)) {
+            for (cell, content) in words[HEADER..].chunks_exact_mut(CELL).zip(small[2..].chunks(3)) {
                 cell.copy_from_slice(&[states[content[0] as usize], content[1], content[2], 7]);
             }
             for call in [
@@ -225,10 +228,10 @@ fn small_pools(pool: &dyn Interface, random: &mut Random, _: usize) -> Outcome {
     let n = 3;
     for code in 0..usize::pow(n as usize + 1, 8) {
         let links = digits(code, &[n as usize + 1; 8]);
-        let mut words = vec![0; words_for(n as usize)];
+        let mut words = generate::blank(random, n as usize);
         words[0] = n;
         words[2..4].copy_from_slice(&links[..2]);
-        for (cell, links) in words[HEADER..].chunks_mut(CELL).zip(links[2..].chunks(2)) {
+        for (cell, links) in words[HEADER..].chunks_exact_mut(CELL).zip(links[2..].chunks(2)) {
             cell.copy_from_slice(&[USED, links[0], links[1], 7]);
         }
         one_call(pool, &mut words.clone(), Call::Collect)?;
@@ -238,10 +241,10 @@ fn small_pools(pool: &dyn Interface, random: &mut Random, _: usize) -> Outcome {
         }
         save(pool, &words, 6, 26, random)?;
     }
-    let mut words = vec![0; words_for(4)];
-    (words[0], words[2]) = (4, 1);
     for code in 0..usize::pow(5, 8) {
-        for (cell, links) in words[HEADER..].chunks_mut(CELL).zip(digits(code, &[5; 8]).chunks(2)) {
+        let mut words = generate::blank(random, 4);
+        (words[0], words[2]) = (4, 1);
+        for (cell, links) in words[HEADER..].chunks_exact_mut(CELL).zip(digits(code, &[5; 8]).chunks(2)) {
             cell.copy_from_slice(&[USED, links[0], links[1], 7]);
         }
         for length in 0..3 {
@@ -269,7 +272,7 @@ fn checked_pools(pool: &dyn Interface, random: &mut Random, _: usize) -> Outcome
                 graph.cells[i as usize - 1] = Cell { left, right: left + 1, ..cell };
             }
             every_choice(&mut graph, &mut chosen, pushed, length, random, &mut |graph, random| {
-                let mut words = vec![0; words_for(n as usize)];
+                let mut words = generate::blank(random, n as usize);
                 graph.encode(&mut words);
                 stack_collect(pool, &words, length, random)
             })?;
@@ -335,10 +338,10 @@ pub fn cases(pool: &dyn Interface, marker: &Marker, random: &mut Random, rounds:
         bases.extend([2, n + 1, n + 1].repeat(n));
         for code in 0..bases.iter().product() {
             let small = digits(code, &bases);
-            let mut words = vec![0; words_for(n)];
+            let mut words = generate::blank(random, n);
             words[0] = n as u32;
             words[2..4].copy_from_slice(&small[..2]);
-            for (cell, content) in words[HEADER..].chunks_mut(CELL).zip(small[2..].chunks(3)) {
+            for (cell, content) in words[HEADER..].chunks_exact_mut(CELL).zip(small[2..].chunks(3)) {
                 cell.copy_from_slice(&[[USED, FREE][content[0] as usize], content[1], content[2], 7]);
             }
             if decoded(&words).is_some() {
@@ -508,13 +511,17 @@ fn every_stack_length(pool: &dyn Interface, random: &mut Random, _: usize) -> Ou
     for used in 1..=MOST_CELLS {
         let n = if random.once_in(2) { used } else { random.between(used, MOST_CELLS) };
         let (most, most_forks, any) = ((used - 1) / 2, used.saturating_sub(3) / 2, random.below(n + 4));
-        let words = generate::comb_and_chain(random, 0, 0, used, n);
+        let comb = |random: &mut Random, entries: usize, forks: usize| {
+            let words = generate::comb_and_chain(random, entries, forks, used, n);
+            generate::with_leftover(random, words)
+        };
+        let words = comb(random, 0, 0);
         every_word_kept(pool, &words, used, &[0], |length| leaves(0, length), random)?;
-        let words = generate::comb_and_chain(random, most, 0, used, n);
+        let words = comb(random, most, 0);
         let lengths = [most.saturating_sub(1), most, any];
         every_word_kept(pool, &words, used, &lengths, |length| leaves(most, length), random)?;
         if most_forks > 0 {
-            let words = generate::comb_and_chain(random, most_forks, most_forks, used, n);
+            let words = comb(random, most_forks, most_forks);
             every_word_kept(
                 pool,
                 &words,
@@ -529,18 +536,22 @@ fn every_stack_length(pool: &dyn Interface, random: &mut Random, _: usize) -> Ou
 }
 
 /// The worst case of every size, from words of any content: a stack of as many words as are answered makes no check, and a shorter
-/// one a check for each push that finds it full. A length between two sizes is refused.
+/// one a check for each push that finds it full.
 fn worst_cases(pool: &dyn Interface, random: &mut Random, _: usize) -> Outcome {
     for n in 0..=MOST_CELLS + 3 {
-        let mut words: Vec<u32> = filled(random, words_for(n)).collect();
-        build(pool, WORST_CASE, &mut words)?;
-        if (1..=MOST_CELLS).contains(&n) {
-            let entries = (n - 1) / 2;
-            let lengths = [entries.saturating_sub(1), entries, n % 13, random.below(entries + 1)];
-            every_word_kept(pool, &words, n, &lengths, |length| leaves(entries, length), random)?;
+        // No pool has such a length.
+        if !(1..=MOST_CELLS).contains(&n) {
+            for length in words_for(n)..words_for(n + 1) {
+                build(pool, WORST_CASE, &mut filled(random, length).collect::<Vec<u32>>())?;
+            }
+            continue;
         }
-        let between = words_for(n) + random.between(1, CELL - 1);
-        build(pool, WORST_CASE, &mut filled(random, between).collect::<Vec<u32>>())?;
+        let length = words_for(n) + random.below(CELL);
+        let mut words: Vec<u32> = filled(random, length).collect();
+        build(pool, WORST_CASE, &mut words)?;
+        let entries = (n - 1) / 2;
+        let lengths = [entries.saturating_sub(1), entries, n % 13, random.below(entries + 1)];
+        every_word_kept(pool, &words, n, &lengths, |length| leaves(entries, length), random)?;
     }
     Ok(())
 }
@@ -576,6 +587,7 @@ fn graphs(pool: &dyn Interface, random: &mut Random, _: usize) -> Outcome {
     for shape in SHAPES {
         for n in [1, 2, 3, 4, 5, 6, 7, 31, 63, 64, 65, 100, MOST_CELLS - 1, MOST_CELLS] {
             let words = shape.words(n, random);
+            let words = generate::with_leftover(random, words);
             every_collect(pool, &words, random).map_err(|text| format!("{}, {n}: {text}", shape.name()))?;
             let mut without_root = words.clone();
             without_root[2] = 1 + random.below(n) as u32;
@@ -583,7 +595,8 @@ fn graphs(pool: &dyn Interface, random: &mut Random, _: usize) -> Outcome {
             every_save(pool, &words, random).map_err(|text| format!("{}, {n}: {text}", shape.name()))?;
         }
     }
-    let mut words = Shape::Random.words(MOST_CELLS, random);
+    let words = Shape::Random.words(MOST_CELLS, random);
+    let mut words = generate::with_leftover(random, words);
     for call in generate::calls(random, 100) {
         one_call(pool, &mut words, call)?;
     }
@@ -684,7 +697,11 @@ fn images(pool: &dyn Interface, random: &mut Random, rounds: usize) -> Outcome {
         let mut words = generate::noise(random, n);
         if random.once_in(20) {
             let (few, any) = (random.below(HEADER), random.below(words.len() + 3));
-            words.resize(random.pick(&[few, any, any, words_for(0), words_for(MOST_CELLS + 1)]), 7);
+            let leftover = random.below(CELL);
+            words.resize(
+                random.pick(&[few, any, any, words_for(0) + leftover, words_for(MOST_CELLS + 1) + leftover]),
+                7,
+            );
         }
         load(pool, &words, &bytes)?;
         let near = n as u32;
@@ -700,8 +717,9 @@ fn images(pool: &dyn Interface, random: &mut Random, rounds: usize) -> Outcome {
     Ok(())
 }
 
-/// Images with their cells in the order of the visits. Such an image loads, with any bytes behind it, and saves as the bytes
-/// that were read; with one number padded it is refused. What is expected is known without the model's reader.
+/// Images with their cells in the order of the visits. Such an image loads, with any bytes behind it, leaves the words left over,
+/// and saves as the bytes that were read; with one number padded it is refused. What is expected is known without the model's
+/// reader.
 fn round_trips(pool: &dyn Interface, random: &mut Random, rounds: usize) -> Outcome {
     for _ in 0..rounds {
         let n = generate::cells(random);
@@ -711,7 +729,8 @@ fn round_trips(pool: &dyn Interface, random: &mut Random, rounds: usize) -> Outc
             _ => generate::well_formed(random, n),
         };
         let image = image(&graph, random);
-        let before: Vec<u32> = filled(random, words_for(n)).collect();
+        let length = words_for(n) + random.below(CELL);
+        let before: Vec<u32> = filled(random, length).collect();
         let mut words = before.clone();
         if random.once_in(2) {
             let bytes = generate::padded_image(random, &image);
@@ -726,6 +745,7 @@ fn round_trips(pool: &dyn Interface, random: &mut Random, rounds: usize) -> Outc
         let what = || format!("{bytes:02X?} for {n} cells");
         equal(what, pool.check_image(&bytes, n as u32), Ok(()))?;
         equal(what, pool.load(&mut words, &bytes), (Ok(()), image.len()))?;
+        equal_words(what, &words[words_for(n)..], &before[words_for(n)..])?;
         let mut out = vec![0x55; image.len()];
         equal(what, pool.save(&mut words, &mut vec![7; 2 * n], &mut out), Ok(image.len()))?;
         equal_words(what, &out, &image)?;
@@ -758,7 +778,7 @@ fn numbers(pool: &dyn Interface, _: &mut Random, _: usize) -> Outcome {
             numbers[place] = &bytes;
             let image = numbers.concat();
             check(pool, &image, 1)?;
-            load(pool, &[9; 22], &image)?;
+            load(pool, &[9; 25][..22 + bytes.len() % CELL], &image)?;
         }
     }
     Ok(())
@@ -794,6 +814,7 @@ fn every_function(pool: &dyn Interface, words: &[u32], random: &mut Random) -> O
 /// A small pool with a stack, a scratch, an output and bytes of every length up to beyond what the largest pool needs.
 fn every_lent_length(pool: &dyn Interface, random: &mut Random, _: usize) -> Outcome {
     let words = Shape::LeftComb.words(3, random);
+    let words = generate::with_leftover(random, words);
     let mut image = image(&words, random);
     let (bytes, longest) = (image.len(), 5 * (1 + REGISTERS + 3 * MOST_CELLS) + 10);
     image.resize(longest, random.word() as u8);
@@ -848,7 +869,7 @@ fn every_size(pool: &dyn Interface, random: &mut Random, _: usize) -> Outcome {
         // The last cell is the head, or there is none.
         let v = generate::value(random);
         changed[1] = last;
-        changed[cell..].copy_from_slice(&[FREE, random.below(n + 1) as u32, 5, 6]);
+        changed[cell..cell + CELL].copy_from_slice(&[FREE, random.below(n + 1) as u32, 5, 6]);
         one_call(pool, &mut changed, Call::New { r: 1, a: 0, b: 1, v })?;
         let mut changed = words;
         changed[1] = 0;
@@ -857,16 +878,132 @@ fn every_size(pool: &dyn Interface, random: &mut Random, _: usize) -> Outcome {
     Ok(())
 }
 
-/// Every function on words of every length near the smallest and the largest, and on longer ones that would be right
-/// without their upper bits; word 0 fits.
+/// Words of this length, whether it is that of a pool or not: those of a fresh pool, of a well-formed one, and any. Word 0 fits.
+fn of_length(random: &mut Random, length: usize) -> [Vec<u32>; 3] {
+    let n = length.saturating_sub(HEADER) / CELL;
+    let any: Vec<u32> = (0..length).map(|_| random.word()).collect();
+    let mut fresh = vec![n as u32, n.min(1) as u32];
+    fresh.resize(HEADER, 0);
+    (1..=n).for_each(|i| fresh.extend([FREE, if i < n { i as u32 + 1 } else { 0 }, 0, 0]));
+    [fresh, generate::last_held(random, n), vec![n as u32]].map(|mut words| {
+        // Behind the cells as they are in the words of any content.
+        words.truncate(words_for(n).min(length));
+        words.extend(&any[words.len()..]);
+        words
+    })
+}
+
+/// Every function on words of every length near the smallest and the largest, the limits first: fresh, well-formed and any ones,
+/// with N, either number beside it and any for word 0; and on longer ones that would be right without their upper bits.
 fn lengths(pool: &dyn Interface, random: &mut Random, _: usize) -> Outcome {
-    let longer = [1, 2, 700, MOST_CELLS].map(|n| (1 << 16) + words_for(n));
-    for length in (0..400usize).chain(15_900..16_200).chain(longer) {
-        let mut words: Vec<u32> = (0..length).map(|_| random.word()).collect();
-        if let Some(word) = words.first_mut() {
-            *word = (length.saturating_sub(HEADER) / CELL) as u32 % (1 << 14);
+    for length in (0..=60).chain(16_018..=16_030).chain(16_000..16_018) {
+        for mut words in of_length(random, length) {
+            let fits = words.first().copied().unwrap_or(0);
+            for first in [fits, fits.wrapping_sub(1), fits + 1, random.word()] {
+                words.iter_mut().take(1).for_each(|word| *word = first);
+                every_function(pool, &words, random)?;
+            }
         }
+    }
+    let longer = [1, 2, 700, MOST_CELLS].map(|n| (1 << 16) + words_for(n));
+    for length in (61..400).chain(15_900..16_000).chain(16_031..16_200).chain(longer) {
+        let [.., mut words] = of_length(random, length);
+        words[0] %= 1 << 14;
         every_function(pool, &words, random)?;
+    }
+    Ok(())
+}
+
+/// What a function answered and left: the words, a tally, stack or scratch, and an output.
+type Left = (&'static str, String, Vec<u32>, Vec<u32>, Vec<u8>);
+
+/// A call that is lent the words, and what else it needs, and tells its answer.
+type Told<'a> = &'a dyn Fn(&mut [u32], &mut Vec<u32>, &mut Vec<u8>) -> String;
+
+/// What every function that is lent words, but fresh, answers and leaves on these words of a pool. The arguments are the same for the same random
+/// numbers.
+fn every_outcome(pool: &dyn Interface, words: &[u32], random: &mut Random) -> Vec<Left> {
+    let n = room(words);
+    let mut list = Vec::new();
+    for call in generate::calls(random, 24) {
+        let mut words = words.to_vec();
+        let answer = format!("{call:?}: {:?}", apply(pool, &mut words, call));
+        list.push(("call", answer, words, vec![], vec![]));
+    }
+    let (stack, bytes) = (random.below(n + 2), random.below(17 + 9 * n));
+    let image = decoded(words).map_or_else(|| generate::image(random, n), |pool| pool.image());
+    let mut keep = |name: &'static str, call: Told| {
+        let (mut words, mut lent, mut out) = (words.to_vec(), Vec::new(), Vec::new());
+        let answer = call(&mut words, &mut lent, &mut out);
+        list.push((name, answer, words, lent, out));
+    };
+    keep("worst case", &|words, _, _| format!("{:?}", pool.worst_case(words)));
+    keep("recursive", &|words, _, _| format!("{:?}", pool.collect_recursive(words)));
+    keep("tally", &|words, lent, _| {
+        let mut tally = Tally { collections: 7, visits: u32::MAX - 30 };
+        let answer = pool.collect_tally(words, &mut tally);
+        lent.extend([tally.collections, tally.visits]);
+        format!("{answer:?}")
+    });
+    for length in [0, 1, stack] {
+        keep("stack", &|words, lent, _| {
+            lent.resize(length, 9);
+            format!("{:?}", pool.collect_stack(words, lent))
+        });
+    }
+    for (scratch, bytes) in [(2 * n, 34 + 9 * n), (2 * n - 1, 34 + 9 * n), (2 * n, bytes)] {
+        keep("save", &|words, lent, out| {
+            lent.resize(scratch, 9);
+            out.resize(bytes, 0x55);
+            format!("{:?}", pool.save(words, lent, out))
+        });
+    }
+    for bytes in [&image, &image[..image.len() / 2]] {
+        keep("load", &|words, _, _| format!("{:?}", pool.load(words, bytes)));
+    }
+    list
+}
+
+/// Words of any kind of content, as the words of a pool without any left over, and with one to three of any content: the functions
+/// answer and leave the same, and the words left over are as they were. So it is for a list of calls from a fresh pool on, where
+/// fresh answers how many are left over.
+fn leftovers(pool: &dyn Interface, random: &mut Random, rounds: usize) -> Outcome {
+    for _ in 0..rounds {
+        let mut words = generate::words(random);
+        let n = room(&words);
+        if !(1..=MOST_CELLS).contains(&n) {
+            continue;
+        }
+        words.truncate(words_for(n));
+        // Now and then the head or a register leads past the last cell.
+        if random.once_in(3) {
+            words[random.between(1, 3)] = n as u32 + 1;
+        }
+        let list = generate::calls(random, 60);
+        let numbers = random.clone();
+        let expected = every_outcome(pool, &words, &mut numbers.clone());
+        let from_fresh = |words: &mut [u32]| {
+            let answer = pool.fresh(words);
+            (answer, list.iter().map(|&call| apply(pool, words, call)).collect::<Vec<_>>())
+        };
+        let mut run = words.clone();
+        let (fresh, answers) = from_fresh(&mut run);
+        equal(|| format!("fresh of {n}"), fresh, Ok((n as u32, 0)))?;
+        for e in 1..CELL {
+            let leftover = generate::leftover(random, n, e);
+            let longer = [words.as_slice(), &leftover].concat();
+            let what = || format!("{leftover:?} left over behind {words:?}");
+            for (found, expected) in every_outcome(pool, &longer, &mut numbers.clone()).into_iter().zip(&expected) {
+                let (name, answer, mut left, lent, out) = found;
+                equal_words(what, &left.split_off(words_for(n)), &leftover)
+                    .map_err(|text| format!("{name}: {text}"))?;
+                equal(what, &(name, answer, left, lent, out), expected)?;
+            }
+            let mut found = longer;
+            equal(what, from_fresh(&mut found), (Ok((n as u32, e as u32)), answers.clone()))?;
+            equal_words(what, &found.split_off(words_for(n)), &leftover)?;
+            equal_words(what, &found, &run)?;
+        }
     }
     Ok(())
 }

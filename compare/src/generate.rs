@@ -68,9 +68,32 @@ pub fn cells(random: &mut Random) -> usize {
     }
 }
 
-/// Words of a pool of `n` cells with every word random.
+/// So many words left over behind a pool of `n` cells: any numbers, or as one more cell begins.
+pub fn leftover(random: &mut Random, n: usize, count: usize) -> Vec<u32> {
+    let any = random.once_in(2);
+    let mut word = |place: usize| match place {
+        _ if any => random.word(),
+        0 => random.pick(&[USED, FREE]),
+        _ => random.below(n + 2) as u32,
+    };
+    (0..count).map(&mut word).collect()
+}
+
+/// The words of a pool, with none to three left over behind them.
+pub fn with_leftover(random: &mut Random, mut words: Vec<u32>) -> Vec<u32> {
+    let (n, count) = ((words.len() - HEADER) / CELL, random.below(CELL));
+    words.extend(leftover(random, n, count));
+    words
+}
+
+/// Words for a pool of `n` cells, all of them 0, and none to three left over.
+pub fn blank(random: &mut Random, n: usize) -> Vec<u32> {
+    with_leftover(random, vec![0; words_for(n)])
+}
+
+/// Words for a pool of `n` cells with every word random, those left over too.
 pub fn noise(random: &mut Random, n: usize) -> Vec<u32> {
-    (0..words_for(n)).map(|_| random.word()).collect()
+    (0..words_for(n) + random.below(CELL)).map(|_| random.word()).collect()
 }
 
 /// A well-formed pool: random used cells, valid links, any content of the free cells, and a head of several kinds.
@@ -86,7 +109,7 @@ pub fn well_formed(random: &mut Random, n: usize) -> Vec<u32> {
             random.pick(&used)
         }
     };
-    let mut words = vec![0; words_for(n)];
+    let mut words = blank(random, n);
     words[0] = n as u32;
     let held = random.pick(&[0, 1, 2, 4, 8, REGISTERS, 2 * REGISTERS]);
     for _ in 0..held {
@@ -120,7 +143,10 @@ pub fn well_formed(random: &mut Random, n: usize) -> Vec<u32> {
 pub fn well_formed_pools(random: &mut Random, count: usize) -> impl Iterator<Item = Vec<u32>> + '_ {
     let known = SHAPES.into_iter().flat_map(|shape| [1, 2, 7, 64, 500].map(|n| Some((shape, n))));
     (0..count).map(|_| None).chain(known).map(|known| match known {
-        Some((shape, n)) => shape.words(n, random),
+        Some((shape, n)) => {
+            let words = shape.words(n, random);
+            with_leftover(random, words)
+        }
         None => {
             let n = cells(random);
             if random.once_in(4) {
@@ -134,7 +160,7 @@ pub fn well_formed_pools(random: &mut Random, count: usize) -> impl Iterator<Ite
 
 /// A pool that calls have made.
 pub fn built_by_calls(random: &mut Random, n: usize) -> Vec<u32> {
-    let mut words = vec![0; words_for(n)];
+    let mut words = blank(random, n);
     PlainRust.fresh(&mut words).expect("the length is right");
     let count = random.between(0, 4 * n.min(60));
     for call in calls(random, count) {
@@ -160,7 +186,7 @@ pub fn last_held(random: &mut Random, n: usize) -> Vec<u32> {
 /// A pool of `n` cells for which the stack marker holds `entries` entries at once: a left comb, and where it ends a chain of equal
 /// links. The first entries, `forks` of them, lead to the last two cells, the same for each; the others are leaves, with both links
 /// to themselves. They are `used` cells, at least 2 * `entries` + 1, with forks 2 more. The others form the ascending chain, so that
-/// a collection keeps every word.
+/// a collection keeps every word. No word is left over.
 pub fn comb_and_chain(random: &mut Random, entries: usize, forks: usize, used: usize, n: usize) -> Vec<u32> {
     let mut words = Shape::EqualChain.words(used, random);
     let last = used as u32;
@@ -181,7 +207,7 @@ pub fn comb_and_chain(random: &mut Random, entries: usize, forks: usize, used: u
 /// four registers, with a branch to the right of each cell. A branch goes on over up to three cells, each by one link or two equal
 /// ones, and ends in a leaf, in two new cells, or with links to any.
 pub fn branches(random: &mut Random, n: usize) -> Vec<u32> {
-    let mut words = vec![0; words_for(n)];
+    let mut words = blank(random, n);
     words[0] = n as u32;
     words[2] = 1;
     let (mut last, mut runs, mut new) = (1, 1, 2..=n as u32);
@@ -222,9 +248,9 @@ pub fn branches(random: &mut Random, n: usize) -> Vec<u32> {
 
 /// Change one to three places so that the words may be malformed, or of a wrong size.
 pub fn damage(random: &mut Random, words: &mut Vec<u32>) {
-    let n = (words.len() - HEADER) / CELL;
+    let (n, length) = ((words.len() - HEADER) / CELL, words.len());
     for _ in 0..random.pick(&[1, 1, 2, 3]) {
-        if words.len() != words_for(n) {
+        if words.len() != length {
             return;
         }
         let start = random.below(n);
@@ -232,8 +258,8 @@ pub fn damage(random: &mut Random, words: &mut Vec<u32>) {
         let bad = |random: &mut Random| {
             let n = n as u32;
             let near = random.below(n as usize + 2) as u32;
-            let other = random.pick(&[0, 1, n, n + 1, n + 2, 4000, 4001, 1 << 30, 1 << 31, u32::MAX]);
-            random.pick(&[near, not_used, other, other])
+            let other = random.pick(&[0, 1, n, n + 2, 4000, 4001, 1 << 30, 1 << 31, u32::MAX]);
+            random.pick(&[near, not_used, n + 1, other, other])
         };
         let among = random.pick(&[2, 4, REGISTERS]);
         let register = 2 + random.below(among);
@@ -256,11 +282,11 @@ pub fn damage(random: &mut Random, words: &mut Vec<u32>) {
             _ => {
                 let length = match random.below(12) {
                     0 | 1 => random.below(HEADER),
-                    2 => words_for(0),
-                    3 => words_for(random.between(MOST_CELLS + 1, MOST_CELLS + 3)),
-                    _ => random.between(words.len() - 5, words.len() + 5),
+                    2 | 3 => words_for(0) + random.below(CELL),
+                    4 | 5 => words_for(random.between(MOST_CELLS + 1, MOST_CELLS + 3)) + random.below(CELL),
+                    _ => random.between(length - 5, length + 5),
                 };
-                words.resize(length, 0);
+                words.resize(length, random.pick(&[0, FREE, 7]));
                 if let (Some(word), true) = (words.first_mut(), random.once_in(2)) {
                     *word = (length.saturating_sub(HEADER) / CELL) as u32;
                 }
@@ -282,7 +308,8 @@ pub fn words(random: &mut Random) -> Vec<u32> {
         }
         1 | 2 => built_by_calls(random, n),
         3 => {
-            let mut words = random.pick(&SHAPES).words(n, random);
+            let words = random.pick(&SHAPES).words(n, random);
+            let mut words = with_leftover(random, words);
             words[2 + random.below(REGISTERS)] = random.between(1, n) as u32;
             words[2] = random.below(2) as u32;
             words
@@ -599,7 +626,7 @@ impl Shape {
         }
     }
 
-    /// All `n` cells used, register 0 holds cell 1.
+    /// All `n` cells used, register 0 holds cell 1. No word is left over.
     pub fn words(self, n: usize, random: &mut Random) -> Vec<u32> {
         let mut words = vec![0; words_for(n)];
         words[0] = n as u32;

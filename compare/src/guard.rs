@@ -102,7 +102,7 @@ impl Guarded {
 }
 
 impl Interface for Guarded {
-    fn fresh(&self, words: &mut [u32]) -> Result<u32, u32> {
+    fn fresh(&self, words: &mut [u32]) -> Result<(u32, u32), u32> {
         self.on(words, |pool, words| pool.fresh(words))
     }
 

@@ -63,7 +63,7 @@ pub const MOST_RECURSIVE: usize = 64;
 pub const USED: u32 = 0;
 pub const FREE: u32 = 4;
 
-/// Words of a pool of `n` cells.
+/// The fewest words of a pool of `n` cells: up to three more are left over.
 pub fn words_for(n: usize) -> usize {
     HEADER + CELL * n
 }
@@ -82,8 +82,8 @@ pub struct Tally {
 
 /// The functions of the library. A refusal is `Err` with its number, or with what else `R` says of it.
 pub trait Interface<R = u32> {
-    /// Answers N.
-    fn fresh(&self, words: &mut [u32]) -> Result<u32, R>;
+    /// Answers N and the words left over.
+    fn fresh(&self, words: &mut [u32]) -> Result<(u32, u32), R>;
     fn copy(&self, words: &mut [u32], r: u32, a: u32) -> Result<(), R>;
     fn clear(&self, words: &mut [u32], r: u32) -> Result<(), R>;
     /// Answers visits.

@@ -40,13 +40,12 @@ fn limited(n: usize) -> Result<usize, Cause> {
     }
 }
 
-/// N by the length alone.
-pub fn cells_for(len: usize) -> Result<usize, Cause> {
-    let cells = len.checked_sub(HEADER).ok_or(Cause::Short)?;
-    if !cells.is_multiple_of(CELL) {
-        return Err(Cause::Form);
-    }
-    limited(cells / CELL)
+/// N and e by the length alone, which is 18 + 4 * N + e with e from 0 to 3.
+pub fn cells_for(len: usize) -> Result<(usize, usize), Cause> {
+    let behind = len.checked_sub(HEADER).ok_or(Cause::Short)?;
+    let fits = |e: &usize| behind.checked_sub(*e).is_some_and(|cells| cells.is_multiple_of(CELL));
+    let e = (0..=3).find(fits).expect("one of four numbers in a row is a multiple");
+    Ok((limited((behind - e) / CELL)?, e))
 }
 
 /// What the stack marker has before it.
@@ -128,27 +127,28 @@ impl Set {
 }
 
 impl Pool {
-    /// The words, if their length and word 0 fit.
+    /// The words, if their length and word 0 fit. Those left over are no part of the pool.
     pub fn decode(words: &[u32]) -> Result<Pool, Cause> {
-        let n = cells_for(words.len())?;
+        let (n, _) = cells_for(words.len())?;
         if words[0] as usize != n {
             return Err(Cause::WordZero);
         }
         let mut registers = [0; REGISTERS];
         registers.copy_from_slice(&words[2..HEADER]);
         let cells = words[HEADER..]
-            .chunks(CELL)
+            .chunks_exact(CELL)
             .map(|cell| Cell { state: cell[0], left: cell[1], right: cell[2], value: cell[3] })
             .collect();
         Ok(Pool { head: words[1], registers, cells })
     }
 
+    /// Write the pool; the words left over stay.
     pub fn encode(&self, words: &mut [u32]) {
-        assert_eq!(words.len(), HEADER + CELL * self.cells.len());
+        assert_eq!((words.len() - HEADER) / CELL, self.cells.len());
         words[0] = self.n();
         words[1] = self.head;
         words[2..HEADER].copy_from_slice(&self.registers);
-        for (to, cell) in words[HEADER..].chunks_mut(CELL).zip(&self.cells) {
+        for (to, cell) in words[HEADER..].chunks_exact_mut(CELL).zip(&self.cells) {
             to.copy_from_slice(&[cell.state, cell.left, cell.right, cell.value]);
         }
     }
@@ -611,13 +611,13 @@ impl Model {
 
 /// A refusal is given as its number or as its cause.
 impl<R: From<Cause>> Interface<R> for Model {
-    fn fresh(&self, words: &mut [u32]) -> Result<u32, R> {
-        let n = cells_for(words.len())?;
+    fn fresh(&self, words: &mut [u32]) -> Result<(u32, u32), R> {
+        let (n, e) = cells_for(words.len())?;
         let free = Cell { state: FREE, left: 0, right: 0, value: 0 };
         let mut pool = Pool { head: 0, registers: [0; REGISTERS], cells: vec![free; n] };
         pool.chain();
         pool.encode(words);
-        Ok(n as u32)
+        Ok((n as u32, e as u32))
     }
 
     fn copy(&self, words: &mut [u32], r: u32, a: u32) -> Result<(), R> {
@@ -723,7 +723,7 @@ impl<R: From<Cause>> Interface<R> for Model {
     }
 
     fn worst_case(&self, words: &mut [u32]) -> Result<u32, R> {
-        let n = cells_for(words.len())? as u32;
+        let n = cells_for(words.len())?.0 as u32;
         let link = |to: u32| if to <= n { to } else { 0 };
         let cell = |i: u32| {
             let (left, right) = if i % 2 == 1 { (link(i + 2), link(i + 1)) } else { (0, 0) };
@@ -756,7 +756,7 @@ impl<R: From<Cause>> Interface<R> for Model {
     }
 
     fn load(&self, words: &mut [u32], bytes: &[u8]) -> (Result<(), R>, usize) {
-        match cells_for(words.len()).and_then(|n| parse(bytes, n)) {
+        match cells_for(words.len()).and_then(|(n, _)| parse(bytes, n)) {
             Ok((pool, end)) => {
                 pool.encode(words);
                 (Ok(()), end)

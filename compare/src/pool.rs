@@ -50,7 +50,7 @@ macro_rules! bind {
         $occupancy:ident $(,)?
     ) => {
         extern "C" {
-            fn $fresh(words: *mut u32, len: usize, cells: *mut u32) -> u32;
+            fn $fresh(words: *mut u32, len: usize, cells: *mut u32, leftover: *mut u32) -> u32;
             fn $copy(words: *mut u32, len: usize, r: u32, a: u32) -> u32;
             fn $clear(words: *mut u32, len: usize, r: u32) -> u32;
             fn $new(words: *mut u32, len: usize, r: u32, a: u32, b: u32, v: u32, visits: *mut u32) -> u32;
@@ -100,8 +100,11 @@ macro_rules! bind {
         pub struct $type;
 
         impl Interface for $type {
-            fn fresh(&self, words: &mut [u32]) -> Result<u32, u32> {
-                results(UNSET, |[cells]| unsafe { $fresh(words.as_mut_ptr(), words.len(), cells) }).map(|[cells]| cells)
+            fn fresh(&self, words: &mut [u32]) -> Result<(u32, u32), u32> {
+                results(UNSET, |[cells, leftover]| unsafe {
+                    $fresh(words.as_mut_ptr(), words.len(), cells, leftover)
+                })
+                .map(|[cells, leftover]| (cells, leftover))
             }
 
             fn copy(&self, words: &mut [u32], r: u32, a: u32) -> Result<(), u32> {
@@ -237,7 +240,8 @@ bind! {
 
 #[cfg(before)]
 bind! {
-    /// An earlier version of the library. Before 4.0.0 its collect_stack lacks the last argument: do not call it.
+    /// An earlier version of the library. Before 4.0.0 its collect_stack lacks the last argument, and before 5.0.0 its fresh: do not
+    /// call these. Before 5.0.0 it refuses words left over.
     Before:
     before_cellpool_fresh, before_cellpool_copy, before_cellpool_clear, before_cellpool_new, before_cellpool_left,
     before_cellpool_right, before_cellpool_setleft, before_cellpool_setright, before_cellpool_setvalue,

@@ -73,11 +73,12 @@ fn text(answer: Answer) -> String {
 
 /// The replies to a script, a line each, where `pool` makes the calls.
 pub fn replies(pool: &dyn Interface, script: &[u8]) -> String {
-    run(pool, script).0
+    run(pool, script, &[]).0
 }
 
-/// The same, and the words that the script leaves, none where it has no accepted `f`.
-pub fn run(pool: &dyn Interface, script: &[u8]) -> (String, Vec<u32>) {
+/// The same, where each pool has these words left over behind its cells, and the words that the script leaves, none where it has
+/// no accepted `f`.
+pub fn run(pool: &dyn Interface, script: &[u8], leftover: &[u32]) -> (String, Vec<u32>) {
     let mut lines: Vec<&[u8]> = script.split(|&byte| byte == b'\n').collect();
     // Behind the last line end, and in an empty script, there is no line.
     if lines.last().is_some_and(|line| line.is_empty()) {
@@ -93,6 +94,7 @@ pub fn run(pool: &dyn Interface, script: &[u8]) -> (String, Vec<u32>) {
             Some(Line::Fresh(n)) if n < 1 || n as usize > MOST_CELLS => text(Answer::Refused(SIZE)),
             Some(Line::Fresh(n)) => {
                 words = vec![0; words_for(n as usize)];
+                words.extend(leftover);
                 text(pool.fresh(&mut words).map_or_else(Answer::Refused, |_| Answer::Done))
             }
         };

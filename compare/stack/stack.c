@@ -16,7 +16,7 @@
 #include <stdlib.h>
 #include <string.h>
 
-enum { N = 4000, SMALL = 64, LEN = CELLPOOL_WORDS(N), SMALL_LEN = CELLPOOL_WORDS(SMALL), ROOM = 1 << 16 };
+enum { N = 4000, SMALL = 64, LEN = CELLPOOL_WORDS(N), SMALL_LEN = CELLPOOL_WORDS(SMALL), ROOM = 1 << 16, TOO_SHORT = 21 };
 
 static uint32_t words[LEN], before[LEN], small[SMALL_LEN], scratch[CELLPOOL_SCRATCH(N)], stack[N], numbers[4];
 static uint8_t image[CELLPOOL_IMAGE_BYTES(N)], padded[CELLPOOL_IMAGE_BYTES(N) + 1];
@@ -118,9 +118,9 @@ int main(void) {
     int tree, forks;
 
     all_used(before, N, 1);
-    TRY(0, fresh, w, LEN, r0), TRY(1, fresh, w, LEN - 1, r0), TOLD(fresh);
+    TRY(0, fresh, w, LEN, r0, r1), TRY(0, fresh, w, LEN - 1, r0, r1), TRY(1, fresh, w, TOO_SHORT, r0, r1), TOLD(fresh);
     TRY(0, copy, w, LEN, 3, 0), TRY(2, copy, w, LEN, 16, 0), TOLD(copy);
-    TRY(0, clear, w, LEN, 0), TRY(1, clear, w, LEN - 1, 0), TOLD(clear);
+    TRY(0, clear, w, LEN, 0), TRY(1, clear, w, TOO_SHORT, 0), TOLD(clear);
     for (tree = 0; tree < 2; tree++) {
         all_used(before, N, tree);
         TRY(5, new, w, LEN, 0, 0, 0, 7, r0);
@@ -162,7 +162,7 @@ int main(void) {
         if (numbers[1] == (uint32_t)forks || numbers[2] == 0) return 1;
     }
     TOLD(collect_stack);
-    TRY(0, worst_case, w, LEN, r0), TRY(1, worst_case, w, LEN - 1, r0), TOLD(worst_case);
+    TRY(0, worst_case, w, LEN, r0), TRY(0, worst_case, w, LEN - 1, r0), TRY(1, worst_case, w, TOO_SHORT, r0), TOLD(worst_case);
     all_used(small, SMALL, 0);
     TRY(0, collect_recursive, AT(small), SMALL_LEN, r0, r1);
     all_used(small, SMALL, 1);

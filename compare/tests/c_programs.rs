@@ -173,11 +173,38 @@ fn the_words_of_stack_and_the_checks_that_the_header_states_are_those_of_the_wor
 }
 
 #[test]
+fn the_cells_that_the_header_states_for_a_length_are_those_of_fresh() {
+    let text = "#include \"cellpool.h\"\n\
+        #include <stdio.h>\n\
+        #if CELLPOOL_CELLS(21) != 0 || CELLPOOL_CELLS(22) != 1 || CELLPOOL_CELLS(25) != 1 || CELLPOOL_CELLS(26) != 2\n\
+        #error a constant of the preprocessor is another\n\
+        #endif\n\
+        #if CELLPOOL_CELLS(16018) != 4000 || CELLPOOL_CELLS(16021) != 4000 || CELLPOOL_CELLS(16022) != 0\n\
+        #error a constant of the preprocessor is another\n\
+        #endif\n\
+        static uint32_t words[16030], scratch[CELLPOOL_SCRATCH(CELLPOOL_CELLS(16021))];\n\
+        int main(void) {\n\
+            size_t len;\n\
+            for (len = 0; len <= 16030; len++) {\n\
+                uint32_t cells = 7777, leftover = 7777, answer = cellpool_fresh(words, len, &cells, &leftover);\n\
+                printf(\"%d %d %d %d\\n\", (int)CELLPOOL_CELLS(len), (int)answer, (int)cells, (int)leftover);\n\
+            }\n\
+            return sizeof scratch == 4 * 8000 ? 0 : 1;\n\
+        }\n";
+    std::fs::write(made("cells.c"), text).expect("the source is written");
+    let told = run(&compile("cells", &cc(), &["-std=c99", "-O2"], &[made("cells.c"), archive()]), &[]);
+    // Four lengths in a row for each number of cells, one more word left over each time.
+    let accepted = (1..=4000).flat_map(|n| (0..4).map(move |e| format!("{n} 0 {n} {e}\n")));
+    let refused = |count: usize| std::iter::repeat_n("0 1 7777 7777\n".to_string(), count);
+    assert_eq!(told, refused(22).chain(accepted).chain(refused(9)).collect::<String>());
+}
+
+#[test]
 fn an_answer_that_is_not_looked_at_is_a_warning() {
     let text = "#include \"cellpool.h\"\n\
         int main(void) {\n\
-            uint32_t words[CELLPOOL_WORDS(1)], cells;\n\
-            cellpool_fresh(words, CELLPOOL_WORDS(1), &cells);\n\
+            uint32_t words[CELLPOOL_WORDS(1)], cells, leftover;\n\
+            cellpool_fresh(words, CELLPOOL_WORDS(1), &cells, &leftover);\n\
             return 0;\n\
         }\n";
     std::fs::write(made("careless.c"), text).expect("the source is written");
@@ -196,8 +223,9 @@ fn the_header_serves_cpp() {
     let compiler = std::env::var("CXX").unwrap_or_else(|_| "c++".into());
     let text = "#include \"cellpool.h\"\n\
         int main() {\n\
-            uint32_t words[CELLPOOL_WORDS(2)], cells = 0;\n\
-            return cellpool_fresh(words, 26, &cells) == CELLPOOL_OK && cells == 2 ? 0 : 1;\n\
+            uint32_t words[29], cells = 0, leftover = 0;\n\
+            if (cellpool_fresh(words, 29, &cells, &leftover) != CELLPOOL_OK) return 1;\n\
+            return cells == 2 && leftover == 3 && CELLPOOL_CELLS(29) == 2 ? 0 : 1;\n\
         }\n";
     std::fs::write(made("header.cpp"), text).expect("the source is written");
     let program = compile("header", &compiler, &["-std=c++11", "-O2"], &[made("header.cpp"), archive()]);

@@ -123,12 +123,13 @@ fn without_checks_a_stack_is_enough_exactly_if_it_holds_every_entry() {
             seen[enough as usize] += 1;
         }
         // Refused, all stays.
-        let mut longer = [words.as_slice(), &[5]].concat();
-        let before = longer.clone();
+        let mut other = words;
+        other[0] += 1;
+        let before = other.clone();
         for collect in collects {
             let mut stack = [7; 3];
-            assert_eq!(collect(&mut longer, &mut stack), Err(SIZE));
-            assert_eq!((&longer, stack), (&before, [7; 3]));
+            assert_eq!(collect(&mut other, &mut stack), Err(SIZE));
+            assert_eq!((&other, stack), (&before, [7; 3]));
         }
     }
     assert!(seen.iter().all(|&count| count > 500), "{seen:?}");
@@ -147,4 +148,9 @@ fn the_worst_case_of_every_size_takes_just_the_stack_words_and_the_checks_that_a
 #[test]
 fn every_length_of_a_lent_block() {
     on_all(checks::LENT_LENGTHS);
+}
+
+#[test]
+fn nothing_depends_on_the_words_left_over_and_they_stay() {
+    on_all(checks::LEFTOVERS);
 }

@@ -7,7 +7,7 @@ use cellpool_compare::cause::Place;
 use cellpool_compare::checks::{self, Comparison};
 use cellpool_compare::random::Random;
 use cellpool_compare::visit::{Case, Marking};
-use cellpool_compare::{cell_at, words_for, Interface, Tally, FREE, HEADER, REGISTERS, USED};
+use cellpool_compare::{cell_at, words_for, Interface, Tally, FREE, HEADER, MOST_CELLS, REGISTERS, USED};
 
 /// What is wrong in how the numbers of an image are read.
 #[derive(Clone, Copy, Debug, PartialEq, Eq)]
@@ -152,6 +152,29 @@ enum Misbuilt {
     Accepts(usize),
 }
 
+/// What is wrong in the lengths that a function accepts, or in what it does with the words left over.
+#[derive(Clone, Copy, Debug, PartialEq, Eq)]
+enum Misfit {
+    /// Only so many words may be left over: with 0, the behaviour of before.
+    UpTo(usize),
+    /// N is rounded up: the words left over are taken for a cell.
+    RoundedUp,
+    /// This length is refused.
+    Refuses(usize),
+    /// This length is accepted, as the nearest one of a pool.
+    Accepts(usize),
+    /// Accepted, it clears the first word left over.
+    ClearsFirst,
+    /// Accepted, it clears the last one.
+    ClearsLast,
+    /// Accepted, it leaves a free cell there: the sweep runs over the end.
+    SweepsOver,
+    /// Refused, it changes the last word left over.
+    WritesRefused,
+    /// It is refused with 3 where the first word left over is no state of a cell: the test of the pool runs over the end.
+    TestsOver,
+}
+
 #[derive(Clone, Copy, Debug, PartialEq, Eq)]
 enum Fault {
     Correct,
@@ -167,6 +190,8 @@ enum Fault {
     Visits(Misvisit),
     /// The worst case is built so.
     Builds(Misbuilt),
+    /// The function takes lengths and the words left over so.
+    Fits(&'static str, Misfit),
     CollectKeepsAll,
     CollectLosesFreeCell,
     CollectLosesCellInWindow,
@@ -242,7 +267,23 @@ enum Fault {
     OccupancyCutsProduct,
     FreshLeavesRegister,
     FreshLengthCut,
+    /// The length modulo 4 is answered for the words left over.
+    FreshAnswersRemainder,
+    FreshAnswersNoneLeft,
+    /// N is answered as if the words left over were a cell; the words are right.
+    FreshAnswersRoundedUp,
+    FreshAnswersExchanged,
     WorstCaseLengthCut,
+    /// A register may hold the cell behind the last one, where the words left over begin as a used cell does.
+    CopyPastEnd,
+    /// The head may be the cell behind the last one, where the words left over begin as a free cell does.
+    NewPastEnd,
+    /// The words left over are counted as a cell for the scratch.
+    SaveScratchRoundedUp,
+    /// They are counted in K.
+    SaveCountsLeftover,
+    /// Their number stands behind the image.
+    SaveWritesLeftover,
 }
 
 use Fault::*;
@@ -350,9 +391,51 @@ const WORST_CASE: [Fault; 14] = [
     Builds(Misbuilt::Accepts(18)),
 ];
 
-/// The faults that each comparison finds. Those of the first one show in the answers to a list of calls, without a look at
+/// The functions that take words: fresh and the eleven calls, and then the others.
+const FUNCTIONS: [&str; 18] = [
+    "fresh",
+    "copy",
+    "clear",
+    "new",
+    "left",
+    "right",
+    "setleft",
+    "setright",
+    "setvalue",
+    "value",
+    "same",
+    "collect",
+    "tally",
+    "stack",
+    "worst_case",
+    "recursive",
+    "save",
+    "load",
+];
+
+/// The same fault in each of so many functions, from this one on.
+const fn in_each<const COUNT: usize>(first: usize, fault: Misfit) -> [Fault; COUNT] {
+    let mut list = [Correct; COUNT];
+    let mut place = 0;
+    while place < COUNT {
+        list[place] = Fits(FUNCTIONS[first + place], fault);
+        place += 1;
+    }
+    list
+}
+
+/// In fresh and the eleven calls; in every function.
+const fn in_calls(fault: Misfit) -> [Fault; 12] {
+    in_each(0, fault)
+}
+
+const fn in_all(fault: Misfit) -> [Fault; 18] {
+    in_each(0, fault)
+}
+
+/// The faults that each comparison finds. Those of the reference model show in the answers to a list of calls, without a look at
 /// the words, and no others do.
-const FOUND_BY: [(Comparison, &[Fault]); 33] = [
+const FOUND_BY: [(Comparison, &[Fault]); 64] = [
     (
         checks::REFERENCE,
         &[
@@ -370,6 +453,10 @@ const FOUND_BY: [(Comparison, &[Fault]); 33] = [
             ValueOfNilIsZero,
             EveryCallRefused,
             FreshLeavesRegister,
+            FreshAnswersRemainder,
+            FreshAnswersNoneLeft,
+            FreshAnswersRoundedUp,
+            FreshAnswersExchanged,
             Visits(Misvisit::PassLeftGoes),
             Visits(Misvisit::PassRightGoes),
             Visits(Misvisit::LeftPassed),
@@ -388,8 +475,48 @@ const FOUND_BY: [(Comparison, &[Fault]); 33] = [
             LeftCutsLink,
             SetLeftChecksNilFirst,
             CopyReadsItsTarget,
+            CopyPastEnd,
+            NewPastEnd,
         ],
     ),
+    // Lengths and the words left over: by the reference model, by the model, and by the same words without any left over.
+    (checks::REFERENCE, &in_calls(Misfit::UpTo(0))),
+    (checks::REFERENCE, &in_calls(Misfit::UpTo(2))),
+    (checks::REFERENCE, &in_calls(Misfit::RoundedUp)),
+    (checks::REFERENCE, &in_calls(Misfit::TestsOver)),
+    (checks::REFERENCE, &in_calls(Misfit::Refuses(25))),
+    (checks::ANY_WORDS, &in_calls(Misfit::UpTo(0))),
+    (checks::ANY_WORDS, &in_calls(Misfit::RoundedUp)),
+    (checks::ANY_WORDS, &in_calls(Misfit::ClearsFirst)),
+    (checks::ANY_WORDS, &in_calls(Misfit::ClearsLast)),
+    (checks::ANY_WORDS, &in_calls(Misfit::WritesRefused)),
+    (
+        checks::ANY_WORDS,
+        &[
+            Fits("worst_case", Misfit::UpTo(0)),
+            Fits("worst_case", Misfit::ClearsLast),
+            Fits("worst_case", Misfit::WritesRefused),
+        ],
+    ),
+    (checks::COLLECTIONS, &in_each::<3>(11, Misfit::SweepsOver)),
+    (checks::COLLECTIONS, &in_each::<3>(11, Misfit::TestsOver)),
+    (checks::COLLECTIONS, &[Fits("recursive", Misfit::SweepsOver), Fits("recursive", Misfit::TestsOver)]),
+    (checks::WORST_CASES, &[Fits("worst_case", Misfit::UpTo(0)), Fits("worst_case", Misfit::ClearsFirst)]),
+    (checks::ROUND_TRIPS, &[Fits("load", Misfit::UpTo(2)), Fits("load", Misfit::ClearsFirst), SaveScratchRoundedUp]),
+    (checks::LEFTOVERS, &in_all(Misfit::UpTo(0))),
+    (checks::LEFTOVERS, &in_all(Misfit::UpTo(2))),
+    (checks::LEFTOVERS, &in_all(Misfit::RoundedUp)),
+    (checks::LEFTOVERS, &in_all(Misfit::ClearsFirst)),
+    (checks::LEFTOVERS, &in_all(Misfit::ClearsLast)),
+    (checks::LEFTOVERS, &in_all(Misfit::SweepsOver)),
+    (checks::LEFTOVERS, &in_each::<13>(1, Misfit::WritesRefused)),
+    (checks::LEFTOVERS, &in_each::<3>(15, Misfit::WritesRefused)),
+    (checks::LEFTOVERS, &in_all(Misfit::TestsOver)),
+    (checks::LEFTOVERS, &[CopyPastEnd, NewPastEnd, SaveScratchRoundedUp, SaveCountsLeftover, SaveWritesLeftover]),
+    (checks::LENGTHS, &in_all(Misfit::Accepts(21))),
+    (checks::LENGTHS, &in_all(Misfit::Refuses(25))),
+    (checks::LENGTHS, &in_all(Misfit::Accepts(16_022))),
+    (checks::LENGTHS, &in_all(Misfit::Refuses(16_021))),
     (
         checks::COLLECTIONS,
         &[
@@ -448,6 +575,21 @@ const FOUND_BY: [(Comparison, &[Fault]); 33] = [
             LoadCutsRest,
             LoadLengthCut,
             CheckLengthCut,
+            SaveScratchRoundedUp,
+            SaveCountsLeftover,
+            SaveWritesLeftover,
+            Fits("save", Misfit::UpTo(0)),
+            Fits("save", Misfit::RoundedUp),
+            Fits("save", Misfit::ClearsLast),
+        ],
+    ),
+    (
+        checks::IMAGES,
+        &[
+            Fits("load", Misfit::UpTo(0)),
+            Fits("load", Misfit::RoundedUp),
+            Fits("load", Misfit::ClearsFirst),
+            Fits("load", Misfit::WritesRefused),
         ],
     ),
     (
@@ -545,7 +687,7 @@ impl Faulty {
     fn refuses(&self, name: &str, words: &[u32]) -> Result<(), u32> {
         match self.0 {
             EveryCallRefused if name != "fresh" => Err(3),
-            At(function, n) if function == name && words.len() == words_for(n) => Err(3),
+            At(function, n) if function == name && words.len() >= HEADER && cells(words) as usize == n => Err(3),
             _ => Ok(()),
         }
     }
@@ -562,6 +704,11 @@ impl Faulty {
 
 fn cells(words: &[u32]) -> u32 {
     (words.len().saturating_sub(HEADER) / 4) as u32
+}
+
+/// The words left over behind a pool's cells.
+fn leftover(words: &[u32]) -> &[u32] {
+    words.get(words_for(cells(words) as usize)..).unwrap_or_default()
 }
 
 fn register(words: &[u32], number: u32) -> u32 {
@@ -812,7 +959,7 @@ fn mark_by_reversal(fault: Option<Misvisit>, words: &mut [u32]) -> Marking {
     let is = |other: Misvisit| fault == Some(other);
     // Node 0 of source document 000 is marked from the start here, and then not visited.
     let mut nodes = vec![[if is(Misvisit::NilVisited) { USED } else { MARKED }, 0, 0, 0]];
-    nodes.extend(words[HEADER..].chunks(4).map(|cell| [cell[0], cell[1], cell[2], cell[3]]));
+    nodes.extend(words[HEADER..].chunks_exact(4).map(|cell| [cell[0], cell[1], cell[2], cell[3]]));
     let turn = |nodes: &mut [[u32; 4]]| nodes.iter_mut().for_each(|node| node.swap(1, 2));
     if is(Misvisit::RightFirst) {
         turn(&mut nodes);
@@ -868,21 +1015,143 @@ fn mark_by_reversal(fault: Option<Misvisit>, words: &mut [u32]) -> Marking {
     if is(Misvisit::RightFirst) {
         turn(&mut nodes);
     }
-    words[HEADER..].copy_from_slice(&nodes[1..].concat());
+    words[HEADER..][..4 * (nodes.len() - 1)].copy_from_slice(&nodes[1..].concat());
     told
 }
 
+/// Plain Rust, where this function has this fault in how it takes lengths and the words left over.
+struct Misfitting(&'static str, Misfit);
+
+impl Misfitting {
+    /// Make a call, with the fault if the function has it.
+    fn on<T>(&self, name: &str, words: &mut [u32], call: impl FnOnce(&mut [u32]) -> Result<T, u32>) -> Result<T, u32> {
+        let &Misfitting(function, fault) = self;
+        if name != function {
+            return call(words);
+        }
+        let (length, left) = (words.len(), leftover(words).len());
+        // The length that is taken for that of the words; what is missing is 0, and none at all is refused.
+        let taken = match fault {
+            Misfit::UpTo(most) if left > most => 0,
+            Misfit::Refuses(other) if length == other => 0,
+            Misfit::Accepts(other) if length == other => length.clamp(words_for(1), words_for(MOST_CELLS) + 3),
+            Misfit::RoundedUp if left > 0 => length - left + 4,
+            _ => length,
+        };
+        let mut other = words.to_vec();
+        other.resize(taken, 0);
+        let answer = call(&mut other);
+        if fault == Misfit::TestsOver && answer.is_ok() && left > 0 && ![USED, FREE].contains(&words[length - left]) {
+            return Err(3);
+        }
+        other.truncate(length);
+        words[..other.len()].copy_from_slice(&other);
+        let behind = &mut words[length - left..];
+        match (fault, behind, answer.is_ok()) {
+            (Misfit::ClearsFirst, [first, ..], true) => *first = 0,
+            (Misfit::ClearsLast, [.., last], true) => *last = 0,
+            (Misfit::WritesRefused, [.., last], false) => *last ^= 1,
+            (Misfit::SweepsOver, behind, true) => behind.copy_from_slice(&[FREE, 0, 0][..left]),
+            _ => {}
+        }
+        answer
+    }
+}
+
+impl Interface for Misfitting {
+    fn fresh(&self, words: &mut [u32]) -> Result<(u32, u32), u32> {
+        self.on("fresh", words, |words| PlainRust.fresh(words))
+    }
+    fn copy(&self, words: &mut [u32], r: u32, a: u32) -> Result<(), u32> {
+        self.on("copy", words, |words| PlainRust.copy(words, r, a))
+    }
+    fn clear(&self, words: &mut [u32], r: u32) -> Result<(), u32> {
+        self.on("clear", words, |words| PlainRust.clear(words, r))
+    }
+    fn new_cell(&self, words: &mut [u32], r: u32, a: u32, b: u32, v: u32) -> Result<u32, u32> {
+        self.on("new", words, |words| PlainRust.new_cell(words, r, a, b, v))
+    }
+    fn left(&self, words: &mut [u32], r: u32, a: u32) -> Result<(), u32> {
+        self.on("left", words, |words| PlainRust.left(words, r, a))
+    }
+    fn right(&self, words: &mut [u32], r: u32, a: u32) -> Result<(), u32> {
+        self.on("right", words, |words| PlainRust.right(words, r, a))
+    }
+    fn setleft(&self, words: &mut [u32], a: u32, b: u32) -> Result<(), u32> {
+        self.on("setleft", words, |words| PlainRust.setleft(words, a, b))
+    }
+    fn setright(&self, words: &mut [u32], a: u32, b: u32) -> Result<(), u32> {
+        self.on("setright", words, |words| PlainRust.setright(words, a, b))
+    }
+    fn setvalue(&self, words: &mut [u32], a: u32, v: u32) -> Result<(), u32> {
+        self.on("setvalue", words, |words| PlainRust.setvalue(words, a, v))
+    }
+    fn value(&self, words: &mut [u32], a: u32) -> Result<u32, u32> {
+        self.on("value", words, |words| PlainRust.value(words, a))
+    }
+    fn same(&self, words: &mut [u32], a: u32, b: u32) -> Result<u32, u32> {
+        self.on("same", words, |words| PlainRust.same(words, a, b))
+    }
+    fn collect(&self, words: &mut [u32]) -> Result<(u32, u32), u32> {
+        self.on("collect", words, |words| PlainRust.collect(words))
+    }
+    fn collect_tally(&self, words: &mut [u32], tally: &mut Tally) -> Result<(u32, u32), u32> {
+        self.on("tally", words, |words| PlainRust.collect_tally(words, tally))
+    }
+    fn collect_stack(&self, words: &mut [u32], stack: &mut [u32]) -> Result<(u32, u32, u32), u32> {
+        self.on("stack", words, |words| PlainRust.collect_stack(words, stack))
+    }
+    fn worst_case(&self, words: &mut [u32]) -> Result<u32, u32> {
+        self.on("worst_case", words, |words| PlainRust.worst_case(words))
+    }
+    fn collect_recursive(&self, words: &mut [u32]) -> Result<(u32, u32), u32> {
+        self.on("recursive", words, |words| PlainRust.collect_recursive(words))
+    }
+    fn save(&self, words: &mut [u32], scratch: &mut [u32], out: &mut [u8]) -> Result<usize, u32> {
+        self.on("save", words, |words| PlainRust.save(words, scratch, out))
+    }
+    fn load(&self, words: &mut [u32], bytes: &[u8]) -> (Result<(), u32>, usize) {
+        let mut rest = bytes.len();
+        let answer = self.on("load", words, |words| {
+            let (answer, end) = PlainRust.load(words, bytes);
+            rest = end;
+            answer
+        });
+        (answer, rest)
+    }
+    fn check_image(&self, bytes: &[u8], n: u32) -> Result<(), u32> {
+        PlainRust.check_image(bytes, n)
+    }
+    fn occupancy(&self, kept: u32, n: u32) -> Result<u32, u32> {
+        PlainRust.occupancy(kept, n)
+    }
+}
+
+/// The implementation with this fault.
+fn faulty(fault: Fault) -> Box<dyn Interface> {
+    match fault {
+        Fits(function, fault) => Box::new(Misfitting(function, fault)),
+        _ => Box::new(Faulty(fault)),
+    }
+}
+
 impl Interface for Faulty {
-    fn fresh(&self, words: &mut [u32]) -> Result<u32, u32> {
+    fn fresh(&self, words: &mut [u32]) -> Result<(u32, u32), u32> {
         self.refuses("fresh", words)?;
         let kept = words.get(17).copied();
         let length = self.cut(FreshLengthCut, words.len());
-        let n = PlainRust.fresh(&mut words[..length])?;
+        let (n, e) = PlainRust.fresh(&mut words[..length])?;
         if let (FreshLeavesRegister, Some(kept)) = (self.0, kept) {
             words[17] = kept;
             words[16] = 1;
         }
-        Ok(n)
+        Ok(match self.0 {
+            FreshAnswersRemainder => (n, length as u32 % 4),
+            FreshAnswersNoneLeft => (n, 0),
+            FreshAnswersRoundedUp => (n + e.min(1), e),
+            FreshAnswersExchanged => (e, n),
+            _ => (n, e),
+        })
     }
 
     fn copy(&self, words: &mut [u32], r: u32, a: u32) -> Result<(), u32> {
@@ -890,7 +1159,17 @@ impl Interface for Faulty {
         if self.0 == CopyReadsItsTarget && r < 16 && PlainRust.same(words, r, r) == Err(3) {
             return Err(3);
         }
-        PlainRust.copy(words, r, a)
+        let answer = PlainRust.copy(words, r, a);
+        let past = cells(words) + 1;
+        if self.0 == CopyPastEnd
+            && answer == Err(3)
+            && register(words, a) == past
+            && leftover(words).starts_with(&[USED])
+        {
+            words[2 + r as usize] = past;
+            return Ok(());
+        }
+        answer
     }
 
     fn clear(&self, words: &mut [u32], r: u32) -> Result<(), u32> {
@@ -941,6 +1220,7 @@ impl Interface for Faulty {
                 Err(5)
             }
             (NewReportsNoVisits, Ok(_)) => Ok(0),
+            (NewPastEnd, Err(3)) if words[1] == cells(words) + 1 && leftover(words).starts_with(&[FREE]) => Ok(0),
             _ => answer,
         }
     }
@@ -1161,6 +1441,9 @@ impl Interface for Faulty {
                 PlainRust.save(words, scratch, &mut out[..shorter])
             }
             SaveNeedsOneScratchWordMore if lent.len() == used => PlainRust.save(words, &mut [], out),
+            SaveScratchRoundedUp if lent.len() < used + 2 && !leftover(words).is_empty() => {
+                PlainRust.save(words, &mut [], out)
+            }
             SaveRefusesOneScratchLength if lent.len() == 3_001 => PlainRust.save(words, &mut [], out),
             SaveRefusesOneOutputLength if out.len() == 12_345 => PlainRust.save(words, scratch, &mut []),
             _ => {
@@ -1173,6 +1456,11 @@ impl Interface for Faulty {
             (SaveConstant, Ok(_)) => {
                 out[..17].fill(0);
                 return Ok(17);
+            }
+            (SaveCountsLeftover, Ok(_)) => out[0] = out[0].wrapping_add(leftover(words).len() as u8),
+            (SaveWritesLeftover, Ok(bytes)) if out.len() > bytes && !leftover(words).is_empty() => {
+                out[bytes] = leftover(words).len() as u8;
+                return Ok(bytes + 1);
             }
             (SaveLeavesScratch, Ok(_)) => scratch[used..].copy_from_slice(&lent[used..]),
             (SaveLeavesFarScratch, Ok(_)) if lent.len() > used + 1_000 => {
@@ -1250,23 +1538,37 @@ fn no_difference_is_found_without_a_fault() {
             assert_eq!(fewer.on(&Faulty(Correct)), Ok(()));
         }
     }
+    // Up to three words left over are right: so it is not where lengths are looked at that a difference comes from.
+    let lengths = Comparison { rounds: checks::LEFTOVERS.rounds / 10, ..checks::LEFTOVERS };
+    for name in FUNCTIONS {
+        assert_eq!(lengths.on(&Faulty(Fits(name, Misfit::UpTo(3)))), Ok(()), "{name}");
+    }
 }
 
 #[test]
 fn every_fault_is_found() {
     for (comparison, faults) in FOUND_BY {
         for &fault in faults {
-            assert!(comparison.on(&Faulty(fault)).is_err(), "{fault:?} is not found");
+            let found = comparison.on(faulty(fault).as_ref());
+            assert!(found.is_err(), "{fault:?} is not found by comparison {}", comparison.stream);
         }
     }
 }
 
 #[test]
 fn the_reference_model_finds_the_faults_that_answers_show() {
-    let (_, shown) = FOUND_BY[0];
+    let is_reference = |comparison: &Comparison| comparison.stream == checks::REFERENCE.stream;
+    let (mut shown, mut tried) = (Vec::new(), Vec::new());
+    for (_, faults) in FOUND_BY.iter().filter(|(comparison, _)| is_reference(comparison)) {
+        shown.extend(*faults);
+    }
     for fault in FOUND_BY.iter().flat_map(|(_, faults)| *faults) {
-        let found = checks::against_reference(&Faulty(*fault), &mut Random::new(42), 300).is_err();
+        if tried.contains(fault) {
+            continue;
+        }
+        let found = checks::against_reference(faulty(*fault).as_ref(), &mut Random::new(42), 300).is_err();
         assert_eq!(found, shown.contains(fault), "{fault:?}");
+        tried.push(*fault);
     }
 }
 
@@ -1303,7 +1605,8 @@ mod in_c {
 
     /// The builder of the worst case: how it begins, how it writes N and nils, and its links as they are and exchanged.
     const BUILDER: &str = "uint32_t *entries) {\n    uint32_t n = cells_of(len);";
-    const CLEARED: &str = "memset(words, 0, len * sizeof *words);\n    words[0] = n;\n    REGISTER(0) = 1;";
+    const CLEARED: &str =
+        "memset(words, 0, CELLPOOL_WORDS(n) * sizeof *words);\n    words[0] = n;\n    REGISTER(0) = 1;";
     const LINKS: &str = "[LEFT] = i + 2 <= n ? i + 2 : 0;\n        cell(words, i)[RIGHT] =";
     const LINKS_EXCHANGED: &str = "[RIGHT] = i + 2 <= n ? i + 2 : 0;\n        cell(words, i)[LEFT] =";
 
@@ -1358,8 +1661,28 @@ mod in_c {
                                  stack[i] = stack[kept - 1 - i];\nstack[kept - 1 - i] = other;\n}";
     const CLEARED_MARK: &str = "if (cell(words, i)[STATE] == MARKED) cell(words, i)[STATE] = USED;";
 
+    /// The fewest words: as it was before 02, S-6, and with 21 accepted. N, and with the words left over taken for a cell. What
+    /// fresh clears, and with the words left over; the same of the builder, and where load ends. The sweep; the test of the pool,
+    /// and one that looks behind the last cell; the number of words left over.
+    const FEWEST: &str = "if (len < HEADER + CELL) return 0;";
+    const BEFORE: &str = "if (len < HEADER + CELL || (len - HEADER) % CELL != 0) return 0;";
+    const SHORTER: &str = "if (len == 21) return 1;\nif (len < HEADER + CELL) return 0;";
+    const ROOM: &str = "size_t n = (len - HEADER) / CELL;";
+    const ROUNDED_UP: &str = "size_t n = (len - HEADER + CELL - 1) / CELL;";
+    const FRESH: &str = "memset(words, 0, CELLPOOL_WORDS(n) * sizeof *words);\n    words[0] = n;\n    for";
+    const FRESH_OVER: &str = "memset(words, 0, len * sizeof *words);\nwords[0] = n;\nfor";
+    const CLEARED_OVER: &str = "memset(words, 0, len * sizeof *words);\nwords[0] = n;\nREGISTER(0) = 1;";
+    const LOADED: &str = "    sweep(words, n);\n    return CELLPOOL_OK;";
+    const LOADED_OVER: &str =
+        "for (size_t i = CELLPOOL_WORDS(n); i < len; i++) words[i] = 0;\nsweep(words, n);\nreturn CELLPOOL_OK;";
+    const SWEEP: &str = "for (uint32_t i = n; i >= 1; i--) {";
+    const TEST: &str =
+        "i <= n; i++) {\n        const uint32_t *at = cell_in(words, i);\n        if (at[STATE] == USED) {";
+    const TEST_OVER: &str = "i <= n + 1; i++) {\nconst uint32_t *at = cell_in(words, i);\nif (at[STATE] == USED) {";
+    const LEFT_OVER: &str = "*leftover = (uint32_t)len - CELLPOOL_WORDS(n);";
+
     /// What finds the fault, the text, and what stands in its place.
-    const CHANGES: [(&str, &str, &str); 111] = [
+    const CHANGES: [(&str, &str, &str); 132] = [
         // Lengths cut to 32 or 16 bits.
         ("lengths", "cells_of(size_t len)", "cells_of(uint32_t len)"),
         ("lengths", "size_of(const uint32_t *words, size_t len)", "size_of(const uint32_t *words, uint32_t len)"),
@@ -1374,6 +1697,18 @@ mod in_c {
         ("lengths", "*rest = bytes_len;", "*rest = (uint32_t)bytes_len;"),
         ("lengths", "uint32_t *entries) {", "uint32_t *entries) {\nlen = (uint32_t)len;"),
         ("lengths", "uint32_t *entries) {", "uint32_t *entries) {\nlen = (uint16_t)len;"),
+        // Lengths as before; N rounded up; 21 accepted; 16,022 accepted.
+        ("lengths", FEWEST, BEFORE),
+        ("lengths", ROOM, ROUNDED_UP),
+        ("lengths", FEWEST, SHORTER),
+        ("lengths", "n <= CELLPOOL_MOST_CELLS ?", "n <= CELLPOOL_MOST_CELLS + 1 ?"),
+        // Words left over that are touched: by fresh, the builder and load; by the sweep and by the test of the pool; by every call.
+        ("lengths", FRESH, FRESH_OVER),
+        ("lengths", CLEARED, CLEARED_OVER),
+        ("lengths", LOADED, LOADED_OVER),
+        ("lengths", SWEEP, "words[HEADER + CELL * n] |= 0;\nfor (uint32_t i = n; i >= 1; i--) {"),
+        ("lengths", TEST, TEST_OVER),
+        ("lengths", "return n != 0 && words[0] == n ?", "return n != 0 && words[0] == n && words[len - 1] != 0x12345678 ?"),
         // A length accepted for the worst case that has a cell too few or too many.
         ("lengths", "uint32_t *entries) {", "uint32_t *entries) {\nif (len == 18) return 0;"),
         ("lengths", "uint32_t *entries) {", "uint32_t *entries) {\nif (len == 16022) return 0;"),
@@ -1387,7 +1722,8 @@ mod in_c {
         // A check that looks at the word behind the stack.
         ("lengths", "size_t kept = 0;", "size_t kept = 0 * *(volatile uint32_t *)(stack + height);"),
         // Results of refused calls touched.
-        ("results", "uint32_t *cells) {", "uint32_t *cells) {\n*cells += 0;"),
+        ("results", "uint32_t *leftover) {", "uint32_t *leftover) {\n*cells += 0;"),
+        ("results", "uint32_t *leftover) {", "uint32_t *leftover) {\n*leftover += 0;"),
         ("results", "uint32_t v, uint32_t *visits) {", "uint32_t v, uint32_t *visits) {\n*visits += 0;"),
         ("results", "uint32_t *value) {", "uint32_t *value) {\n*value += 0;"),
         ("results", "uint32_t *same) {", "uint32_t *same) {\n*same += 0;"),
@@ -1413,6 +1749,10 @@ mod in_c {
         ("fuzz", "(height == stack_len) return 0;", "(height == stack_len) return stack_len == 3;"),
         ("fuzz", "byte > 0x0F", "byte > 0x1F"),
         ("fuzz", "link > k ?", "link > k + 1 ?"),
+        // N rounded up; a sweep and a test of the pool that run over the end. More of lengths and the words left over below.
+        ("fuzz", ROOM, ROUNDED_UP),
+        ("fuzz", SWEEP, "for (uint32_t i = n + 1; i >= 1; i--) {"),
+        ("fuzz", TEST, TEST_OVER),
         // Visits: left cells not gone to; right ones; links exchanged on the way back; a visit not counted.
         ("fuzz", "unmarked(words, hand.l) ? FOLLOW_LEFT : PASS_LEFT", "PASS_LEFT"),
         ("fuzz", "unmarked(words, hand.l) ? FOLLOW_RIGHT : PASS_RIGHT", "PASS_RIGHT"),
@@ -1464,10 +1804,18 @@ mod in_c {
         ("fuzz", LINKS, LINKS_EXCHANGED),
         ("fuzz", "i + 2 <= n ? i + 2 : 0", "i + 2"),
         ("fuzz", "i < n; i += 2", "i <= n; i += 2"),
-        ("fuzz", CLEARED, "uint32_t kept = words[0];\nmemset(words, 0, len * 4);\nwords[0] = kept;\nREGISTER(0) = 1;"),
-        ("fuzz", CLEARED, "memset(words + 2, 0, len * 4 - 8);\nwords[0] = n;\nREGISTER(0) = 1;"),
-        ("fuzz", CLEARED, "words[1] = 0;\nmemset(words + 4, 0, len * 4 - 16);\nwords[0] = n;\nREGISTER(0) = 1;"),
-        ("fuzz", CLEARED, "memset(words, 0, len * 4 - 4);\nwords[0] = n;\nREGISTER(0) = 1;"),
+        (
+            "fuzz",
+            CLEARED,
+            "uint32_t kept = words[0];\nmemset(words, 0, CELLPOOL_WORDS(n) * 4);\nwords[0] = kept;\nREGISTER(0) = 1;",
+        ),
+        ("fuzz", CLEARED, "memset(words + 2, 0, CELLPOOL_WORDS(n) * 4 - 8);\nwords[0] = n;\nREGISTER(0) = 1;"),
+        (
+            "fuzz",
+            CLEARED,
+            "words[1] = 0;\nmemset(words + 4, 0, CELLPOOL_WORDS(n) * 4 - 16);\nwords[0] = n;\nREGISTER(0) = 1;",
+        ),
+        ("fuzz", CLEARED, "memset(words, 0, CELLPOOL_WORDS(n) * 4 - 4);\nwords[0] = n;\nREGISTER(0) = 1;"),
         ("fuzz", "*entries = (n - 1) / 2;", "*entries = n / 2;"),
         ("fuzz", BUILDER, "uint32_t *entries) {\nuint32_t n = size_of(words, len);"),
         ("fuzz", BUILDER, "uint32_t *entries) {\nuint32_t n = cells_of(len);\nif (n == 0 && len > 0) words[0] = 0;"),
@@ -1485,6 +1833,13 @@ mod in_c {
         ),
         ("fuzz", "if (place == 4 &&", "if (place == 4 && (byte & 0x7F) == 0) return 12;\nif (place == 4 &&"),
         // The same in the plain C version that the fuzz target compares with: what it demands of the library alone finds it.
+        ("fuzz both", FEWEST, BEFORE),
+        ("fuzz both", FEWEST, SHORTER),
+        ("fuzz both", "n <= CELLPOOL_MOST_CELLS ?", "n <= CELLPOOL_MOST_CELLS + 1 ?"),
+        ("fuzz both", FRESH, FRESH_OVER),
+        ("fuzz both", CLEARED, CLEARED_OVER),
+        ("fuzz both", LOADED, LOADED_OVER),
+        ("fuzz both", LEFT_OVER, "*leftover = (uint32_t)len % CELL;"),
         ("fuzz both", "place > 0 && byte == 0 ?", "0 ?"),
         ("fuzz both", "place > 0 && byte == 0 ?", "place == 1 && byte == 0 ?"),
         ("fuzz both", "place > 0 && byte == 0 ?", "place > 0 && place < 4 && byte == 0 ?"),

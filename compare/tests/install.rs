@@ -301,7 +301,7 @@ fn installed_into_an_empty_folder_the_examples_build_and_run() {
     let flags = flags(&prefix);
     let folder = prefix.join("share/doc/cellpool/examples");
     let survey = fs::read(folder.join("survey.txt")).expect("the script is there");
-    let image = Pool::decode(&script::run(&PlainRust, &survey).1).expect("the script makes a pool").image();
+    let image = Pool::decode(&script::run(&PlainRust, &survey, &[]).1).expect("the script makes a pool").image();
     let mut built = 0;
     for compiler in compilers() {
         for standard in compiler.2 {

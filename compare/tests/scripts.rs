@@ -3,10 +3,14 @@
 //! The programs are run with the feature `archive`: the one in C where there is a C compiler, the proved one where it is
 //! built (`rt check runscript`).
 
+mod common;
+
 use cellpool_compare::generate;
+use cellpool_compare::guard::Guarded;
 use cellpool_compare::model::Model;
-use cellpool_compare::random::{seed, Random};
-use cellpool_compare::script::replies;
+use cellpool_compare::random::{rounds, seed, Random};
+use cellpool_compare::script::{replies, run};
+use common::implementations;
 use std::collections::BTreeMap;
 
 fn random(stream: u64) -> Random {
@@ -120,11 +124,30 @@ fn random_scripts_reach_every_reply() {
     assert!(found.values().all(|&count| count >= 20), "{found:?}");
 }
 
+/// On pools with words left over the replies are the same as without, and these words stay.
+#[test]
+fn words_left_over_make_no_difference() {
+    let mut random = random(4);
+    let scripts = by_hand().into_iter().map(|(script, _)| script);
+    let more: Vec<Vec<u8>> = (0..rounds(200)).map(|_| generate::script(&mut random, 60)).collect();
+    let mut pools = [0; 4];
+    for script in scripts.chain(more) {
+        let expected = replies(&Model, &script);
+        for leftover in [&[][..], &[7], &[0, 1], &[4, 0, 9]] {
+            let pool = Guarded::new(implementations());
+            let (found, words) = run(&pool, &script, leftover);
+            assert_eq!((&found, pool.odd()), (&expected, None), "{leftover:?}: {}", script.escape_ascii());
+            assert!(words.is_empty() || words.ends_with(leftover), "{}", script.escape_ascii());
+            pools[leftover.len()] += usize::from(words.len() % 4 == (18 + leftover.len()) % 4 && !words.is_empty());
+        }
+    }
+    assert!(pools.iter().all(|&count| count > 100), "{pools:?}");
+}
+
 #[cfg(feature = "archive")]
 mod programs {
     use super::*;
     use cellpool_compare::baseline::PlainRust;
-    use cellpool_compare::random::rounds;
     use cellpool_compare::script::program;
     use std::fs::File;
     use std::io::{Read, Write};
@@ -143,7 +166,7 @@ mod programs {
     }
 
     /// Run on a script that stands in a file of its own; answers what the program printed.
-    fn run(program: &Path, file: &str, script: &[u8]) -> String {
+    fn printed(program: &Path, file: &str, script: &[u8]) -> String {
         let path = Path::new(env!("CARGO_TARGET_TMPDIR")).join(file);
         std::fs::write(&path, script).expect("the script is written");
         let input = File::open(&path).expect("the script is there");
@@ -155,7 +178,7 @@ mod programs {
     /// The programs print what the model prints; the text names the first line that differs.
     fn compare(file: &str, script: &[u8], expected: &str) {
         for program in programs() {
-            let found = run(&program, file, script);
+            let found = printed(&program, file, script);
             if found != expected {
                 let place = found.lines().zip(expected.lines()).take_while(|(a, b)| a == b).count();
                 let shown = script.split(|&byte| byte == b'\n').nth(place).unwrap_or_default();

@@ -6,9 +6,10 @@ use cellpool_compare::{cell_at, words_for, Interface, FREE, HEADER, MOST_RECURSI
 use std::fmt::Write;
 
 const SEEDS: u32 = 2184;
-/// Counters of the numbers for a word of the pool, and of those for the damage.
+/// Counters of the numbers for a word of the pool, of those for the damage, and of the one for the words behind the cells.
 const WORDS: u32 = 4096;
 const DAMAGE: u32 = 9000;
+const LEFTOVER: u32 = 9002;
 
 fn mix(x: u32) -> u32 {
     let y = x.wrapping_mul(0x9E37_79B9);
@@ -77,8 +78,13 @@ impl Generator {
         self.valid(link)
     }
 
+    /// The number of words behind the cells.
+    fn leftover(&self) -> u32 {
+        draw(self.seed, LEFTOVER) % 4
+    }
+
     fn well_formed(&self) -> Vec<u32> {
-        let len = words_for(self.n as usize);
+        let len = words_for(self.n as usize) + self.leftover() as usize;
         let random: Vec<u32> = (0..len as u32).map(|k| draw(self.seed, WORDS + k)).collect();
         let mut words = vec![self.n, random[1]];
         words.extend(random[2..HEADER].iter().map(|&x| self.register(x)));
@@ -91,6 +97,7 @@ impl Generator {
                 words.extend([FREE, left, right, value]);
             }
         }
+        words.extend(&random[words.len()..]);
         words
     }
 
@@ -127,7 +134,7 @@ fn answers(words: &[u32], n: usize) -> [Result<(u32, u32, u32), u32>; 5] {
 
 #[test]
 fn the_program_prints_the_totals_of_the_model() {
-    let (mut pools, mut cells, mut kept_cells) = (0, 0, 0);
+    let (mut pools, mut cells, mut kept_cells, mut leftover) = (0, 0, 0, 0);
     let (mut sums, mut checks) = ([0; 5], [0; 5]);
     for seed in 0..SEEDS {
         let generator = Generator::new(seed);
@@ -137,6 +144,7 @@ fn the_program_prints_the_totals_of_the_model() {
         assert!(pool.well_formed(), "seed {seed}");
         pools += 1;
         cells += generator.n;
+        leftover += generator.leftover();
         kept_cells += pool.reached().len() as u32;
         for (marker, answer) in answers(&words, n).into_iter().enumerate() {
             match answer {
@@ -163,6 +171,7 @@ fn the_program_prints_the_totals_of_the_model() {
     for (name, made) in ["no words", "one word", "N words"].iter().zip(&checks[2..]) {
         writeln!(text, "checks with {name}: {made}").expect("a string takes it");
     }
+    writeln!(text, "words behind the cells: {}", 2 * leftover).expect("a string takes it");
     let path = concat!(env!("CARGO_MANIFEST_DIR"), "/../crates/trials/stdout");
     assert_eq!(text, std::fs::read_to_string(path).expect("the program's output"));
 }

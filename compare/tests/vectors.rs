@@ -26,7 +26,7 @@ fn pool_words(head: u32, registers: &[u32], cells: &[[u32; 4]]) -> Vec<u32> {
 
 fn fresh(pool: &dyn Interface, n: usize) -> Vec<u32> {
     let mut words = vec![9; 18 + 4 * n];
-    assert_eq!(pool.fresh(&mut words), Ok(n as u32));
+    assert_eq!(pool.fresh(&mut words), Ok((n as u32, 0)));
     words
 }
 
@@ -288,14 +288,130 @@ fn fresh_words() {
         assert_eq!(fresh(pool, 1), pool_words(1, &[], &[[4, 0, 0, 0]]));
         assert_eq!(fresh(pool, 3), pool_words(1, &[], &[[4, 2, 0, 0], [4, 3, 0, 0], [4, 0, 0, 0]]));
         assert_eq!(pool.fresh(&mut [9; 18]), Err(1));
-        assert_eq!(pool.fresh(&mut [9; 22]), Ok(1));
-        assert_eq!(pool.fresh(&mut [9; 23]), Err(1));
-        assert_eq!(pool.fresh(&mut vec![9; 16_018]), Ok(4_000));
+        assert_eq!(pool.fresh(&mut [9; 22]), Ok((1, 0)));
+        assert_eq!(pool.fresh(&mut vec![9; 16_018]), Ok((4_000, 0)));
         assert_eq!(pool.fresh(&mut vec![9; 16_022]), Err(1));
         assert_eq!(pool.fresh(&mut []), Err(1));
-        let mut refused = [9; 18];
-        assert_eq!(pool.fresh(&mut refused), Err(1));
-        assert_eq!(refused, [9; 18]);
+    });
+}
+
+/// Lengths, with N and the words left over; none where the length is refused.
+const LENGTHS: [(usize, Option<(u32, u32)>); 16] = [
+    (0, None),
+    (17, None),
+    (18, None),
+    (21, None),
+    (22, Some((1, 0))),
+    (23, Some((1, 1))),
+    (24, Some((1, 2))),
+    (25, Some((1, 3))),
+    (26, Some((2, 0))),
+    (29, Some((2, 3))),
+    (16_017, Some((3_999, 3))),
+    (16_018, Some((4_000, 0))),
+    (16_019, Some((4_000, 1))),
+    (16_021, Some((4_000, 3))),
+    (16_022, None),
+    (16_026, None),
+];
+
+#[test]
+fn lengths_and_words_left_over() {
+    on_all(|pool| {
+        for (length, expected) in LENGTHS {
+            // Words of 9, made a pool by fresh, by load of an image without cells, and by the builder of the worst case.
+            let (mut fresh, mut loaded, mut built) = (vec![9; length], vec![9; length], vec![9; length]);
+            assert_eq!(pool.fresh(&mut fresh), expected.ok_or(1), "{length} words");
+            assert_eq!(pool.load(&mut loaded, &[0; 17]), (expected.map(|_| ()).ok_or(1), 17), "{length} words");
+            assert_eq!(pool.worst_case(&mut built), expected.map(|(n, _)| (n - 1) / 2).ok_or(1), "{length} words");
+            let Some((n, left_over)) = expected else {
+                assert_eq!([fresh, loaded, built], [(); 3].map(|()| vec![9; length]));
+                continue;
+            };
+            // All cells free, the lowest first; the words left over stay.
+            let mut words = vec![n, 1];
+            words.resize(18, 0);
+            words.extend((1..=n).flat_map(|i| [4, if i < n { i + 1 } else { 0 }, 0, 0]));
+            words.resize(length, 9);
+            assert_eq!(fresh, words);
+            assert_eq!(loaded, words);
+            assert_eq!((built[0], built[2]), (n, 1));
+            assert_eq!(built[length - left_over as usize..], vec![9; left_over as usize]);
+            // Every other call asks for word 0 as well: N, and neither of its neighbours.
+            for (first, answer) in [(n, Ok(())), (n - 1, Err(1)), (n + 1, Err(1)), (9, Err(1))] {
+                words[0] = first;
+                assert_eq!(pool.clear(&mut words, 15), answer, "{length} words, word 0 is {first}");
+                assert_eq!(pool.copy(&mut words, 15, 0), answer);
+                assert_eq!(pool.collect(&mut words), answer.map(|()| (0, 0)));
+                assert_eq!(pool.collect_stack(&mut words, &mut []), answer.map(|()| (0, 1, 0)));
+                assert_eq!(pool.save(&mut words, &mut vec![7; 2 * n as usize], &mut [7; 17]), answer.map(|()| 17));
+                assert_eq!(words[1..], fresh[1..]);
+            }
+        }
+    });
+}
+
+#[test]
+fn words_left_over_are_no_cell() {
+    on_all(|pool| {
+        // Two cells, and three words that look like a used cell 3, or like a free one.
+        let cells = [[0, 0, 0, 7], [0, 1, 1, 8]];
+        for behind in [[0, 1, 1], [4, 0, 0], [9, 9, 9]] {
+            let with = |mut words: Vec<u32>| {
+                words.extend(behind);
+                words
+            };
+            let words = with(pool_words(0, &[2], &cells));
+            // A register, a link and the head do not lead to cell 3.
+            let mut lent = words.clone();
+            lent[3] = 3;
+            let before = lent.clone();
+            assert_eq!(pool.copy(&mut lent, 4, 1), Err(3));
+            assert_eq!(pool.value(&mut lent, 1), Err(3));
+            assert_eq!(pool.collect(&mut lent), Err(3));
+            assert_eq!(lent, before);
+            let mut lent = words.clone();
+            lent[23] = 3;
+            assert_eq!(pool.left(&mut lent, 1, 0), Err(3));
+            assert_eq!(pool.collect_stack(&mut lent, &mut [7]), Err(3));
+            assert_eq!(pool.collect_recursive(&mut lent), Err(3));
+            assert_eq!(pool.save(&mut lent, &mut [7; 4], &mut [7; 40]), Err(3));
+            lent[1] = 3;
+            assert_eq!(pool.new_cell(&mut lent, 1, 0, 0, 5), Err(3));
+            // Both cells are reached, and there is no third: full.
+            let mut lent = words.clone();
+            assert_eq!(pool.new_cell(&mut lent, 1, 0, 0, 5), Err(5));
+            assert_eq!(lent, words);
+            assert_eq!(pool.collect(&mut lent), Ok((2, 6)));
+            assert_eq!(pool.collect_stack(&mut lent, &mut [7]), Ok((2, 1, 0)));
+            assert_eq!(pool.collect_recursive(&mut lent), Ok((2, 6)));
+            let mut tally = Tally { collections: 1, visits: 2 };
+            assert_eq!(pool.collect_tally(&mut lent, &mut tally), Ok((2, 6)));
+            assert_eq!(lent, words);
+            // Cell 2 is garbage: it comes back, and the chain ends there.
+            let mut lent = words.clone();
+            assert_eq!(pool.left(&mut lent, 0, 0), Ok(()));
+            assert_eq!(pool.collect(&mut lent), Ok((1, 3)));
+            assert_eq!(lent, with(pool_words(2, &[1], &[[0, 0, 0, 7], [4, 0, 0, 0]])));
+            assert_eq!(pool.new_cell(&mut lent, 1, 0, 0, 5), Ok(0));
+            assert_eq!(lent, with(pool_words(0, &[1, 2], &[[0, 0, 0, 7], [0, 1, 1, 5]])));
+            // Saved with a scratch of four words, as without words left over; loaded, they stay.
+            let (mut lent, mut out) = (words.clone(), [0x55; 24]);
+            assert_eq!(pool.save(&mut lent, &mut [7; 4], &mut out), Ok(23));
+            assert_eq!(out[..23], image(2, &[1], &[2, 2, 8, 0, 0, 7]));
+            assert_eq!((out[23], &lent), (0x55, &words));
+            assert_eq!(pool.load(&mut lent, &out), (Ok(()), 23));
+            assert_eq!(lent, with(pool_words(0, &[1], &[[0, 2, 2, 8], [0, 0, 0, 7]])));
+            // An image of three cells does not fit, though words are left over.
+            let before = lent.clone();
+            assert_eq!(pool.load(&mut lent, &image(3, &[], &[0; 9])), (Err(9), 26));
+            assert_eq!(lent, before);
+        }
+        // 64 cells with three words left over are not too many for the recursive marker.
+        let mut words = vec![9; 18 + 4 * 64 + 3];
+        assert_eq!(pool.fresh(&mut words), Ok((64, 3)));
+        assert_eq!(pool.collect_recursive(&mut words), Ok((0, 0)));
+        assert_eq!(words[18 + 4 * 64..], [9; 3]);
     });
 }
 
@@ -459,7 +575,7 @@ fn the_worst_case_for_the_stack() {
             4_000,
             &[(0, 0, 1), (1, 1, 1_998), (10, 1, 199), (1_998, 1, 1), (1_999, 1, 0)],
         );
-        for length in [0, 1, 17, 18, 19, 21, 23, 16_017, 16_019, 16_022] {
+        for length in [0, 1, 17, 18, 19, 21, 16_022, 16_023] {
             let mut refused = vec![9; length];
             assert_eq!(pool.worst_case(&mut refused), Err(1), "{length} words");
             assert_eq!(refused, vec![9; length]);

@@ -111,7 +111,7 @@ impl Bench {
         Bench { pools, samples }
     }
 
-    /// Without an earlier version of the library, whose collect_stack may have an argument less.
+    /// Without an earlier version of the library, whose fresh and collect_stack may have an argument less.
     fn without_before(&self) -> Bench {
         let pools = self.pools.iter().copied().filter(|(name, _)| *name != "before").collect();
         Bench { pools, samples: self.samples }
@@ -205,13 +205,13 @@ impl Bench {
     fn calls(
         &self,
         count: usize,
-        prepare: impl Fn(&dyn Interface, &mut [u32]),
+        prepare: impl Fn(&mut [u32]),
         call: impl Fn(&dyn Interface, &mut [u32], u32) -> bool,
         words: &mut [u32],
     ) -> Figures {
         let figures = self.measure(|pool, repeats| {
             let once = |_| {
-                prepare(pool, words);
+                prepare(words);
                 let start = now();
                 let done = (0..count as u32).all(|place| call(pool, black_box(words), place));
                 let time = now() - start;
@@ -321,15 +321,15 @@ fn calls(bench: &Bench, random: &mut Random) {
     println!("| call | library, ns |{}", bench.others());
     bench.rule(1, 1);
     let mut words = vec![0; words_for(n)];
-    let fresh = |pool: &dyn Interface, words: &mut [u32]| {
-        pool.fresh(words).expect("the size is right");
+    let fresh = |words: &mut [u32]| {
+        PlainRust.fresh(words).expect("the size is right");
     };
     let figures = bench.calls(n, fresh, |pool, words, v| pool.new_cell(words, 0, 0, 1, v).is_ok(), &mut words);
     println!("| new, a cell is free | {:.1} |{}", figures.library, figures.ratios());
     let figures = bench.calls(8 * n, fresh, |pool, words, v| pool.new_cell(words, 0, 1, 1, v).is_ok(), &mut words);
     println!("| new, its collections shared out, one cell live | {:.1} |{}", figures.library, figures.ratios());
     let chain = Shape::LeftChain.words(n, random);
-    let restart = |_: &dyn Interface, words: &mut [u32]| words.copy_from_slice(&chain);
+    let restart = |words: &mut [u32]| words.copy_from_slice(&chain);
     let figures = bench.calls(n - 1, restart, |pool, words, _| pool.left(words, 0, 0).is_ok(), &mut words);
     println!("| left, down a chain | {:.1} |{}", figures.library, figures.ratios());
     let figures = bench.calls(n, restart, |pool, words, v| pool.setright(words, 0, v & 1).is_ok(), &mut words);
@@ -344,15 +344,16 @@ fn build(bench: &Bench, _: &mut Random) {
     println!("| pool | library, µs |{}", bench.others());
     bench.rule(1, 1);
     type Builder = fn(&dyn Interface, &mut [u32]) -> Result<u32, u32>;
-    let builders: [(&str, Builder, usize); 2] = [
-        ("fresh", |pool, words| pool.fresh(words), n),
-        ("worst case for the stack", |pool, words| pool.worst_case(words), (n - 1) / 2),
+    let builders: [(&str, Builder, usize, &Bench); 2] = [
+        ("fresh", |pool, words| pool.fresh(words).map(|(cells, _)| cells), n, &bench.without_before()),
+        ("worst case for the stack", |pool, words| pool.worst_case(words), (n - 1) / 2, bench),
     ];
-    for (name, builder, number) in builders {
-        let figures = bench.repeat(&mut [vec![0; words_for(n)]], |pool, words| {
+    for (name, builder, number, of) in builders {
+        let figures = of.repeat(&mut [vec![0; words_for(n)]], |pool, words| {
             assert_eq!(builder(pool, black_box(words)), Ok(number as u32));
         });
-        println!("| {name} | {:.1} |{}", figures.library / 1e3, figures.ratios());
+        let left_out = " |".repeat(bench.pools.len() - of.pools.len());
+        println!("| {name} | {:.1} |{}{left_out}", figures.library / 1e3, figures.ratios());
     }
 }
 

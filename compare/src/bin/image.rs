@@ -9,7 +9,7 @@ use std::io::{self, Read, Write};
 fn main() -> io::Result<()> {
     let mut text = Vec::new();
     io::stdin().read_to_end(&mut text)?;
-    let (_, words) = script::run(&PlainRust, &text);
+    let (_, words) = script::run(&PlainRust, &text, &[]);
     let Ok(pool) = Pool::decode(&words) else {
         return Err(io::Error::new(io::ErrorKind::InvalidInput, "the script makes no pool"));
     };

@@ -52,11 +52,12 @@ fn store_two(answer: Answer, first: &mut u32, second: &mut u32) -> u32
     }
 }
 
+// The number of cells, and of the words left over behind them.
 #[no_mangle]
-pub extern "C" fn cellpool_fresh(words: &mut [u32], cells: &mut u32) -> u32
-    ensures { λ q. ⌜ (q, now (words .exit), now (cells .exit)) ≡ giving (freshOf (now (words .entry))) (now (cells .entry)) ⌝ }
+pub extern "C" fn cellpool_fresh(words: &mut [u32], cells: &mut u32, leftover: &mut u32) -> u32
+    ensures { λ q. ⌜ (q, now (words .exit), now (cells .exit), now (leftover .exit)) ≡ givingTwo (freshOf (now (words .entry))) (now (cells .entry)) (now (leftover .entry)) ⌝ }
 {
-    store(Pool::fresh(words), cells)
+    store_two(Pool::fresh(words), cells, leftover)
 }
 
 #[no_mangle]

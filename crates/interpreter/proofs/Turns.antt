@@ -1,7 +1,7 @@
 -- What a line does to the words lent, from what the calls on the pool's part of them say.
 use Prim.Native.Nat.{ℕ, _≤_}
 use mathlib.Core.Path.{_≡_, refl, sym, _∙_, ap}
-use mathlib.Core.List.{List, [], _∷_, _++_}
+use mathlib.Core.List.{List, [], _++_}
 use mathlib.Core.Bool.{Bool, true, false, cond, _&&_}
 use native.Mathlib.Omega.{arith}
 use lib.ListN.{length, take, drop, take-append-drop}
@@ -12,7 +12,7 @@ use Rattle.pool.specs.Layout.{cellLimit, registerCount, poolLength, cellCountOf
 use Rattle.answers.specs.Outcome.{Outcome, answered, refused}
 use Rattle.pool.specs.Fresh.{freshOf}
 use Rattle.pool.specs.Retain.{freshWords}
-use Rattle.pool.proofs.Sizes.{both, sized-length}
+use Rattle.pool.proofs.Sizes.{both, of-length}
 use Rattle.pool.proofs.FreshPool.{fresh-exact}
 use Rattle.calls.specs.declared.Call.{Call}
 use Rattle.calls.specs.Calls.{callOf}
@@ -105,9 +105,10 @@ module _ (w : List ℕ) (used n size : ℕ) (sized : size ≡ sizeOf (length w) 
   part-long : length (take size w) ≡ poolLength registerCount n
   part-long = length-take-le size w (omega (arith, size-exact, size-fitting)) ∙ size-exact
 
-  fresh-part : freshOf (take size w) ≡ (answered (n ∷ []), freshWords registerCount n [])
+  fresh-part : freshOf (take size w) .1 ≡ freshWords registerCount n []
   fresh-part =
-      let cells : cellCountOfLength registerCount (length (take size w)) ≡ n = ap (cellCountOfLength registerCount) part-long ∙ sized-length registerCount n (size-fitting .least) (size-fitting .most) in
+      let cells : cellCountOfLength registerCount (length (take size w)) ≡ n =
+      of-length {R = registerCount} {e = 0} (record { least = size-fitting .least; most = size-fitting .most; few = omega arith; sum = omega (arith, part-long) }) in
       simp (cells, lt-ltb 0 n (size-fitting .least), fresh-exact registerCount n (take size w) part-long)
 
   pub fresh-made :
@@ -115,7 +116,7 @@ module _ (w : List ℕ) (used n size : ℕ) (sized : size ≡ sizeOf (length w) 
       → length part ≡ length (take size w) → (outcomeText (answered []), size, part ++ drop size w) ≡ executeOf (line.Fresh n) used w
   unfolding executeOf
   fresh-made f part after same =
-      let words : part ≡ freshWords registerCount n [] = ap (λ (o : Outcome × List ℕ). o .1) (after ∙ fresh-part) in
+      let words : part ≡ freshWords registerCount n [] = ap (λ (o : Outcome × List ℕ). o .1) after ∙ fresh-part in
       let long : length part ≡ size = same ∙ part-long ∙ sym size-exact in
       simp (fitting-fits (length w) n size-fitting, ← words, long)
 

@@ -24,8 +24,8 @@ abbrev pub sizeOf : ℕ → ℕ → ℕ
 sizeOf room n = cond (fits room n) (poolLength registerCount n) 0
 
 -- What a line prints, and the pool's words afterwards, where `room` words are lent for it; no words are no pool. "A line of another form prints
--- "bad"." "f N is fresh"; "a refused f keeps the pool". A call prints what its answer says. "Before an accepted f, all calls give "no 1"": no pool has
--- no words (question 1).
+-- "bad"." "f N is fresh"; "a refused f keeps the pool"; "runscript still prints ok alone for f" (02, S-6). A call prints what its answer says.
+-- "Before an accepted f, all calls give "no 1"": no pool has no words (question 1).
 abbrev pub turnOf : ℕ → Line → List ℕ → List ℕ × List ℕ
 turnOf room line.Bad pool = (replyText reply.Bad, pool)
 turnOf room (line.Fresh n) pool =

@@ -49,7 +49,7 @@ module _ {N : ℕ} {w : List ℕ} (inv : Invariant N w) where
   full-only r a b v (NewCase.full all e) = rw e (record { full = (λ q. full-reached all, λ q. refl); only = λ k q. cc })
 
 pub refused-when-full : RefusedWhenFull
-refused-when-full N lent calls r a b v low high exact there =
-    let inv = calls-inv calls (fresh-inv N lent low high exact) in
+refused-when-full N e lent calls r a b v fits there =
+    let inv = calls-inv calls (fresh-inv N e lent fits) in
     let named = registers-there (registersOf (call.New r a b v)) there in
     rw (called (inv .pool) (call.New r a b v), there) (full-only inv r a b v (new-case inv r a b v (named .second) (named .third)))

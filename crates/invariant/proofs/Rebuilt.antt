@@ -1,13 +1,14 @@
 -- The invariant holds of the pools that are rebuilt whole: fresh words, and a collected pool.
 use Prim.Native.Nat.{ℕ, _≤_}
 use native.Mathlib.Omega.{arith}
-use mathlib.Core.Path.{_≡_, _∙_}
+use mathlib.Core.Path.{_∙_}
 use mathlib.Core.List.{List}
 use mathlib.Core.Bool.{false}
 use lib.ListN.{length}
-use Rattle.pool.specs.Layout.{registerCount, cellLimit, poolLength}
+use Rattle.pool.specs.Layout.{registerCount, poolLength}
+use Rattle.pool.specs.Lengths.{LengthOf}
 use Rattle.pool.specs.Retain.{blankWords, freshWords}
-use Rattle.pool.proofs.Sizes.{cells-sized}
+use Rattle.pool.proofs.Sizes.{sized, cells-sized}
 use Rattle.pool.proofs.Retained.{length-retain, retain-count}
 use Rattle.questions.proofs.WellFormed.{well-formed-read}
 use Rattle.pool.proofs.FreshPool.{blank-length}
@@ -19,14 +20,14 @@ use Rattle.invariant.proofs.FreeList.{retained-exact}
 use Rattle.invariant.proofs.Standing.{standing-room}
 use Rattle.invariant.proofs.Invariant.{Invariant}
 
-module _ (N : ℕ) (lent : List ℕ) (low : 1 ≤ N) (high : N ≤ cellLimit) (exact : length lent ≡ poolLength registerCount N) where
+module _ (N e : ℕ) (lent : List ℕ) (fits : LengthOf registerCount N e (length lent)) where
   pub blank-room : poolLength registerCount N ≤ length (blankWords registerCount N lent)
-  blank-room = omega (arith, blank-length registerCount N lent (omega arith))
+  blank-room = let room = sized fits .room in omega (arith, blank-length registerCount N lent room)
 
   pub fresh-inv : Invariant N (freshWords registerCount N lent)
   fresh-inv =
-      let facts = fresh-is-well-formed N lent low high exact in
-      let counted = rw (facts .0) at (cells-sized registerCount (freshWords registerCount N lent) (omega (arith, facts .0))) in
+      let facts = fresh-is-well-formed N e lent fits in
+      let counted = rw (facts .0) at (cells-sized registerCount (freshWords registerCount N lent) (omega (arith, fits .least, facts .0))) in
       record {
         pool =
             record {
@@ -34,7 +35,7 @@ module _ (N : ℕ) (lent : List ℕ) (low : 1 ≤ N) (high : N ≤ cellLimit) (e
               counted = counted .1;
               well = well-formed-read registerCount N (freshWords registerCount N lent) (facts .1);
             };
-        free = retained-exact N (λ i. false) (blankWords registerCount N lent) low blank-room;
+        free = retained-exact N (λ i. false) (blankWords registerCount N lent) (fits .least) blank-room;
       }
 
 pub collected-inv : {N : ℕ} {w : List ℕ} → Invariant N w → Invariant N (collected registerCount N w)

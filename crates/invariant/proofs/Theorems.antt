@@ -20,6 +20,6 @@ calls-inv [] inv = inv
 calls-inv (c ∷ cs) inv = calls-inv cs (call-inv inv c)
 
 pub reached-pools : ReachedPools
-reached-pools N lent calls low high exact =
-    let inv = calls-inv calls (fresh-inv N lent low high exact) in
+reached-pools N e lent calls fits =
+    let inv = calls-inv calls (fresh-inv N e lent fits) in
     (standing-cells (inv .pool), well-formed-made registerCount N (afterAll calls (freshWords registerCount N lent)) (inv .pool .well), exact-free-list (inv .free))

@@ -6,7 +6,8 @@ use mathlib.Core.List.{List}
 use mathlib.Core.Bool.{true}
 use lib.ListN.{length}
 use Rattle.answers.specs.Outcome.{Outcome, refused}
-use Rattle.pool.specs.Layout.{registerCount, cellLimit, poolLength}
+use Rattle.pool.specs.Layout.{registerCount}
+use Rattle.pool.specs.Lengths.{LengthOf}
 use Rattle.pool.specs.Retain.{freshWords}
 use Rattle.questions.specs.Questions.{areRegisters}
 use Rattle.collector.specs.CollectTheorem.{Reached}
@@ -27,7 +28,7 @@ pub record FullOnly (n : ℕ) (w : List ℕ) (said : Outcome) : Type 0 where
 -- So does every "new" with valid registers, on every pool that a list of calls leads to from fresh words.
 abbrev pub RefusedWhenFull : Type 0
 RefusedWhenFull =
-    (N : ℕ) (lent : List ℕ) (calls : List Call) (r a b v : ℕ) → 1 ≤ N → N ≤ cellLimit → length lent ≡ poolLength registerCount N
+    (N e : ℕ) (lent : List ℕ) (calls : List Call) (r a b v : ℕ) → LengthOf registerCount N e (length lent)
     → areRegisters (registersOf (call.New r a b v)) ≡ true
     → let w = afterAll calls (freshWords registerCount N lent) in
     FullOnly N w (callOf (call.New r a b v) w .0)

@@ -5,7 +5,8 @@ use mathlib.Core.List.{List, List·Memᴰ}
 use mathlib.Core.Bool.{true}
 use lib.ListN.{length}
 use Rattle.graph.specs.Theorems.{Distinct}
-use Rattle.pool.specs.Layout.{registerCount, cellLimit, poolLength, cellCount, state}
+use Rattle.pool.specs.Layout.{registerCount, cellCount, state}
+use Rattle.pool.specs.Lengths.{LengthOf}
 use Rattle.pool.specs.States.{isFree}
 use Rattle.questions.specs.Validity.{wellFormed}
 use Rattle.pool.specs.Retain.{freshWords, freeList}
@@ -18,10 +19,11 @@ pub record ExactFreeList (n : ℕ) (w : List ℕ) : Type 0 where
   pub free : (i : ℕ) → List·Memᴰ i (freeList registerCount n w) → (0 < i) × (i ≤ n) × (isFree (state registerCount w i) ≡ true)
   pub all : (i : ℕ) → 0 < i → i ≤ n → isFree (state registerCount w i) ≡ true → List·Memᴰ i (freeList registerCount n w)
 
--- Every pool that calls lead to from fresh words is a pool of N cells, well-formed, and its free list has every free cell once.
+-- Every pool that calls lead to from fresh words, whatever e words stand behind its cells, is a pool of N cells, well-formed, and its free list has every
+-- free cell once.
 abbrev pub ReachedPools : Type 0
 ReachedPools =
-    (N : ℕ) (lent : List ℕ) (calls : List Call) → 1 ≤ N → N ≤ cellLimit → length lent ≡ poolLength registerCount N
+    (N e : ℕ) (lent : List ℕ) (calls : List Call) → LengthOf registerCount N e (length lent)
     → (cellCount registerCount (afterAll calls (freshWords registerCount N lent)) ≡ N)
     × (wellFormed registerCount N (afterAll calls (freshWords registerCount N lent)) ≡ true)
     × ExactFreeList N (afterAll calls (freshWords registerCount N lent))

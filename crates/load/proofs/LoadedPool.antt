@@ -10,6 +10,7 @@ use Rattle.pool.specs.Layout.{poolLength, cellCountOfLength, cellCount, count, 
 use Rattle.pool.specs.Retain.{freeList, freeCells, blankWords}
 use Rattle.pool.proofs.Sizes.{same-count}
 use Rattle.pool.proofs.Retained.{length-retain, retain-count, retain-register}
+use Rattle.pool.proofs.Leftover.{SameBehind, behind-then, behind-retain}
 use Rattle.questions.proofs.RetainedPool.{Kept, retained-well-formed}
 use Rattle.pool.proofs.RetainedPool.{retained-same, retained-free-list}
 use Rattle.questions.proofs.WellFormed.{WellFormed}
@@ -33,6 +34,9 @@ module _ (R m : ℕ) (i : Image) (few : length (i .cells) ≤ m) (all : length (
 
   room : poolLength R m ≤ length held
   room = omega (arith, holds .len)
+
+  pub loaded-behind : SameBehind R m w (loadedWords R m i w)
+  loaded-behind = behind-then R m (record { len = holds .len; words = holds .behind }) (behind-retain R m held room (λ j. leb j K))
 
   pub loaded-register : (k : ℕ) → k < R → register (loadedWords R m i w) k ≡ getD (i .registers) k 0
   loaded-register k low = retain-register R m (λ j. leb j K) held room k low ∙ holds .registers k low

@@ -6,7 +6,7 @@ use mathlib.Core.Path.{_≡_, refl, sym, ap, subst, _∙_}
 use mathlib.Core.List.{List, _++_}
 use mathlib.Core.Bool.{Bool, true, false, cond}
 use lib.ListN.{length, getD, take, drop, set, replicate, length-set, length-append, length-drop, length-replicate}
-use lib.Seq.{take-all, getD-set-same, getD-set-other, getD-append-add, getD-drop}
+use lib.Seq.{take-all, getD-set-same, getD-set-other}
 use lib.Dec.{leb, ltb}
 use borrow.Author.Tests.{lt-ltb, leb-true}
 use Rattle.leb128.specs.Leb128.{Bytes}
@@ -17,6 +17,7 @@ use Rattle.answers.specs.declared.Refusal.{Refusal}
 use Rattle.pool.proofs.Sizes.{counted-sized}
 use Rattle.pool.proofs.Retained.{Elsewhere, retain-cong}
 use Rattle.pool.proofs.FreshPool.{blank-length}
+use Rattle.pool.proofs.Leftover.{behind-blank}
 use Rattle.image.specs.declared.Scan.{Scan}
 use Rattle.image.specs.declared.Scan.the-variants as scan
 use Rattle.image.specs.Image.{Image, Parsed, parsed, fault, readCount, readLink, readCell, readEach, readImage}
@@ -103,19 +104,8 @@ module _ (R n : ℕ) (i : Image) (few : length (i .cells) ≤ n) (w : List ℕ) 
               (simp (length-append, length-replicate, length-drop (poolLength R n) w) (omega arith));
           registers = put-register all (blankWords R n w) enough;
           cells = put-field all (blankWords R n w) enough;
-          behind = λ k high.
-              put-behind all (blankWords R n w) enough k high
-              ∙ (getD-set-other (replicate (poolLength R n) 0 ++ drop (poolLength R n) w) 0 k n 0 (λ e. omega arith) ∙ blank-behind k high);
+          behind = λ k high. put-behind all (blankWords R n w) enough k high ∙ behind-blank R n w room .words k high;
         }
-      where
-        blank-behind : (k : ℕ) → poolLength R n ≤ k → getD (replicate (poolLength R n) 0 ++ drop (poolLength R n) w) k 0 ≡ getD w k 0
-        blank-behind k high =
-            let m = poolLength R n in
-            let zeros : List ℕ = replicate m 0 in
-            let place : k ≡ length zeros + (k - m) = omega (arith, length-replicate {A = ℕ} m 0) in
-            let back : m + (k - m) ≡ k = omega arith in
-            ap (λ (x : ℕ). getD (zeros ++ drop m w) x 0) place
-            ∙ (getD-append-add zeros (drop m w) (k - m) 0 ∙ (getD-drop m w (k - m) 0 ∙ ap (λ (x : ℕ). getD w x 0) back))
 
     -- So do the words that load has written before the sweep, in which the cells of the image are marked.
     module _ (written : List ℕ) (marks : MarkedFirst R (length (i .cells)) n (set (putImage R i w) 0 n) written) where

@@ -1,5 +1,5 @@
 -- The proofs of the statements in `specs/Load`.
-use Prim.Native.Nat.{ℕ, _<_, _≤_}
+use Prim.Native.Nat.{ℕ, _+_, _<_, _≤_}
 use native.Mathlib.Omega.{arith}
 use native.Mathlib.Decide.{decLe, decLt}
 use mathlib.Core.Path.{_≡_, refl, sym}
@@ -8,12 +8,12 @@ use mathlib.Core.Bool.{Bool, true, false, cond}
 use lib.ListN.{length}
 use lib.Dec.{ltb}
 use borrow.Author.Tests.{ltb-true, le-leb, lt-leb}
-use Rattle.pool.specs.Layout.{registerCount, cellLimit, poolLength, cellCountOfLength, cellCount}
+use Rattle.pool.specs.Layout.{registerCount, cellLimit, poolLength, leftoverLimit, cellCountOfLength, cellCount}
 use Rattle.questions.specs.Validity.{wellFormed}
 use Rattle.answers.specs.Outcome.{refusalNumber}
 use Rattle.answers.specs.declared.Refusal.{Refusal}
 use Rattle.answers.specs.declared.Refusal.the-variants as refusal
-use Rattle.pool.proofs.Sizes.{length-exact, length-sized, sized-length}
+use Rattle.pool.proofs.Sizes.{length-of, of-length, length-sized}
 use Rattle.questions.proofs.WellFormed.{well-formed-made}
 use Rattle.image.specs.Image.{Image, Parsed, parsed, fault, readImage}
 use Rattle.image.specs.Check.{verdictOf, checkOf}
@@ -26,26 +26,26 @@ verdict-same : (n : ℕ) (read : Parsed Image) (bytes : ℕ) (w : List ℕ) → 
 verdict-same n (parsed i end) bytes w = refl
 verdict-same n (fault why) bytes w = refl
 
--- A length of N cells outside the limits is no pool's.
-no-pool : (n : ℕ) → (1 ≤ n → n ≤ cellLimit → ⊥) → cellCountOfLength registerCount (poolLength registerCount n) ≡ 0
-no-pool n outside =
-    elim (decLt 0 (cellCountOfLength registerCount (poolLength registerCount n))) [
+-- A length of N cells outside the limits, and e words behind them, is no pool's.
+no-pool : (n e : ℕ) → e ≤ leftoverLimit → (1 ≤ n → n ≤ cellLimit → ⊥) → cellCountOfLength registerCount (poolLength registerCount n + e) ≡ 0
+no-pool n e few outside =
+    elim (decLt 0 (cellCountOfLength registerCount (poolLength registerCount n + e))) [
       | yes some ↦
-          let sized = length-sized registerCount (poolLength registerCount n) some in
-          let same = length-exact registerCount (poolLength registerCount n) some in
-          absurd (outside (omega arith) (omega arith))
+          let fits = length-of registerCount (poolLength registerCount n + e) some in
+          let same : cellCountOfLength registerCount (poolLength registerCount n + e) ≡ n = omega (arith, fits .few, fits .sum) in
+          absurd (outside (omega (arith, fits .least)) (omega (arith, fits .most)))
       | no none ↦ omega arith
     ]
 
 pub check-is-load : CheckIsLoad
-check-is-load n bytes w long = go (decLe 1 n) (decLe n cellLimit)
+check-is-load n e bytes w few long = go (decLe 1 n) (decLe n cellLimit)
   where
     outside : (1 ≤ n → n ≤ cellLimit → ⊥) → loadOf w bytes .0 .verdict ≡ 1
-    outside out = simp (long, no-pool n out)
+    outside out = simp (long, no-pool n e few out)
 
     go : Dec (1 ≤ n) → Dec (n ≤ cellLimit) → checkOf bytes n ≡ loadOf w bytes .0 .verdict
     go (yes low) (yes high) =
-        simp (long, sized-length registerCount n low high, le-leb 1 n low, le-leb n cellLimit high)
+        simp (of-length {R = registerCount} {e = e} (record { least = low; most = high; few = few; sum = long }), le-leb 1 n low, le-leb n cellLimit high)
         (verdict-same n (readImage registerCount n bytes) (length bytes) w)
     go (yes low) (no high) = simp (le-leb 1 n low, lt-leb n cellLimit (omega arith)) (sym (outside (λ a b. high b)))
     go (no low) high = simp (lt-leb 1 n (omega arith)) (sym (outside (λ a b. low a)))

@@ -1,11 +1,11 @@
 -- Load (01, "Images" and "Questions, in order"): what it answers and leaves, for every bytes and words, and what is proved of it.
-use Prim.Native.Nat.{ℕ, suc, _+_}
+use Prim.Native.Nat.{ℕ, suc, _+_, _≤_}
 use mathlib.Core.Path.{_≡_}
 use mathlib.Core.List.{List, [], _∷_}
 use mathlib.Core.Bool.{true, cond}
 use lib.ListN.{length, drop}
 use lib.Dec.{leb, ltb}
-use Rattle.pool.specs.Layout.{registerCount, poolLength, cellCountOfLength, cellCount, setRegister, setCell}
+use Rattle.pool.specs.Layout.{registerCount, poolLength, leftoverLimit, cellCountOfLength, cellCount, setRegister, setCell}
 use Rattle.questions.specs.Validity.{wellFormed}
 use Rattle.pool.specs.Retain.{retain, blankWords}
 use Rattle.answers.specs.Outcome.{refusalNumber}
@@ -53,9 +53,10 @@ pub record Handed (loaded : Loaded × List ℕ) (bytes w : List ℕ) (v : ℕ) (
   pub block : to .0 ≡ from .0
   pub place : to .1 ≡ from .1 + loaded .0 .end
 
--- "a judge of bytes and N, which answers 0 or the number that load would give": for every N, bytes, and words of the length of N cells.
+-- "a judge of bytes and N, which answers 0 or the number that load would give": for every N, bytes, and words of the length of N cells and e words behind
+-- them.
 abbrev pub CheckIsLoad : Type 0
-CheckIsLoad = (n : ℕ) (bytes w : List ℕ) → length w ≡ poolLength registerCount n → checkOf bytes n ≡ loadOf w bytes .0 .verdict
+CheckIsLoad = (n e : ℕ) (bytes w : List ℕ) → e ≤ leftoverLimit → length w ≡ poolLength registerCount n + e → checkOf bytes n ≡ loadOf w bytes .0 .verdict
 
 -- Every accepted load leaves a well-formed pool of as many cells as the words hold: whoever has checked an image need not check the pool.
 abbrev pub LoadIsWellFormed : Type 0

@@ -8,7 +8,7 @@ use lib.ListN.{length, getD, set, take, drop, replicate, length-replicate, lengt
 use lib.Seq.{getD-set-other}
 use borrow.Author.Tests.{lt-ltb}
 use Rattle.pool.specs.Words.{tabulate}
-use Rattle.pool.specs.Layout.{registerCount, firstRegister, poolLength, cellCountOfLength, cellAt, cell, register, count, setCount}
+use Rattle.pool.specs.Layout.{registerCount, firstRegister, poolLength, cellCountOfLength, leftoverOfLength, cellAt, cell, register, count, setCount}
 use Rattle.pool.specs.Retain.{freeCells, markedCell, sweepOf, blankWords, freshWords}
 use Rattle.answers.specs.Outcome.{Outcome, answered}
 use Rattle.pool.specs.Fresh.{freshOf, FreshIsFree}
@@ -26,9 +26,7 @@ zeros (suc m) (suc k) = zeros m k
 module _ (R n : ℕ) (w : List ℕ) (room : poolLength R n ≤ length w) where
   pub blank-length : length (blankWords R n w) ≡ length w
   unfolding setCount
-  blank-length =
-      length-set (replicate (poolLength R n) 0 ++ drop (poolLength R n) w) 0 n
-      ∙ simp (length-append, length-replicate, length-drop (poolLength R n) w) (omega arith)
+  blank-length = simp (length-set, length-append, length-replicate, length-drop) (omega arith)
 
   pub blank-count : count (blankWords R n w) ≡ n
   unfolding count setCount
@@ -36,10 +34,12 @@ module _ (R n : ℕ) (w : List ℕ) (room : poolLength R n ≤ length w) where
 
   pub blank-zero : (k : ℕ) → 0 < k → k < poolLength R n → getD (blankWords R n w) k 0 ≡ 0
   unfolding setCount
-  blank-zero k low high =
-      getD-set-other (replicate (poolLength R n) 0 ++ drop (poolLength R n) w) 0 k n 0 (λ e. omega arith)
-      ∙ (List·getD-append (replicate (poolLength R n) 0) (drop (poolLength R n) w) 0 k (simp length-replicate (omega arith))
-      ∙ zeros (poolLength R n) k)
+  blank-zero k low high = before (drop (poolLength R n) w)
+    where
+      before : (behind : List ℕ) → getD (set (replicate (poolLength R n) 0 ++ behind) 0 n) k 0 ≡ 0
+      before behind =
+          getD-set-other (replicate (poolLength R n) 0 ++ behind) 0 k n 0 (λ e. omega arith)
+          ∙ (List·getD-append (replicate (poolLength R n) 0) behind 0 k (simp length-replicate (omega arith)) ∙ zeros (poolLength R n) k)
 
   pub blank-register : (k : ℕ) → k < R → register (blankWords R n w) k ≡ 0
   unfolding register
@@ -70,11 +70,12 @@ blank-made n w part room clear =
     let all : length (take (poolLength registerCount n) w) ≡ poolLength registerCount n = simp length-take (omega arith) in
     rw (clear, all) refl
 
--- what `Pool::fresh` leaves where the length is that of n cells: n goes to word 0, all else is cleared, and the sweep makes the chain
+-- what `Pool::fresh` leaves where the length is that of n cells: n goes to word 0, all else up to the end of the cells is cleared, and the sweep makes the
+-- chain
 module _ (w : List ℕ) (n : ℕ) (cells : n ≡ cellCountOfLength registerCount (length w)) (some : n ≡ 0 → ⊥) where
   pub fresh-made : (blank swept : List ℕ) (kept : ℕ) → blank ≡ blankWords registerCount n w
       → _≡_ {A = ℕ × List ℕ} (kept, swept) (sweepOf registerCount n blank)
-      → _≡_ {A = Outcome × List ℕ} (answered (n ∷ []), swept) (freshOf w)
+      → _≡_ {A = Outcome × List ℕ} (answered (n ∷ leftoverOfLength registerCount (length w) ∷ []), swept) (freshOf w)
   fresh-made blank swept kept start sweep =
       let words : swept ≡ freshWords registerCount n w =
       ap (λ (x : ℕ × List ℕ). x .1) sweep

@@ -7,3 +7,4 @@ pub mod Retained
 pub mod RetainedPool
 pub mod AllKept
 pub mod FreshPool
+pub mod Leftover

@@ -1,13 +1,15 @@
 -- The lengths of pools, and the first question.
-use Prim.Native.Nat.{ℕ, _-_, _/_, _%_, _<_, _≤_}
-use mathlib.Core.Path.{_≡_, refl}
+use Prim.Native.Nat.{ℕ, _+_, _-_, _/_, _<_, _≤_}
+use mathlib.Core.Path.{_≡_, refl, sym, _∙_}
 use mathlib.Core.List.{List}
 use mathlib.Core.Bool.{Bool, true, false, false≢true, cond, _&&_}
 use native.Mathlib.Omega.{arith}
-use lib.ListN.{length}
-use lib.Dec.{leb, eqb}
-use borrow.Author.Tests.{le-leb, eq-eqb, ne-eqb, leb-true, eqb-true}
-use Rattle.pool.specs.Layout.{firstCell, cellLimit, cellCountOfLength, cellCount, poolLength, count}
+use native.Mathlib.Decide.{decLe}
+use lib.ListN.{length, length-drop}
+use lib.Dec.{eqb}
+use borrow.Author.Tests.{le-leb, lt-leb, eq-eqb, ne-eqb, eqb-true}
+use Rattle.pool.specs.Layout.{firstCell, cellLimit, poolLength, leftoverLimit, cellCountOfLength, leftoverOfLength, cellCount, count}
+use Rattle.pool.specs.Lengths.{LengthOf, LengthsOfPools, LeftoverCount}
 
 -- both parts of a test that holds
 pub both : (a b : Bool) → (a && b) ≡ true → (a ≡ true) × (b ≡ true)
@@ -18,29 +20,52 @@ both false b h = absurd (false≢true h)
 pub third-decides : (a b c : Bool) → a ≡ true → b ≡ true → c ≡ (a && b && c)
 third-decides a b c ha hb = rw (ha, hb)
 
--- a length that is a pool's is that of its number of cells, which is within the limits
-record Exact (R len n : ℕ) : Type 0 where
-  same : len ≡ poolLength R n
-  least : 1 ≤ n
-  most : n ≤ cellLimit
+-- the number of cells of a length that fits, and of one that is too short or too long
+module _ (R len : ℕ) where
+  pub fitting : poolLength R 1 ≤ len → len ≤ poolLength R cellLimit + leftoverLimit → (len - firstCell R) / 4 ≡ cellCountOfLength R len
+  unfolding cellCountOfLength
+  fitting low high = simp (le-leb (poolLength R 1) len low, le-leb len (poolLength R cellLimit + leftoverLimit) high)
 
-exact : (R len : ℕ) → 0 < cellCountOfLength R len → Exact R len (cellCountOfLength R len)
-unfolding cellCountOfLength
-exact R len = go (leb (poolLength R 1) len && leb len (poolLength R cellLimit) && eqb ((len - firstCell R) % 4) 0) refl
+  pub too-short : len < poolLength R 1 → 0 ≡ cellCountOfLength R len
+  unfolding cellCountOfLength
+  too-short short = simp (lt-leb (poolLength R 1) len short)
+
+  pub too-long : poolLength R cellLimit + leftoverLimit < len → 0 ≡ cellCountOfLength R len
+  unfolding cellCountOfLength
+  too-long long = simp (le-leb (poolLength R 1) len (omega arith), lt-leb len (poolLength R cellLimit + leftoverLimit) long)
+
+-- so a number of cells within the limit is that of its length, 0 too
+pub counted : (R len : ℕ) → firstCell R ≤ len → (len - firstCell R) / 4 ≤ cellLimit → (len - firstCell R) / 4 ≡ cellCountOfLength R len
+counted R len low high = go (decLe (poolLength R 1) len)
   where
-    go : (t : Bool) → (leb (poolLength R 1) len && leb len (poolLength R cellLimit) && eqb ((len - firstCell R) % 4) 0) ≡ t
-        → 0 < cond t ((len - firstCell R) / 4) 0 → Exact R len (cond t ((len - firstCell R) / 4) 0)
-    go true e h =
-        let outer = both (leb (poolLength R 1) len && leb len (poolLength R cellLimit)) (eqb ((len - firstCell R) % 4) 0) e in
-        let inner = both (leb (poolLength R 1) len) (leb len (poolLength R cellLimit)) (outer .0) in
-        let low = leb-true (poolLength R 1) len (inner .0) in
-        let high = leb-true len (poolLength R cellLimit) (inner .1) in
-        let whole = eqb-true ((len - firstCell R) % 4) 0 (outer .1) in
-        record { same = omega arith; least = omega arith; most = omega arith }
-    go false e h = absurd (omega arith)
+    go : Dec (poolLength R 1 ≤ len) → (len - firstCell R) / 4 ≡ cellCountOfLength R len
+    go (yes some) = fitting R len some (omega arith)
+    go (no none) = let zero : (len - firstCell R) / 4 ≡ 0 = omega arith in zero ∙ too-short R len (omega arith)
 
-pub length-exact : (R len : ℕ) → 0 < cellCountOfLength R len → len ≡ poolLength R (cellCountOfLength R len)
-length-exact R len some = exact R len some .same
+-- a length that has a number of cells is that of so many cells, with the words behind them
+pub length-of : (R len : ℕ) → 0 < cellCountOfLength R len → LengthOf R (cellCountOfLength R len) (leftoverOfLength R len) len
+length-of R len some = go (decLe (poolLength R 1) len) (decLe len (poolLength R cellLimit + leftoverLimit))
+  where
+    go : Dec (poolLength R 1 ≤ len) → Dec (len ≤ poolLength R cellLimit + leftoverLimit) → LengthOf R (cellCountOfLength R len) (leftoverOfLength R len) len
+    go (yes low) (yes high) =
+        let counted = fitting R len low high in
+        record { least = some; most = omega (arith, counted); few = omega arith; sum = omega (arith, counted) }
+    go (yes low) (no long) = absurd (omega (arith, some, too-long R len (omega arith)))
+    go (no short) high = absurd (omega (arith, some, too-short R len (omega arith)))
+
+-- and the other way round
+pub of-length : {R n e len : ℕ} → LengthOf R n e len → cellCountOfLength R len ≡ n
+of-length {R} {n} {e} {len} h =
+    sym (fitting R len (omega (arith, h .least, h .sum)) (omega (arith, h .most, h .few, h .sum))) ∙ omega (arith, h .few, h .sum)
+
+pub lengths-of-pools : LengthsOfPools
+lengths-of-pools R n e len = (
+  λ h. (h .least, of-length h, omega (arith, h .few, h .sum)),
+  λ told. let found = length-of R len (omega (arith, told .0, told .1)) in rw (told .1, told .2) at found,
+)
+
+pub leftover-count : LeftoverCount
+leftover-count R n e w h = simp (length-drop, of-length h) (omega (arith, h .sum))
 
 -- what is asked of a length elsewhere: it is that of a pool of n cells, which is within the limits, and there is room for them
 pub record Sized (R len n : ℕ) : Type 0 where
@@ -49,23 +74,15 @@ pub record Sized (R len n : ℕ) : Type 0 where
   pub least : 1 ≤ n
   pub most : n ≤ cellLimit
 
+pub sized : {R n e len : ℕ} → LengthOf R n e len → Sized R len n
+sized h = record { counted = of-length h; room = omega (arith, h .sum); least = h .least; most = h .most }
+
 pub length-sized : (R len : ℕ) → 0 < cellCountOfLength R len → Sized R len (cellCountOfLength R len)
-length-sized R len some =
-    let e = exact R len some in record { counted = refl; room = omega (arith, e .same); least = e .least; most = e .most }
+length-sized R len some = sized (length-of R len some)
 
 -- the same of the number that the code has counted
 pub counted-sized : (R len : ℕ) {n : ℕ} → n ≡ cellCountOfLength R len → (n ≡ 0 → ⊥) → Sized R len n
 counted-sized R len cells some = rw cells (length-sized R len (omega (arith, some)))
-
--- and the other way round
-pub sized-length : (R n : ℕ) → 1 ≤ n → n ≤ cellLimit → cellCountOfLength R (poolLength R n) ≡ n
-unfolding cellCountOfLength
-sized-length R n low high =
-    simp (
-      le-leb (poolLength R 1) (poolLength R n) (omega arith),
-      le-leb (poolLength R n) (poolLength R cellLimit) (omega arith),
-      eq-eqb ((poolLength R n - firstCell R) % 4) 0 (omega arith),
-    ) (omega arith)
 
 -- the number of cells of words by their length and word 0
 module _ (R : ℕ) (w : List ℕ) where

@@ -7,12 +7,14 @@ use lib.ListN.{length}
 use lib.Dec.{ltb}
 use Rattle.answers.specs.Outcome.{Outcome, answered, refused}
 use Rattle.pool.specs.Words.{tabulate}
-use Rattle.pool.specs.Layout.{registerCount, poolLength, cellCountOfLength}
+use Rattle.pool.specs.Layout.{registerCount, poolLength, cellCountOfLength, leftoverOfLength}
 use Rattle.pool.specs.Retain.{retain, freshWords, freeList, freeCells}
 
--- Fresh: "N from the length alone", refusal 1 where there is none; refused, nothing changes.
+-- Fresh: "N from the length alone", refusal 1 where there is none; refused, nothing changes. "Fresh answers N and e" (02, S-6).
 abbrev pub freshOf : List ℕ → Outcome × List ℕ
-freshOf w = let n = cellCountOfLength registerCount (length w) in cond (ltb 0 n) (answered (n ∷ []), freshWords registerCount n w) (refused 1, w)
+freshOf w =
+    let n = cellCountOfLength registerCount (length w) in
+    cond (ltb 0 n) (answered (n ∷ leftoverOfLength registerCount (length w) ∷ []), freshWords registerCount n w) (refused 1, w)
 
 -- The free list of fresh words has every cell once, ascending: 1, 2, .., n.
 abbrev pub FreshIsFree : Type 0

@@ -2,7 +2,7 @@
 use Prim.Native.Nat.{ℕ, _+_, _*_, _-_, _/_, _%_}
 use mathlib.Core.List.{List}
 use mathlib.Core.Bool.{cond, _&&_}
-use lib.ListN.{length, getD, set}
+use lib.ListN.{length, getD, set, drop}
 use lib.Dec.{eqb, leb}
 use Rattle.graph.specs.Graph.{Graph}
 use Rattle.pool.specs.Words.{tabulate}
@@ -23,14 +23,25 @@ firstRegister = 2
 abbrev pub firstCell : ℕ → ℕ
 firstCell R = firstRegister + R
 
--- "18 + 4 × N long"
+-- "18 + 4 × N": the words of a pool of n cells, without those behind its cells.
 abbrev pub poolLength : ℕ → ℕ → ℕ
 poolLength R n = firstCell R + 4 * n
 
+-- "18 + 4 × N + e, with e from 0 to 3" (02, S-6): the most words that a pool has behind its cells.
+abbrev pub leftoverLimit : ℕ
+leftoverLimit = 3
+
 -- N "from the length alone": the number of cells of a pool of that many words, 0 where no pool has that length.
 unfoldable pub cellCountOfLength : ℕ → ℕ → ℕ
-cellCountOfLength R len =
-    cond (leb (poolLength R 1) len && leb len (poolLength R cellLimit) && eqb ((len - firstCell R) % 4) 0) ((len - firstCell R) / 4) 0
+cellCountOfLength R len = cond (leb (poolLength R 1) len && leb len (poolLength R cellLimit + leftoverLimit)) ((len - firstCell R) / 4) 0
+
+-- And e: the number of words behind its cells.
+abbrev pub leftoverOfLength : ℕ → ℕ → ℕ
+leftoverOfLength R len = (len - firstCell R) % 4
+
+-- "the e words at the end": the words behind the cells. (Of a length that no pool has, all from the first cell's word on.)
+abbrev pub leftoverWords : ℕ → List ℕ → List ℕ
+leftoverWords R w = drop (poolLength R (cellCountOfLength R (length w))) w
 
 -- "Word 0 is N."
 unfoldable pub count : List ℕ → ℕ
@@ -40,8 +51,8 @@ count w = getD w 0 0
 unfoldable pub setCount : List ℕ → ℕ → List ℕ
 setCount w n = set w 0 n
 
--- The first question: "Is the length 18 + 4 × N, N within limits, and .. word 0 that N?" The number of cells of the pool, 0 where the words are
--- no pool.
+-- The first question: "Is the length 18 + 4 × N, N within limits, and .. word 0 that N?", the length as 02, S-6, has it. The number of cells of the pool, 0
+-- where the words are no pool.
 unfoldable pub cellCount : ℕ → List ℕ → ℕ
 cellCount R w = let n = cellCountOfLength R (length w) in cond (eqb (count w) n) n 0
 

@@ -1,5 +1,6 @@
 pub mod Words
 pub mod Layout
+pub mod Lengths
 pub mod States
 pub mod Retain
 pub mod Fresh

@@ -22,7 +22,7 @@ impl Pool {
 
     pub const REGISTERS: u32 = 16;
 
-    // Words: the number of cells, the head of the free list, the registers, then the cells.
+    // Words: the number of cells, the head of the free list, the registers, then the cells, and behind them words that no function changes.
     pub const COUNT: usize = 0;
 
     pub const HEAD: usize = 1;
@@ -49,7 +49,8 @@ impl Pool {
 
     pub const FREE: u32 = 4;
 
-    // Makes the words a pool of as many cells as they hold, all of them free and all registers nil.
+    // Makes the words a pool of as many cells as they hold, all of them free and all registers nil. Gives the number of cells, and of the words left over
+    // behind them, which stay.
     pub fn fresh(words: &mut [u32]) -> Answer
         ensures { λ r. ⌜ (answerOutcome r, now (words .exit)) ≡ freshOf (now (words .entry)) ⌝ }
     {
@@ -57,9 +58,10 @@ impl Pool {
         if n == 0 {
             return Answer::Refused(Refusal::Size);
         }
+        let leftover = ((words.len() - Pool::FIRST_CELL) % Pool::CELL_WORDS) as u32;
         blank(words, n);
         sweep(words, n);
-        Answer::Number(n)
+        Answer::Pair(n, leftover)
     }
 }
 
@@ -67,16 +69,14 @@ impl Pool {
 pub fn cell_count_of_length(len: usize) -> u32
     ensures { λ r. ⌜ r ≡ cellCountOfLength registerCount len ⌝ }
 {
-    if len < Pool::FIRST_CELL + Pool::CELL_WORDS {
+    if len < Pool::FIRST_CELL {
         return 0;
     }
-    if Pool::FIRST_CELL + Pool::CELL_WORDS * (Pool::CELLS as usize) < len {
+    let cells = (len - Pool::FIRST_CELL) / Pool::CELL_WORDS;
+    if (Pool::CELLS as usize) < cells {
         return 0;
     }
-    if (len - Pool::FIRST_CELL) % Pool::CELL_WORDS != 0 {
-        return 0;
-    }
-    ((len - Pool::FIRST_CELL) / Pool::CELL_WORDS) as u32
+    cells as u32
 }
 
 pub fn read_cell(words: &[u32], i: u32, field: usize) -> u32

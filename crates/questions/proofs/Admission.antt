@@ -70,3 +70,9 @@ module _ {A : Type 0} {q read : Admitted} (asked : q ≡ read) (body refusing : 
 
   pub stopped : {k : Refusal} {p : A} → q ≡ admitted.Refused k → p ≡ refusing (refusalNumber k) → p ≡ admittedTo body refusing read
   stopped told done = done ∙ ap (admittedTo body refusing) (sym told ∙ asked)
+
+-- what holds of an operation's body and of its refusals holds of it behind its questions
+pub behind-questions : {A : Type 0} (P : A → Type 0) (q : Admitted) {body refusing : ℕ → A} → ((n : ℕ) → q ≡ admitted.Cells n → P (body n))
+    → ((k : ℕ) → P (refusing k)) → P (admittedTo body refusing q)
+behind-questions P (admitted.Cells n) on off = on n refl
+behind-questions P (admitted.Refused k) on off = off _

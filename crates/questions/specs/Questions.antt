@@ -13,8 +13,8 @@ use Rattle.pool.specs.Layout.{registerCount, cellCount, register}
 use Rattle.questions.specs.Validity.{validLink}
 use Rattle.answers.specs.Outcome.{refusalNumber}
 
--- The first question: "Is the length 18 + 4 × N, N within limits, and (in every call but fresh and load) word 0 that N? .. No: 1." It hands on the number
--- of cells.
+-- The first question: "Is the length 18 + 4 × N, N within limits, and (in every call but fresh and load) word 0 that N? .. No: 1.", with e from 0 to 3 words
+-- more (02, S-6: "The check of length in 01's first question reads so for every call"). It hands on the number of cells.
 abbrev pub sizedOf : List ℕ → Admitted
 sizedOf w = cond (ltb 0 (cellCount registerCount w)) (admitted.Cells (cellCount registerCount w)) (admitted.Refused refusal.Size)
 

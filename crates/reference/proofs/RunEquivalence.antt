@@ -13,10 +13,10 @@ use Rattle.reference.proofs.Start.{fresh-rep}
 use Rattle.reference.proofs.Runs.{compared, observed-words}
 
 pub run-equivalence : RunEquivalence
-run-equivalence N L lent list out cs least most exact program room =
+run-equivalence N e L lent list out cs fits program room =
     let w = freshWords registerCount N lent in
-    let inv = fresh-inv N lent least most exact in
-    let rep = fresh-rep N lent least most exact in
+    let inv = fresh-inv N e lent fits in
+    let rep = fresh-rep N e lent fits in
     let both-are = compared N L cs inv rep in
     rw (runs-one-after-the-other list cs w out program room)
     (record {

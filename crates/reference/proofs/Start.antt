@@ -1,12 +1,13 @@
 -- Fresh words represent the empty reference model.
-use Prim.Native.Nat.{ℕ, _<_, _≤_}
+use Prim.Native.Nat.{ℕ, _<_}
 use native.Mathlib.Omega.{arith}
 use native.Mathlib.Decide.{decLt}
 use mathlib.Core.Path.{_≡_, refl, sym, ap, _∙_}
 use mathlib.Core.List.{List}
 use mathlib.Core.Bool.{false}
 use lib.ListN.{length, replicate, getD-replicate, List·getD-eq-default}
-use Rattle.pool.specs.Layout.{registerCount, cellLimit, poolLength}
+use Rattle.pool.specs.Layout.{registerCount}
+use Rattle.pool.specs.Lengths.{LengthOf}
 use Rattle.pool.specs.States.{isFree}
 use Rattle.pool.specs.Retain.{blankWords, freshWords}
 use Rattle.questions.proofs.WellFormed.{Link}
@@ -16,12 +17,12 @@ use Rattle.invariant.proofs.FreeList.{free-or-used}
 use Rattle.invariant.proofs.Rebuilt.{blank-room, fresh-inv}
 use Rattle.reference.proofs.Represents.{Represents, rep-made}
 
-module _ (N : ℕ) (lent : List ℕ) (low : 1 ≤ N) (high : N ≤ cellLimit) (exact : length lent ≡ poolLength registerCount N) where
+module _ (N e : ℕ) (lent : List ℕ) (fits : LengthOf registerCount N e (length lent)) where
   -- Every cell is free, so that a valid link is nil.
   link-nil : {x : ℕ} → Link registerCount N (freshWords registerCount N lent) x → x ≡ 0
   link-nil (Link.nil e) = e
   link-nil {x} (Link.used some top s) =
-      let free = retained-free registerCount N (λ i. false) (blankWords registerCount N lent) (blank-room N lent low high exact) x some top refl in
+      let free = retained-free registerCount N (λ i. false) (blankWords registerCount N lent) (blank-room N e lent fits) x some top refl in
       absurd (free-or-used (freshWords registerCount N lent) x (ap isFree free) s)
 
   all-nil : (k : ℕ) → held empty k ≡ 0
@@ -40,5 +41,5 @@ module _ (N : ℕ) (lent : List ℕ) (low : 1 ≤ N) (high : N ≤ cellLimit) (e
         backward = λ x y z a b. a .0 ∙ sym (b .0);
       })
       (record { registers = refl; roots = λ k. omega (arith, all-nil k); cells = λ x. omega arith })
-      (λ k below. (link-nil (fresh-inv N lent low high exact .pool .well .registers k below), all-nil k))
+      (λ k below. (link-nil (fresh-inv N e lent fits .pool .well .registers k below), all-nil k))
       (λ x y a hx hy f. absurd (omega arith))

@@ -14,12 +14,12 @@ use Rattle.reference.proofs.Runs.{compared, none-at-limit}
 use Rattle.reference.proofs.Plain.{Plain, plain-mild, plain-model}
 
 pub equivalence : Equivalence
-equivalence N L lent calls low high exact =
-    let both-are = compared N L calls (fresh-inv N lent low high exact) (fresh-rep N lent low high exact) in
+equivalence N e L lent calls fits =
+    let both-are = compared N L calls (fresh-inv N e lent fits) (fresh-rep N e lent fits) in
     (λ e. both-are .none (ap answerWords e), both-are .equal)
 
 pub equivalence-at-limit : EquivalenceAtLimit
-equivalence-at-limit N lent calls low high exact = equivalence N N lent calls low high exact .1 (none-at-limit N calls empty)
+equivalence-at-limit N e lent calls fits = equivalence N e N lent calls fits .1 (none-at-limit N calls empty)
 
 -- The reference model never refuses with 1 or 3.
 answers-plain : (L : ℕ) (calls : List Call) (m : Model) (o : Outcome) → List·Memᴰ o (modelAnswers L calls m) → Plain o
@@ -29,5 +29,5 @@ answers-plain L (c ∷ cs) m o mem =
     ⊎-elim (λ e. subst Plain (sym e) (plain-model m L c)) (answers-plain L cs ((modelOf L c m) .1) o) (List·Memᴰ·cases-cons mem)
 
 pub never-malformed : NeverMalformed
-never-malformed N lent calls low high exact o mem =
-    plain-mild (answers-plain N calls empty o (subst (List·Memᴰ o) (equivalence-at-limit N lent calls low high exact) mem))
+never-malformed N e lent calls fits o mem =
+    plain-mild (answers-plain N calls empty o (subst (List·Memᴰ o) (equivalence-at-limit N e lent calls fits) mem))

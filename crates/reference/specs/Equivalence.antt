@@ -1,12 +1,13 @@
 -- Demand 3, for every list of calls: the pool answers as the reference model does.
-use Prim.Native.Nat.{ℕ, _≤_, min, max}
+use Prim.Native.Nat.{ℕ, min, max}
 use mathlib.Core.Path.{_≡_}
 use mathlib.Core.Logic.{_↔_}
 use mathlib.Core.List.{List, [], _∷_, List·Memᴰ}
 use mathlib.Core.Bool.{Bool, true, _&&_, not}
 use lib.ListN.{length}
 use lib.Dec.{leb, ltb}
-use Rattle.pool.specs.Layout.{registerCount, cellLimit, poolLength}
+use Rattle.pool.specs.Layout.{registerCount}
+use Rattle.pool.specs.Lengths.{LengthOf}
 use Rattle.questions.specs.Questions.{areRegisters}
 use Rattle.pool.specs.Retain.{freshWords}
 use Rattle.answers.specs.Outcome.{Outcome, answered, allocated, refused}
@@ -42,21 +43,22 @@ noneDistinguishes N L [] m = true
 noneDistinguishes N L (c ∷ cs) m = not (distinguishes N L c m) && noneDistinguishes N L cs ((modelOf L c m) .1)
 
 -- Demand 3: the answers of a pool of N cells equal those of the ledger with limit L exactly when no "new" with valid registers finds at least the
--- smaller and fewer than the larger of N and L live cells. One statement about the whole list, for every N, L and list.
+-- smaller and fewer than the larger of N and L live cells. One statement about the whole list, for every N, L and list. "Scripts on a pool with leftovers
+-- get the ledger's answers for N" (02, S-6): so it is with every e words behind the cells, whatever they hold; with e = 0 there are none.
 abbrev pub Equivalence : Type 0
 Equivalence =
-    (N L : ℕ) (lent : List ℕ) (calls : List Call) → 1 ≤ N → N ≤ cellLimit → length lent ≡ poolLength registerCount N
+    (N e L : ℕ) (lent : List ℕ) (calls : List Call) → LengthOf registerCount N e (length lent)
     → (poolAnswers calls (freshWords registerCount N lent) ≡ modelAnswers L calls empty) ↔ (noneDistinguishes N L calls empty ≡ true)
 
 -- With L = N they are always equal.
 abbrev pub EquivalenceAtLimit : Type 0
 EquivalenceAtLimit =
-    (N : ℕ) (lent : List ℕ) (calls : List Call) → 1 ≤ N → N ≤ cellLimit → length lent ≡ poolLength registerCount N
+    (N e : ℕ) (lent : List ℕ) (calls : List Call) → LengthOf registerCount N e (length lent)
     → poolAnswers calls (freshWords registerCount N lent) ≡ modelAnswers N calls empty
 
 -- "Refusals .. 1 and 3 never come": no list of calls on a fresh pool is ever refused with 1 or 3.
 abbrev pub NeverMalformed : Type 0
 NeverMalformed =
-    (N : ℕ) (lent : List ℕ) (calls : List Call) → 1 ≤ N → N ≤ cellLimit → length lent ≡ poolLength registerCount N
+    (N e : ℕ) (lent : List ℕ) (calls : List Call) → LengthOf registerCount N e (length lent)
     → (o : Outcome) → List·Memᴰ o (poolAnswers calls (freshWords registerCount N lent))
     → (o ≡ refused 1 → ⊥) × (o ≡ refused 3 → ⊥)

@@ -5,7 +5,8 @@ use mathlib.Core.Logic.{_↔_}
 use mathlib.Core.List.{List, [], _∷_}
 use mathlib.Core.Bool.{true, cond}
 use lib.ListN.{length, getD, drop}
-use Rattle.pool.specs.Layout.{registerCount, cellLimit, poolLength}
+use Rattle.pool.specs.Layout.{registerCount}
+use Rattle.pool.specs.Lengths.{LengthOf}
 use Rattle.pool.specs.Retain.{freshWords}
 use Rattle.calls.specs.declared.Call.{Call}
 use Rattle.calls.specs.Calls.{allocates}
@@ -29,8 +30,8 @@ pub record RunsAlike (N L : ℕ) (lent : List ℕ) (cs : List Call) (out : List 
   pub behind : drop (3 * length cs) (end .2) ≡ drop (3 * length cs) out
   pub alike : (observedWords cs (end .2) ≡ answerWords (modelAnswers L cs empty)) ↔ (noneDistinguishes N L cs empty ≡ true)
 
--- `batch::run`, given words that hold the calls cs and room for their answers. (`runOf` is what its contract says.)
+-- `batch::run`, given words that hold the calls cs and room for their answers, on a pool with e words behind its cells. (`runOf` is what its contract says.)
 abbrev pub RunEquivalence : Type 0
 RunEquivalence =
-    (N L : ℕ) (lent list out : List ℕ) (cs : List Call) → 1 ≤ N → N ≤ cellLimit → length lent ≡ poolLength registerCount N → programOf list ≡ programOfCalls cs → 3 * length cs ≤ length out
+    (N e L : ℕ) (lent list out : List ℕ) (cs : List Call) → LengthOf registerCount N e (length lent) → programOf list ≡ programOfCalls cs → 3 * length cs ≤ length out
     → RunsAlike N L lent cs out (runOf list (freshWords registerCount N lent) out)

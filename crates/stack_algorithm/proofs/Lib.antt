@@ -5,6 +5,7 @@ pub mod Chain
 pub mod Checking
 pub mod NoCheck
 pub mod Longer
+pub mod SameLinks
 pub mod Comb
 pub mod CombChecks
 pub mod CheckExample

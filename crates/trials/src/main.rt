@@ -1,6 +1,5 @@
 // Tries every marker on many pseudo-random pools: a marker of another make says which cells a collection has to keep, and the answers and all words of
 // the others are compared with what follows from its marks alone.
-mod generate;
 mod totals;
 mod words;
 
@@ -28,9 +27,10 @@ const N_WORDS: u32 = 4;
 
 const MARKERS: u32 = 5;
 
-// One marker on the pool of a seed, as it is or damaged.
+// One marker on the pool of a seed, as it is or damaged, with some words behind its cells.
 struct Trial {
     n: u32,
+    leftover: u32,
     seed: u32,
     malformed: bool,
     marker: u32,
@@ -54,12 +54,14 @@ struct Outcome {
 
 // The trials are numbered: for each seed every marker, on the pool and then on the damaged pool.
 fn trial_of(number: u32) -> Trial
-    ensures { λ r. ⌜ r .n ≤ 4000 ⌝ }
+    ensures { λ r. ⌜ (r .n ≤ 4000) × (r .leftover ≤ 3) ⌝ }
 {
     let seed = number / (2 * MARKERS);
-    let n = generate::cells_of(seed);
+    let n = trial_pools::cells_of(seed);
+    let leftover = trial_pools::leftover_of(seed);
     Trial {
         n,
+        leftover,
         seed,
         malformed: number / MARKERS % 2 == 1,
         marker: number % MARKERS,
@@ -125,9 +127,9 @@ fn stack_words(trial: Trial) -> usize
 fn make(words: &mut [u32], trial: Trial)
     requires { ⌜ trial .n ≤ 4000 ⌝ }
 {
-    generate::fill(words, trial.n, trial.seed);
+    trial_pools::fill(words, trial.n, trial.seed);
     if trial.malformed {
-        generate::damage(words, trial.n, trial.seed);
+        trial_pools::damage(words, trial.n, trial.seed);
     }
 }
 
@@ -196,9 +198,9 @@ fn run(words: &mut [u32], after: &mut [u32], stack: &mut [u32], trial: Trial) ->
 
 // Runs a trial in the parts of the lent words that it takes.
 fn run_in(words: &mut [u32], after: &mut [u32], stack: &mut [u32], trial: Trial) -> Outcome
-    requires { ⌜ (trial .n ≤ 4000) × (length (now words) ≡ 16018) × (length (now after) ≡ 16018) × (length (now stack) ≡ 4000) ⌝ }
+    requires { ⌜ (trial .n ≤ 4000) × (trial .leftover ≤ 3) × (length (now words) ≡ 16021) × (length (now after) ≡ 16021) × (length (now stack) ≡ 4000) ⌝ }
 {
-    let end = 18 + 4 * trial.n as usize;
+    let end = 18 + 4 * trial.n as usize + trial.leftover as usize;
     let most = stack_words(trial);
     run(
         &mut words[..end],
@@ -209,16 +211,23 @@ fn run_in(words: &mut [u32], after: &mut [u32], stack: &mut [u32], trial: Trial)
 }
 
 fn main() {
-    let mut words = [0u32; 16018];
-    let mut after = [0u32; 16018];
+    let mut words = [0u32; 16021];
+    let mut after = [0u32; 16021];
     let mut stack = [0u32; 4000];
-    let mut t = [0u32; 22];
+    let mut t = [0u32; 23];
     let mut number = SEEDS * 2 * MARKERS;
     while 0 < number {
         number -= 1;
         let trial = trial_of(number);
         let outcome = run_in(&mut words, &mut after, &mut stack, trial);
-        totals::count_pool(&mut t, trial.marker, trial.malformed, trial.n, outcome.kept);
+        totals::count_pool(
+            &mut t,
+            trial.marker,
+            trial.malformed,
+            trial.n,
+            trial.leftover,
+            outcome.kept,
+        );
         totals::count_trial(
             &mut t,
             trial.marker,
@@ -229,6 +238,6 @@ fn main() {
     }
     totals::print(
         &t,
-        b"well-formed pools: #\ncells: #\nkept cells: #\nmalformed pools: #\nreversal: agreed #, differed #, visits #\nrecursive marker: agreed #, differed #, visits #\nstack of no words: agreed #, differed #, enough #\nstack of one word: agreed #, differed #, enough #\nstack of N words: agreed #, differed #, enough #\nchecks with no words: #\nchecks with one word: #\nchecks with N words: #\n",
+        b"well-formed pools: #\ncells: #\nkept cells: #\nmalformed pools: #\nreversal: agreed #, differed #, visits #\nrecursive marker: agreed #, differed #, visits #\nstack of no words: agreed #, differed #, enough #\nstack of one word: agreed #, differed #, enough #\nstack of N words: agreed #, differed #, enough #\nchecks with no words: #\nchecks with one word: #\nchecks with N words: #\nwords behind the cells: #\n",
     );
 }

@@ -2,8 +2,9 @@
 use libc::STDOUT_FILENO;
 
 // The number of well-formed pools, of their cells and of the kept cells, of malformed pools; then for each marker on how many pools it agreed, on how
-// many it differed, and the sum of its visits, or of the pools for which its stack was enough; then for each marker with a stack its checks.
-pub type Totals = [u32; 22];
+// many it differed, and the sum of its visits, or of the pools for which its stack was enough; then for each marker with a stack its checks; then the words
+// behind the cells.
+pub type Totals = [u32; 23];
 
 fn get(t: &Totals, place: usize) -> u32 {
     if place < t.len() { t[place] } else { 0 }
@@ -15,11 +16,12 @@ fn count(t: &mut Totals, place: usize, x: u32) {
     }
 }
 
-// A pool of n cells of which some are kept; once for all markers.
-pub fn count_pool(t: &mut Totals, marker: u32, malformed: bool, n: u32, kept: u32) {
+// A pool of n cells of which some are kept, and some words behind them; once for all markers.
+pub fn count_pool(t: &mut Totals, marker: u32, malformed: bool, n: u32, leftover: u32, kept: u32) {
     if marker != 0 {
         return;
     }
+    count(t, LEFTOVER, leftover);
     if malformed {
         count(t, 3, 1);
     } else {
@@ -33,6 +35,9 @@ pub fn count_pool(t: &mut Totals, marker: u32, malformed: bool, n: u32, kept: u3
 const FIRST_STACK: u32 = 2;
 
 const FIRST_CHECKS: usize = 19;
+
+// The place of the words behind the cells, of all pools.
+const LEFTOVER: usize = 22;
 
 // A trial of a marker.
 pub fn count_trial(t: &mut Totals, marker: u32, agreed: bool, more: u32, checks: u32) {

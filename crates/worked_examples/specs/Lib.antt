@@ -1,3 +1,2 @@
 pub mod CheckedPools
 pub mod Table
-pub mod Instances

@@ -1,12 +1,13 @@
--- The starred cases of document 01 ("Strips flown on paper"), those that 02 names and examples of its S-5, as one table, and the sentence that every case of it
--- holds.
+-- The starred cases of document 01 ("Strips flown on paper") and its lengths, those that 02 names, and examples of its S-5 and S-6, as one table, and the sentence
+-- that every case of it holds.
 use Prim.Native.Nat.{ℕ}
 use mathlib.Core.Path.{_≡_}
 use mathlib.Core.List.{List, [], _∷_, _++_}
 use lib.ListN.{replicate}
 use Rattle.leb128.specs.Leb128.{encode}
 use Rattle.pool.specs.Layout.{registerCount, poolLength}
-use Rattle.answers.specs.Outcome.{answered}
+use Rattle.pool.specs.Fresh.{freshOf}
+use Rattle.answers.specs.Outcome.{answered, refused}
 use Rattle.occupancy.specs.Occupancy.{occupancyOf}
 use Rattle.collector.specs.Collect.{collectOf}
 use Rattle.stack_algorithm.specs.CheckExample.{treeLinks, equalLinks, vainLinks, orderLinks, elevenLinks}
@@ -19,7 +20,8 @@ use Rattle.worked_examples.specs.CheckedPools.{poolFrom, combLinks, twoC
 
 -- A case: the bytes of a number; bytes, and what the check of them as an image for a pool of one cell answers; a pool, and what its collection keeps and
 -- visits; a pool and a number of stack words, and what the collection with them keeps, whether they are enough (1) or not (0), and how many checks run; a number of
--- cells, and what the builder of the worst case for the stack answers; and what percent of n cells is kept.
+-- cells, and what the builder of the worst case for the stack answers; what percent of n cells is kept; a number of words, and how many cells fresh makes of them
+-- and how many words are left over; and a number of words of which it makes no pool.
 pub data Case : Type 0 where
   number : ℕ → List ℕ → Case
   checked : List ℕ → ℕ → Case
@@ -27,6 +29,8 @@ pub data Case : Type 0 where
   stack : List ℕ → ℕ → ℕ → ℕ → ℕ → Case
   entries : ℕ → ℕ → Case
   percent : ℕ → ℕ → ℕ → Case
+  cells : ℕ → ℕ → ℕ → Case
+  noPool : ℕ → Case
 
 -- What a case claims, by the definitions that the contracts cite.
 abbrev pub Holds : Case → Type 0
@@ -36,6 +40,8 @@ Holds (collection w kept visits) = (collectOf w) .0 ≡ answered (kept ∷ visit
 Holds (stack w size kept enough checks) = (stackOf w (replicate size 0)) .0 ≡ answered (kept ∷ enough ∷ checks ∷ [])
 Holds (entries n most) = (worstCaseOf (replicate (poolLength registerCount n) 9)) .0 ≡ answered (most ∷ [])
 Holds (percent kept n p) = occupancyOf kept n ≡ answered (p ∷ [])
+Holds (cells words n e) = (freshOf (replicate words 9)) .0 ≡ answered (n ∷ e ∷ [])
+Holds (noPool words) = (freshOf (replicate words 9)) .0 ≡ refused 1
 
 -- A pool of one used cell that is linked to itself, with register 0 leading to it.
 abbrev pub selfLinked : List ℕ
@@ -93,6 +99,17 @@ table =
     ∷ stack (poolFrom 1 0 elevenLinks) 2 11 1 2
     -- "Gauge 1 of 3: 33"
     ∷ percent 1 3 33
+    -- "Length 18: refused 1; 22: N = 1; 16,018: N = 4,000; 16,022: refused 1", and 02, S-6: "The length may now be 18 + 4 × N + e, with e from 0 to 3"
+    ∷ noPool 18
+    ∷ noPool 21
+    ∷ cells 22 1 0
+    ∷ cells 23 1 1
+    ∷ cells 24 1 2
+    ∷ cells 25 1 3
+    ∷ cells 26 2 0
+    ∷ cells 16018 4000 0
+    ∷ cells 16021 4000 3
+    ∷ noPool 16022
     ∷ []
 
 -- Every case of a list holds.

@@ -1,5 +1,5 @@
-// Tries the examples of the customer's scope that are not in the table of theorems, and what its last section warns of, and prints each with its
-// result. (The table is specs/Table.antt.)
+// Tries the examples of the customer's scope that have no star, and what its last section warns of, and prints each with its result. (Those with a star are
+// the table of theorems, specs/Table.antt.)
 use answers::Answer;
 use libc::STDOUT_FILENO;
 use pool::Pool;
@@ -45,25 +45,23 @@ fn print(line: &[u8], end: usize) {
     }
 }
 
-// N is taken from the length alone.
-fn fresh_of_18() {
-    let mut words = [0u32; 18];
-    show(b"fresh of 18 words: ", Pool::fresh(&mut words));
+// Fresh of so many of the words.
+fn fresh_of(label: &[u8], words: &mut [u32], len: usize) {
+    if len <= words.len() {
+        show(label, Pool::fresh(&mut words[..len]));
+    }
 }
 
-fn fresh_of_22() {
-    let mut words = [0u32; 22];
-    show(b"fresh of 22 words: ", Pool::fresh(&mut words));
-}
-
-fn fresh_of_16018() {
-    let mut words = [0u32; 16018];
-    show(b"fresh of 16018 words: ", Pool::fresh(&mut words));
-}
-
-fn fresh_of_16022() {
-    let mut words = [0u32; 16022];
-    show(b"fresh of 16022 words: ", Pool::fresh(&mut words));
+// N, and how many words are left over, come from the length alone.
+fn lengths() {
+    let mut words = [9u32; 16022];
+    fresh_of(b"fresh of 18 words: ", &mut words, 18);
+    fresh_of(b"fresh of 21 words: ", &mut words, 21);
+    fresh_of(b"fresh of 22 words: ", &mut words, 22);
+    fresh_of(b"fresh of 25 words: ", &mut words, 25);
+    fresh_of(b"fresh of 16018 words: ", &mut words, 16018);
+    fresh_of(b"fresh of 16021 words: ", &mut words, 16021);
+    fresh_of(b"fresh of 16022 words: ", &mut words, 16022);
 }
 
 // Puts a chain of five cells, each with both links to the next, into a fresh pool of five; register 0 leads to it.
@@ -194,10 +192,7 @@ fn old_content_is_a_root() {
 }
 
 fn main() {
-    fresh_of_18();
-    fresh_of_22();
-    fresh_of_16018();
-    fresh_of_16022();
+    lengths();
     equal_links();
     both_links_are_read();
     links_after_falling_back();

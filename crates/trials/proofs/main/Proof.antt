@@ -8,7 +8,7 @@ use Rattle.trials.proofs.main.Statement.{statement}
 use Rattle.trials.proofs.main.Tie as tie
 
 abbrev Inv-loop : tie.InvT-loop
-Inv-loop words₀ after₀ stack₀ t₀ number₀ t8 words after stack t number = (number ≤ 21840) × (length words ≡ 16018) × (length after ≡ 16018) × (length stack ≡ 4000)
+Inv-loop words₀ after₀ stack₀ t₀ number₀ t8 words after stack t number = (number ≤ 21840) × (length words ≡ 16021) × (length after ≡ 16021) × (length stack ≡ 4000)
 
 abbrev μ-loop : tie.MeasureT-loop
 μ-loop words₀ after₀ stack₀ t₀ number₀ t8 words after stack t number = number
@@ -20,7 +20,7 @@ mul-number-2 : tie.Need-mul-number-2 Inv-loop μ-loop
 mul-number-2 c = search needs
 
 loop-holds : tie.Need-loop-holds Inv-loop μ-loop
-loop-holds c = (omega arith, length-replicate {A = ℕ} 16018 0, length-replicate {A = ℕ} 16018 0, length-replicate {A = ℕ} 4000 0)
+loop-holds c = (omega arith, length-replicate {A = ℕ} 16021 0, length-replicate {A = ℕ} 16021 0, length-replicate {A = ℕ} 4000 0)
 
 sub-number : tie.Need-sub-number Inv-loop μ-loop
 sub-number c = search needs

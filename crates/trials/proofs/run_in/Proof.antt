@@ -16,6 +16,12 @@ mul-end c = search needs
 add-end : tie.Need-add-end
 add-end c = search needs
 
+cast-end-2 : tie.Need-cast-end-2
+cast-end-2 c = search needs
+
+add-end-2 : tie.Need-add-end-2
+add-end-2 c = search needs
+
 stack-words-requires : tie.Need-stack-words-requires
 stack-words-requires c κs = search needs
 
@@ -40,9 +46,9 @@ slice-aggregate-run-3 c = sym (length-take-le _ _ (omega arith))
 run-requires : tie.Need-run-requires
 run-requires c κs =
     let at-struct-known = c .before .before .before .before in
-    let at-start = at-struct-known .before .before .before .before in
+    let at-start = at-struct-known .before .before .before .before .before in
     let a = at-start .args in
-    (omega arith, omega (arith, length-take-le (18 + 4 * a .trial .n) (a .after .now) (omega arith)))
+    (omega arith, omega (arith, length-take-le (18 + 4 * a .trial .n + a .trial .leftover) (a .after .now) (omega arith)))
 
 same-length : tie.Need-same-length
 same-length c = search needs
@@ -63,6 +69,8 @@ run-in-spec =
     cast-end
     mul-end
     add-end
+    cast-end-2
+    add-end-2
     stack-words-requires
     slice-relend-prefix-run
     slice-aggregate-run

@@ -12,6 +12,12 @@ cell-count-of-length-requires c κs = search needs
 returns : tie.Need-returns
 returns c = simp (← c .before .cell-count-of-length .ensures, c .if1 .taken)
 
+sub-leftover : tie.Need-sub-leftover
+sub-leftover c = omega (arith, counted-sized _ _ (c .before .cell-count-of-length .ensures) (c .if1 .left) .room)
+
+cast-leftover : tie.Need-cast-leftover
+cast-leftover c = search needs
+
 blank-requires : tie.Need-blank-requires
 blank-requires c κs = counted-sized _ _ (c .before .before .cell-count-of-length .ensures) (c .before .if1 .left) .room
 
@@ -38,6 +44,8 @@ fresh-spec =
     (tie.spec
     cell-count-of-length-requires
     returns
+    sub-leftover
+    cast-leftover
     blank-requires
     sweep-requires
     same-length

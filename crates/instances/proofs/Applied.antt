@@ -13,6 +13,7 @@ use Rattle.pool.specs.Layout.{registerCount}
 use Rattle.answers.specs.Outcome.{answered}
 use Rattle.pool.specs.Retain.{freshWords}
 use Rattle.pool.proofs.RetainedPool.{retained-free-list}
+use Rattle.pool.proofs.Sizes.{lengths-of-pools, leftover-count}
 use Rattle.pool.proofs.FreshPool.{fresh-is-free}
 use Rattle.questions.proofs.FreshPool.{fresh-is-well-formed}
 use Rattle.reversal.specs.Reached.{isReached, visitsOf}
@@ -45,14 +46,17 @@ use Rattle.reference.proofs.RunEquivalence.{run-equivalence}
 use Rattle.load.proofs.Theorems.{check-is-load, load-is-well-formed}
 use Rattle.image.proofs.Images.{reads-image-bytes, one-image}
 use Rattle.save.proofs.RoundTrip.{load-then-save, save-then-load}
+use Rattle.leftovers.specs.Leftovers as leftovers
+use Rattle.leftovers.proofs.Stay.{leftovers-stay}
+use Rattle.leftovers.proofs.Unseen.{leftovers-unseen}
 use Rattle.script.specs.declared.Line.the-variants as line
 use Rattle.script.specs.Reader.{newReader}
 use Rattle.script.proofs.Scanning.{parts-read}
 use Rattle.replies.proofs.Decimals.{decimals-read-back, fewest-digits}
 use Rattle.runner.specs.Work.{initial}
 use Rattle.runner.proofs.Whole.{starts-whole, parts-join, last-line-ends}
-use Rattle.worked_examples.specs.Instances.{around, three, threeCollected, two, graph, roots, twoRuns, Swapped, image, twoCells, words, scratch, output, calls, list, lent, lentForFive, out, padded, lines, progress, largest}
-use Rattle.worked_examples.proofs.Instances.{pool-instance, reversal-instance, runs-instance, graph-instance, number-instance, image-instance, check-instance, worst-case-instance, batch-instance, script-instance}
+use Rattle.instances.specs.Instances.{around, three, threeCollected, two, graph, roots, twoRuns, Swapped, image, twoCells, words, scratch, output, calls, list, lent, lentForFive, behind, longer, out, padded, lines, progress, largest}
+use Rattle.instances.proofs.Instances.{pool-instance, reversal-instance, runs-instance, graph-instance, number-instance, image-instance, check-instance, worst-case-instance, leftover-instance, batch-instance, script-instance}
 
 pub applied : Unit {0}
 unfolding visitsOf
@@ -63,6 +67,7 @@ applied =
     let g = graph-instance in
     let k = number-instance in
     let i = image-instance in
+    let l = leftover-instance in
     let b = batch-instance in
     let s = script-instance in
     let h = check-instance in
@@ -74,11 +79,16 @@ applied =
     let t = followed-once registerCount 3 twoRuns (v .room) (v .well-formed) (v .last) (v .runs) in
     let t = followed-count registerCount 3 twoRuns (v .room) (v .well-formed) (v .last) (v .runs) in
     let t = retained-free-list registerCount 3 (isReached registerCount 3 three) three (p .some) (p .room) in
-    let t = fresh-is-well-formed 3 lent (p .some) (p .most) (b .exact) in
+    let t = lengths-of-pools registerCount 3 2 32 .0 (l .fits) in
+    let t = fresh-is-well-formed 3 2 longer (l .fits) in
     let t = fresh-is-free 3 lent (p .some) (omega arith) in
-    let t = equivalence 3 2 lent calls (p .some) (p .most) (b .exact) in
-    let t = equivalence-at-limit 3 lent calls (p .some) (p .most) (b .exact) in
-    let t = reached-pools 3 lent calls (p .some) (p .most) (b .exact) in
+    let t = equivalence 3 2 2 longer calls (l .fits) in
+    let t = equivalence 3 0 2 lent calls (l .exact) in
+    let t = equivalence-at-limit 3 2 longer calls (l .fits) in
+    let t = reached-pools 3 2 longer calls (l .fits) in
+    let t = leftovers-stay (leftovers.call call.Collect) (three ++ behind) in
+    let t = leftovers-unseen (three ++ behind) in
+    let t = leftover-count registerCount 3 2 longer (l .fits) in
     let visits = run-from-link registerCount 3 (graph three) (outside 3) 1 (1 ∷ 2 ∷ []) three (r .agreement) (r .dfs) (r .unmarked) 4 0 in
     let t = run-follows registerCount 3 (graph three) (outside 3) 1 (2 ∷ []) 0 three (6, markAll registerCount three (1 ∷ 2 ∷ [])) (r .agreement) (r .dfs) (6, 1, visits) in
     let t = visit-is-by-case registerCount 3 (marker 1 4 0, three) (r .visitable) in
@@ -123,16 +133,16 @@ applied =
     let t = reads-encodings around 1 300 3 (k .bytes) .0 (k .read) in
     let t = reads-encodings around 1 300 3 (k .bytes) .1 (k .encoded) in
     let t = decimals-read-back 4294967295 (k .largest) in
-    let t = check-is-load 2 image words (i .size) in
+    let t = check-is-load 2 0 image words (omega arith) (i .size) in
     let t = load-is-well-formed words image (i .accepted) in
     let t = save-then-load three scratch output 24 (replicate 6 0) (image ++ 9 ∷ 9 ∷ []) words (i .words32) (i .saved) (i .target) (i .fit) in
     let t = load-then-save words image twoCells 24 (i .bytes) (i .target) (i .read) (i .ordered) scratch output (i .room) in
     let t = reads-image-bytes registerCount _ image twoCells 24 (i .bytes) (i .read) in
     let t = one-image registerCount _ 3 image (image ++ 9 ∷ 9 ∷ []) twoCells 24 24 (i .bytes) (i .other-bytes) (i .read) (i .other-read) in
-    let t = runs-one-after-the-other list calls (freshWords registerCount 3 lent) out (b .program) (b .room) in
-    let t = run-equivalence 3 2 lent list out calls (p .some) (p .most) (b .exact) (b .program) (b .room) in
-    let t = never-malformed 3 lent calls (p .some) (p .most) (b .exact) (answered (1 ∷ 3 ∷ [])) (b .answer) in
-    let t = refused-when-full 3 lent calls 0 0 0 7 (p .some) (p .most) (b .exact) refl in
+    let t = runs-one-after-the-other list calls (freshWords registerCount 3 longer) out (b .program) (b .room) in
+    let t = run-equivalence 3 2 2 longer list out calls (l .fits) (b .program) (b .room) in
+    let t = never-malformed 3 2 longer calls (l .fits) (answered (1 ∷ 3 ∷ [])) (b .answer) in
+    let t = refused-when-full 3 2 longer calls 0 0 0 7 (l .fits) refl in
     let t = fewest-digits padded (s .some) (s .digits) in
     let t = parts-read newReader lines [] 0 .line (line.Run call.Collect) 2 (s .ended) in
     let t = parts-read newReader lines [] 2 .more (progress .reader) (s .more) in

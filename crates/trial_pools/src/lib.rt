@@ -1,5 +1,4 @@
 // Pseudo-random pools: each word is computed from the seed, the number of cells and its place, so the same seed gives the same pool.
-use crate::words;
 ghost use Prim.Native.Nat.{_≤_};
 
 // The shapes of a pool: the seed's lowest three bits. Shape 1 has no name: any links.
@@ -39,6 +38,20 @@ pub fn cells_of(seed: u32) -> u32
         67 => 1000,
         68 => 4000,
         k => 1 + k % 64,
+    }
+}
+
+// The number of words behind the cells, from 0 to 3.
+pub fn leftover_of(seed: u32) -> u32
+    ensures { λ r. ⌜ r ≤ 3 ⌝ }
+{
+    draw(seed, 9002) % 4
+}
+
+// Stores a word, where there is that place.
+pub fn put(words: &mut [u32], k: usize, v: u32) {
+    if k < words.len() {
+        words[k] = v;
     }
 }
 
@@ -98,8 +111,11 @@ fn link(n: u32, seed: u32, i: u32, field: u32, x: u32) -> u32 {
     }
 }
 
-// A word of a cell. The links and the value of a free cell are any numbers.
+// A word of a cell. The links and the value of a free cell are any numbers, and so are words past the last cell.
 fn cell_word(n: u32, seed: u32, i: u32, field: u32, x: u32) -> u32 {
+    if n < i {
+        return x;
+    }
     let used = is_used(n, seed, i);
     match field {
         0 => { if used { 0 } else { 4 } }
@@ -114,7 +130,8 @@ fn cell_word(n: u32, seed: u32, i: u32, field: u32, x: u32) -> u32 {
     }
 }
 
-// The word at a place: the number of cells, any number for the head, the registers, the cells, which begin at word 18 and have four words each.
+// The word at a place: the number of cells, any number for the head, the registers, the cells, which begin at word 18 and have four words each, and any numbers
+// behind them.
 fn word(n: u32, seed: u32, k: u32) -> u32 {
     let x = draw(seed, std::num::wrapping_add_u32(4096, k));
     if k == 0 {
@@ -129,14 +146,14 @@ fn word(n: u32, seed: u32, k: u32) -> u32 {
     cell_word(n, seed, (k - 18) / 4 + 1, (k - 18) % 4, x)
 }
 
-// Makes the words a well-formed pool of n cells.
+// Makes the words a well-formed pool of n cells, with up to three words behind them.
 pub fn fill(words: &mut [u32], n: u32, seed: u32)
     requires { ⌜ n ≤ 4000 ⌝ }
 {
-    let mut k = 18 + 4 * n;
+    let mut k = 21 + 4 * n;
     while 0 < k {
         k -= 1;
-        words::put(words, k as usize, word(n, seed, k));
+        put(words, k as usize, word(n, seed, k));
     }
 }
 
@@ -169,5 +186,5 @@ pub fn damage(words: &mut [u32], n: u32, seed: u32) {
     let i = any_cell(n, draw(seed, 9001));
     let place = damaged_place(n, seed, i, x);
     let word = damaged_word(n, seed, i, x);
-    words::put(words, place, word);
+    put(words, place, word);
 }

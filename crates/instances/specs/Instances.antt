@@ -14,7 +14,9 @@ use Rattle.graph.specs.Compare.{Agree, Paired, OneToOne}
 use Rattle.pool.specs.Words.{tabulate}
 use Rattle.pool.specs.Layout.{registerCount, cellLimit, poolLength, cellCountOfLength, cellCount, graphOf, rootsOf}
 use Rattle.questions.specs.Validity.{wellFormed}
+use Rattle.pool.specs.Lengths.{LengthOf}
 use Rattle.pool.specs.Retain.{freshWords}
+use Rattle.pool.specs.Fresh.{freshOf}
 use Rattle.answers.specs.Outcome.{answered}
 use Rattle.reversal.specs.Reached.{reachedCells, reachedCount}
 use Rattle.collector.specs.Collect.{collectOf}
@@ -71,11 +73,10 @@ graph = graphOf registerCount
 abbrev pub roots : List ℕ → List ℕ
 roots = rootsOf registerCount
 
--- `CollectionKeepsTheReached`, `CollectionMarksAndSweeps`, `RunOverPool`, `RetainedFreeList`, `StackCollects`; and `FreshIsWellFormed`,
--- `FreshIsFree`, `Equivalence`, `EquivalenceAtLimit` and `ReachedPools`, which ask for no more than a number of cells. (`ChainNeeds` asks for nothing.)
+-- `CollectionKeepsTheReached`, `CollectionMarksAndSweeps`, `RunOverPool`, `RetainedFreeList` and `StackCollects`; and `FreshIsFree`, which asks for no more
+-- than a number of cells and room for them. (`ChainNeeds` asks for nothing.)
 pub record PoolInstance : Type 0 where
   pub some : 0 < 3
-  pub most : 3 ≤ cellLimit
   pub room : poolLength registerCount 3 ≤ length three
   pub cells : cellCount registerCount three ≡ 3
   pub well-formed : wellFormed registerCount 3 three ≡ true
@@ -193,7 +194,7 @@ output = replicate 26 9
 -- The theorems of load and save.
 pub record ImageInstance : Type 0 where
   -- `CheckIsLoad`, `LoadIsWellFormed`: the image is accepted
-  pub size : length words ≡ poolLength registerCount 2
+  pub size : length words ≡ poolLength registerCount 2 + 0
   pub accepted : loadOf words image .0 .verdict ≡ 0
   pub loaded : loadOf words image .1 ≡ (2 ∷ 0 ∷ 1 ∷ []) ++ replicate 15 0 ++ (0 ∷ 2 ∷ 2 ∷ 300 ∷ []) ++ (0 ∷ 1 ∷ 0 ∷ 8 ∷ [])
   -- `SaveThenLoad`: both pools are saved as that image, and the two bytes behind it stay
@@ -259,14 +260,31 @@ pub record WorstCaseInstance : Type 0 where
   pub one-less : length {A = ℕ} (9 ∷ []) + 1 ≡ (cellCountOfLength registerCount (length lentForFive) - 1) / 2
   pub checked : stackOf fivePool (9 ∷ []) ≡ (answered (5 ∷ 1 ∷ 1 ∷ []), fivePool, 0 ∷ [])
 
--- `RunsOneAfterTheOther`, `RunEquivalence` and `NeverMalformed`.
+-- Words for the same pool, and two behind its cells.
+abbrev pub behind : List ℕ
+behind = 7 ∷ 8 ∷ []
+
+abbrev pub longer : List ℕ
+longer = lent ++ behind
+
+-- `FreshIsWellFormed`, `Equivalence`, `EquivalenceAtLimit`, `NeverMalformed`, `ReachedPools` and `RefusedWhenFull`, which ask for no more than a length of a pool;
+-- `LengthsOfPools`, `LeftoverCount`, `LeftoversStay` and `LeftoversUnseen`: with two words behind the cells, and with none.
+pub record LeftoverInstance : Type 0 where
+  pub fits : LengthOf registerCount 3 2 (length longer)
+  pub exact : LengthOf registerCount 3 0 (length lent)
+  pub fresh : freshOf longer ≡ (answered (3 ∷ 2 ∷ []), freshWords registerCount 3 lent ++ behind)
+  pub built : worstCaseOf longer ≡ (answered (1 ∷ []), worstOfThree ++ behind)
+  pub collected : collectOf (three ++ behind) ≡ (answered (2 ∷ 6 ∷ []), threeCollected ++ behind)
+  pub saved : saveOf (three ++ behind) scratch output ≡ (answered (24 ∷ []), replicate 6 0, image ++ 9 ∷ 9 ∷ [])
+  pub loaded : loadOf (words ++ behind) image ≡ (loadOf words image .0, loadOf words image .1 ++ behind)
+
+-- `RunsOneAfterTheOther` and `RunEquivalence`, and what `NeverMalformed` asks for of an answer.
 pub record BatchInstance : Type 0 where
-  pub exact : length lent ≡ poolLength registerCount 3
   pub program : programOf list ≡ programOfCalls calls
   pub room : 3 * length calls ≤ length out
-  pub run : runOf list (freshWords registerCount 3 lent) out
-      ≡ (ran.All 2, afterAll calls (freshWords registerCount 3 lent), 0 ∷ 0 ∷ 0 ∷ 0 ∷ 1 ∷ 3 ∷ 5 ∷ [])
-  pub answer : List·Memᴰ (answered (1 ∷ 3 ∷ [])) (poolAnswers calls (freshWords registerCount 3 lent))
+  pub run : runOf list (freshWords registerCount 3 longer) out
+      ≡ (ran.All 2, afterAll calls (freshWords registerCount 3 longer), 0 ∷ 0 ∷ 0 ∷ 0 ∷ 1 ∷ 3 ∷ 5 ∷ [])
+  pub answer : List·Memᴰ (answered (1 ∷ 3 ∷ [])) (poolAnswers calls (freshWords registerCount 3 longer))
 
 -- Three digits; two lines, the second without its line feed; the progress where both are read; and words for the largest pool.
 abbrev pub padded : List ℕ

@@ -1,13 +1,13 @@
--- `trials::generate::fill` is safe and ends. The measure is the number of words that are left.
+-- `trial_pools::fill` is safe and ends. The measure is the number of words that are left.
 use borrow.Author.Needs.{needs}
 use Prim.Native.Nat.{_≤_}
 use mathlib.Core.Path.{_≡_}
 use lib.ListN.{length}
-use Rattle.trials.proofs.generate.fill.Statement.{statement}
-use Rattle.trials.proofs.generate.fill.Tie as tie
+use Rattle.trial_pools.proofs.fill.Statement.{statement}
+use Rattle.trial_pools.proofs.fill.Tie as tie
 
 abbrev Inv-loop : tie.InvT-loop
-Inv-loop words₀ n seed k₀ words k = (k ≤ 16018) × (length words ≡ length words₀)
+Inv-loop words₀ n seed k₀ words k = (k ≤ 16021) × (length words ≡ length words₀)
 
 abbrev μ-loop : tie.MeasureT-loop
 μ-loop words₀ n seed k₀ words k = k

@@ -43,7 +43,7 @@ use Rattle.script.specs.Lines.{all, command}
 use Rattle.script.specs.Reader.{spaceOf, letterOf, digitOf, feedOf, endOf, begunOf}
 use Rattle.replies.specs.Replies.{digits, decimal}
 use Rattle.script.specs.Scripts.{nextLine}
-use Rattle.worked_examples.specs.Instances.{three, threeCollected, two, graph, roots, twoRuns, Swapped, around, image, PoolInstance, ReversalInstance, RunsInstance, GraphInstance, NumberInstance, ImageInstance, CheckInstance, WorstCaseInstance, BatchInstance, ScriptInstance}
+use Rattle.instances.specs.Instances.{three, threeCollected, two, graph, roots, twoRuns, Swapped, around, image, PoolInstance, ReversalInstance, RunsInstance, GraphInstance, NumberInstance, ImageInstance, CheckInstance, WorstCaseInstance, LeftoverInstance, BatchInstance, ScriptInstance}
 use Rattle.reversal.specs.Reached.{visitsOf}
 
 -- Every element of a list that is tested whole is below a bound.
@@ -73,7 +73,7 @@ apart (List·Memᴰ·tail (List·Memᴰ·head e)) = omega arith
 pub pool-instance : PoolInstance
 unfolding elem visit visits preorder visitsOf tabulate every cellCountOfLength count setCount cellCount head register cell setCell lowestFree retain limited limitedRuns
 pool-instance =
-    record { some = omega arith; most = omega arith; room = omega arith; cells = refl; well-formed = refl; answer = refl; full = refl; stack = refl; no-stack = refl }
+    record { some = omega arith; room = omega arith; cells = refl; well-formed = refl; answer = refl; full = refl; stack = refl; no-stack = refl }
 
 -- The three cells are as the graph has them.
 untouched : (x : ℕ) → 0 < x → x ≤ 3 → Untouched registerCount 3 (graph three) three x
@@ -287,9 +287,22 @@ worst-case-instance =
       checked = refl;
     }
 
+pub leftover-instance : LeftoverInstance
+unfolding elem visit visits preorder visitsOf groups encode readFurther readGroups readAt tabulate every cellCountOfLength count setCount cellCount register setRegister cell setCell lowestFree retain placeFrom flatMap readEach readImage putEach putComb
+leftover-instance =
+    record {
+      fits = record { least = omega arith; most = omega arith; few = omega arith; sum = refl };
+      exact = record { least = omega arith; most = omega arith; few = omega arith; sum = refl };
+      fresh = refl;
+      built = refl;
+      collected = refl;
+      saved = refl;
+      loaded = refl;
+    }
+
 pub batch-instance : BatchInstance
 unfolding elem visit visits preorder visitsOf tabulate every cellCountOfLength count setCount cellCount head setHead register setRegister cell setCell lowestFree retain programOf programOfCalls runFrom afterAll poolAnswers
-batch-instance = record { exact = refl; program = refl; room = omega arith; run = refl; answer = List·Memᴰ·tail (List·Memᴰ·head refl) }
+batch-instance = record { program = refl; room = omega arith; run = refl; answer = List·Memᴰ·tail (List·Memᴰ·head refl) }
 
 pub script-instance : ScriptInstance
 unfolding all command spaceOf letterOf digitOf feedOf endOf begunOf digits decimal nextLine

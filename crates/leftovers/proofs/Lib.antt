@@ -1,0 +1,4 @@
+pub mod Stay
+pub mod Longer
+pub mod Bodies
+pub mod Unseen
