@@ -7,7 +7,7 @@ use mathlib.Core.List.{List, [], _∷_, _++_}
 use mathlib.Core.Bool.{Bool, true, false, cond, _&&_}
 use lib.ListN.{length}
 use lib.Dec.{eqb}
-use borrow.Author.Tests.{lt-leb, eqb-false}
+use borrow.Author.Tests.{lt-leb}
 use Rattle.answers.specs.Outcome.{Outcome, answered, allocated, refused}
 use Rattle.pool.specs.Layout.{registerCount, poolLength, head, setHead, register, setRegister, cell, setCell, putCell, left}
 use Rattle.pool.specs.States.{usedState}
@@ -29,6 +29,7 @@ use Rattle.operations.proofs.Bodies.{cell-there}
 use Rattle.calls.specs.declared.Call.{Call}
 use Rattle.calls.specs.declared.Call.the-variants as call
 use Rattle.calls.specs.Calls.{registersOf, bodyOf}
+use Rattle.leftovers.proofs.Stay.{above}
 use Rattle.leftovers.proofs.Longer.{head-longer, register-longer, cell-longer, link-longer, well-formed-longer, reached-longer, set-cell-longer, set-head-longer, set-register-longer, collected-longer, put-cell-longer}
 
 -- Of two tests that are the same, what holds of both ways holds.
@@ -129,9 +130,6 @@ module _ (n : ℕ) (u t : List ℕ) (long : length u ≡ poolLength registerCoun
       go (yes high) =
           rw (same, cell-longer registerCount n u t long some (head u) 0 high (omega arith), cell-longer registerCount n u t long some (head u) 1 high (omega arith)) refl
       go (no past) = rw (same, lt-leb (head u) n (omega arith)) refl
-
-above : (x : ℕ) → eqb x 0 ≡ false → 0 < x
-above x other = let apart = eqb-false x 0 other in omega (arith, apart)
 
 module _ (n : ℕ) (u t : List ℕ) (long : length u ≡ poolLength registerCount n) (some : 0 < n) where
   take-collected-longer : (r x y v : ℕ) → r < registerCount

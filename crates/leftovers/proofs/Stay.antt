@@ -48,6 +48,10 @@ either P false a b = b refl
 abbrev Same : ℕ → List ℕ → Outcome × List ℕ → Type 0
 Same n w x = SameBehind registerCount n w (x .1)
 
+-- A number that is not 0 is above it.
+pub above : (x : ℕ) → eqb x 0 ≡ false → 0 < x
+above x other = let apart = eqb-false x 0 other in omega (arith, apart)
+
 -- The head cell is taken.
 take-stays : (n : ℕ) (w : List ℕ) (r x y v : ℕ) → 0 < head w → head w ≤ n → r < registerCount → SameBehind registerCount n w (take w r x y v)
 take-stays n w r x y v some top low =
@@ -80,9 +84,6 @@ module _ (n : ℕ) (w : List ℕ) (sized : Sized registerCount (length w) n) whe
   link-stays : (field a b : ℕ) → field < 4 → Same n w (linkIn n w field a b)
   link-stays field a b few =
       either (Same n w) (holdsLink n w b) (λ e. with-cell-stays a _ λ x some top. behind-setCell registerCount n w x field _ some top few) (λ e. nothing)
-
-  above : (x : ℕ) → eqb x 0 ≡ false → 0 < x
-  above x other = let apart = eqb-false x 0 other in omega (arith, apart)
 
   take-collected-stays : (r x y v : ℕ) → r < registerCount → Same n w (takeCollected n w r x y v)
   take-collected-stays r x y v low =
