@@ -1,5 +1,5 @@
 -- Every call does with words behind the cells what it does without them: its body, on the words u of n cells and t behind them.
-use Prim.Native.Nat.{ℕ, _+_, _<_, _≤_}
+use Prim.Native.Nat.{ℕ, _<_, _≤_}
 use native.Mathlib.Omega.{arith}
 use native.Mathlib.Decide.{decLe}
 use mathlib.Core.Path.{_≡_, refl, sym, ap, ap₂, subst, _∙_}
@@ -29,7 +29,7 @@ use Rattle.operations.proofs.Bodies.{cell-there}
 use Rattle.calls.specs.declared.Call.{Call}
 use Rattle.calls.specs.declared.Call.the-variants as call
 use Rattle.calls.specs.Calls.{registersOf, bodyOf}
-use Rattle.leftovers.proofs.Stay.{above}
+use Rattle.leftovers.proofs.Lengths.{above}
 use Rattle.leftovers.proofs.Longer.{head-longer, register-longer, cell-longer, link-longer, well-formed-longer, reached-longer, set-cell-longer, set-head-longer, set-register-longer, collected-longer, put-cell-longer}
 
 -- Of two tests that are the same, what holds of both ways holds.

@@ -1,4 +1,5 @@
-pub mod Stay
+pub mod Lengths
 pub mod Longer
 pub mod Bodies
 pub mod Unseen
+pub mod Stay

@@ -41,8 +41,7 @@ use Rattle.image.proofs.Images.{image-read, image-few, image-registers}
 use Rattle.load.specs.Load.{loadImage, loadOf}
 use Rattle.save.specs.Save.{saveImage, saveIn, saveOf}
 use Rattle.leftovers.specs.Leftovers.{withoutLeftover, andBehind, andBehindFirst, AsWithout, LeftoversUnseen}
-use Rattle.leftovers.specs.Leftovers as leftovers
-use Rattle.leftovers.proofs.Stay.{leftovers-stay}
+use Rattle.leftovers.proofs.Lengths.{call-length}
 use Rattle.leftovers.proofs.Longer.{count-longer, well-formed-longer, roots-longer, agree, reached-longer, image-longer, collected-longer, fresh-longer, worst-case-longer, loaded-longer}
 use Rattle.leftovers.proofs.Bodies.{same-test, Behind, collect-longer, body-longer}
 
@@ -255,7 +254,7 @@ module _ (w : List ℕ) where
         save = save-longer n short tail fits few;
         run = λ list out.
             run-behind tail (λ u. LengthOf registerCount n 0 (length u))
-            (λ u q c. (call-longer n u tail q few c, rw (leftovers-stay (leftovers.call c) u .0) q))
+            (λ u q c. (call-longer n u tail q few c, rw (call-length u c) q))
             0 (programOf list) short out fits;
       }
 

@@ -1,5 +1,5 @@
 -- The words that load leaves, read: registers, links and values of the image, the free list, and that they are well-formed.
-use Prim.Native.Nat.{ℕ, zero, suc, _-_, _<_, _≤_}
+use Prim.Native.Nat.{ℕ, zero, suc, _<_, _≤_}
 use native.Mathlib.Omega.{arith}
 use mathlib.Core.Path.{_≡_, refl, sym, _∙_}
 use mathlib.Core.List.{List}
@@ -10,7 +10,6 @@ use Rattle.pool.specs.Layout.{poolLength, cellCountOfLength, cellCount, count, 
 use Rattle.pool.specs.Retain.{freeList, freeCells, blankWords}
 use Rattle.pool.proofs.Sizes.{same-count}
 use Rattle.pool.proofs.Retained.{length-retain, retain-count, retain-register}
-use Rattle.pool.proofs.Leftover.{SameBehind, behind-then, behind-retain}
 use Rattle.questions.proofs.RetainedPool.{Kept, retained-well-formed}
 use Rattle.pool.proofs.RetainedPool.{retained-same, retained-free-list}
 use Rattle.questions.proofs.WellFormed.{WellFormed}
@@ -35,8 +34,8 @@ module _ (R m : ℕ) (i : Image) (few : length (i .cells) ≤ m) (all : length (
   room : poolLength R m ≤ length held
   room = omega (arith, holds .len)
 
-  pub loaded-behind : SameBehind R m w (loadedWords R m i w)
-  loaded-behind = behind-then R m (record { len = holds .len; words = holds .behind }) (behind-retain R m held room (λ j. leb j K))
+  pub loaded-length : length (loadedWords R m i w) ≡ length w
+  loaded-length = length-retain R m (λ j. leb j K) held ∙ holds .len
 
   pub loaded-register : (k : ℕ) → k < R → register (loadedWords R m i w) k ≡ getD (i .registers) k 0
   loaded-register k low = retain-register R m (λ j. leb j K) held room k low ∙ holds .registers k low
@@ -49,8 +48,7 @@ module _ (R m : ℕ) (i : Image) (few : length (i .cells) ≤ m) (all : length (
   pub loaded-cells : cellCountOfLength R (length w) ≡ m → cellCount R (loadedWords R m i w) ≡ m
   unfolding count
   loaded-cells counted =
-      let same : length (loadedWords R m i w) ≡ length w = length-retain R m (λ j. leb j K) held ∙ holds .len in
-      let cells : cellCountOfLength R (length (loadedWords R m i w)) ≡ m = rw same counted in
+      let cells : cellCountOfLength R (length (loadedWords R m i w)) ≡ m = rw loaded-length counted in
       let first : count (loadedWords R m i w) ≡ m = retain-count R m (λ j. leb j K) held room ∙ holds .number in
       same-count R (loadedWords R m i w) (first ∙ sym cells) ∙ cells
 

@@ -16,8 +16,7 @@ use Rattle.answers.specs.Outcome.{refusalNumber}
 use Rattle.answers.specs.declared.Refusal.{Refusal}
 use Rattle.pool.proofs.Sizes.{counted-sized}
 use Rattle.pool.proofs.Retained.{Elsewhere, retain-cong}
-use Rattle.pool.proofs.FreshPool.{blank-length}
-use Rattle.pool.proofs.Leftover.{behind-blank}
+use Rattle.pool.proofs.FreshPool.{blank-length, blank-behind}
 use Rattle.image.specs.declared.Scan.{Scan}
 use Rattle.image.specs.declared.Scan.the-variants as scan
 use Rattle.image.specs.Image.{Image, Parsed, parsed, fault, readCount, readLink, readCell, readEach, readImage}
@@ -104,7 +103,7 @@ module _ (R n : ℕ) (i : Image) (few : length (i .cells) ≤ n) (w : List ℕ) 
               (simp (length-append, length-replicate, length-drop (poolLength R n) w) (omega arith));
           registers = put-register all (blankWords R n w) enough;
           cells = put-field all (blankWords R n w) enough;
-          behind = λ k high. put-behind all (blankWords R n w) enough k high ∙ behind-blank R n w room .words k high;
+          behind = λ k high. put-behind all (blankWords R n w) enough k high ∙ blank-behind R n w room k high;
         }
 
     -- So do the words that load has written before the sweep, in which the cells of the image are marked.

@@ -1,11 +1,11 @@
 -- Fresh words: what `Pool::fresh` leaves, and that every cell is on the free list.
-use Prim.Native.Nat.{ℕ, zero, suc, _+_, _*_, _<_, _≤_}
+use Prim.Native.Nat.{ℕ, zero, suc, _+_, _*_, _-_, _<_, _≤_}
 use native.Mathlib.Omega.{arith}
-use mathlib.Core.Path.{_≡_, refl, ap, _∙_}
+use mathlib.Core.Path.{_≡_, refl, sym, ap, _∙_}
 use mathlib.Core.List.{List, [], _∷_, _++_}
 use mathlib.Core.Bool.{false}
 use lib.ListN.{length, getD, set, take, drop, replicate, length-replicate, length-append, length-take, length-drop, length-set, drop-of-length-le, List·getD-append}
-use lib.Seq.{getD-set-other}
+use lib.Seq.{getD-set-other, getD-drop, drop-at}
 use borrow.Author.Tests.{lt-ltb}
 use Rattle.pool.specs.Words.{tabulate}
 use Rattle.pool.specs.Layout.{registerCount, firstRegister, poolLength, cellCountOfLength, leftoverOfLength, cellAt, cell, register, count, setCount}
@@ -14,7 +14,7 @@ use Rattle.answers.specs.Outcome.{Outcome, answered}
 use Rattle.pool.specs.Fresh.{freshOf, FreshIsFree}
 use Rattle.pool.proofs.Sizes.{counted-sized}
 use Rattle.pool.proofs.Every.{tabulate-list, tabulate-cong}
-use Rattle.pool.proofs.Retained.{retain-cong}
+use Rattle.pool.proofs.Retained.{length-retain, retain-cong}
 use Rattle.pool.proofs.RetainedPool.{retained-free-list}
 
 zeros : (m k : ℕ) → getD {A = ℕ} (replicate m 0) k 0 ≡ 0
@@ -28,13 +28,16 @@ module _ (R n : ℕ) (w : List ℕ) (room : poolLength R n ≤ length w) where
   unfolding setCount
   blank-length = simp (length-set, length-append, length-replicate, length-drop) (omega arith)
 
+  pub fresh-length : length (freshWords R n w) ≡ length w
+  fresh-length = length-retain R n (λ i. false) (blankWords R n w) ∙ blank-length
+
   pub blank-count : count (blankWords R n w) ≡ n
   unfolding count setCount
   blank-count = let place : poolLength R n ≡ suc (1 + R + 4 * n) = omega arith in rw place refl
 
   pub blank-zero : (k : ℕ) → 0 < k → k < poolLength R n → getD (blankWords R n w) k 0 ≡ 0
   unfolding setCount
-  blank-zero k low high = before (drop (poolLength R n) w)
+  blank-zero k low high = before _
     where
       before : (behind : List ℕ) → getD (set (replicate (poolLength R n) 0 ++ behind) 0 n) k 0 ≡ 0
       before behind =
@@ -44,6 +47,25 @@ module _ (R n : ℕ) (w : List ℕ) (room : poolLength R n ≤ length w) where
   pub blank-register : (k : ℕ) → k < R → register (blankWords R n w) k ≡ 0
   unfolding register
   blank-register k low = blank-zero (firstRegister + k) (omega arith) (omega arith)
+
+  -- and what stands behind the cells
+  pub blank-behind : (k : ℕ) → poolLength R n ≤ k → getD (blankWords R n w) k 0 ≡ getD w k 0
+  unfolding setCount
+  blank-behind k past = getD-set-other cleared 0 k n 0 (λ e. omega arith) ∙ rw place at at-tail
+    where
+      end : ℕ
+      end = poolLength R n
+
+      cleared : List ℕ
+      cleared = replicate end 0 ++ drop end w
+
+      place : end + (k - end) ≡ k
+      place = omega arith
+
+      at-tail : getD cleared (end + (k - end)) 0 ≡ getD w (end + (k - end)) 0
+      at-tail =
+          sym (getD-drop end cleared (k - end) 0)
+          ∙ (ap (λ (v : List ℕ). getD v (k - end) 0) (drop-at (replicate end 0) (drop end w) end (length-replicate end 0)) ∙ getD-drop end w (k - end) 0)
 
   blank-unmarked : (i : ℕ) → 0 < i → i ≤ n → markedCell R (blankWords R n w) i ≡ false
   unfolding cell

@@ -7,4 +7,3 @@ pub mod Retained
 pub mod RetainedPool
 pub mod AllKept
 pub mod FreshPool
-pub mod Leftover

@@ -16,7 +16,6 @@ use Rattle.answers.specs.Outcome.{Outcome, answered}
 use Rattle.pool.proofs.Laws.{length-setRegister, register-same, register-other, head-setRegister, count-setRegister}
 use Rattle.pool.proofs.Node.{written}
 use Rattle.pool.proofs.Every.{tabulate-first}
-use Rattle.pool.proofs.Leftover.{SameBehind, behind-elsewhere, behind-then, behind-setRegister, behind-blank}
 use Rattle.pool.proofs.FreshPool.{blank-length, blank-count, blank-zero, blank-register}
 use Rattle.questions.proofs.WellFormed.{Link, Cell, WellFormed}
 use Rattle.questions.proofs.PoolGraph.{pool-within}
@@ -44,13 +43,6 @@ module _ (R n : ℕ) (w : List ℕ) (room : poolLength R n ≤ length w) where
 
   pub built-length : length (worstCaseWords R n w) ≡ length w
   built-length = comb-length R n n start ∙ start-length
-
-  -- what stands behind the cells
-  pub built-behind : 0 < R → SameBehind R n w (worstCaseWords R n w)
-  built-behind registers =
-      behind-then R n (behind-blank R n w room)
-      (behind-then R n (behind-setRegister R n (blankWords R n w) 0 1 registers)
-      (record { len = comb-length R n n start; words = λ k past. comb-elsewhere R n n start k (omega arith) (behind-elsewhere R n k past) }))
 
   -- the cells
   built-cell : (i f : ℕ) → 0 < i → i ≤ n → f < 4
