@@ -1,7 +1,6 @@
 // Pseudo-random pools: each word is computed from the seed, the number of cells and its place, so the same seed gives the same pool.
-ghost use mathlib.Core.Path.{_≡_};
+use trial_words::put;
 ghost use Prim.Native.Nat.{_≤_};
-ghost use lib.ListN.{set};
 
 // The shapes of a pool: the seed's lowest three bits. Shape 1 has no name: any links.
 const SPARSE: u32 = 0;
@@ -48,15 +47,6 @@ pub fn leftover_of(seed: u32) -> u32
     ensures { λ r. ⌜ r ≤ 3 ⌝ }
 {
     draw(seed, 9002) % 4
-}
-
-// Stores a word, where there is that place.
-pub fn put(words: &mut [u32], k: usize, v: u32)
-    ensures { λ _. ⌜ now (words .exit) ≡ set (now (words .entry)) k v ⌝ }
-{
-    if k < words.len() {
-        words[k] = v;
-    }
 }
 
 // One of the cells 1 to n.

@@ -1,7 +1,6 @@
 // Tries every marker on many pseudo-random pools: a marker of another make says which cells a collection has to keep, and the answers and all words of
 // the others are compared with what follows from its marks alone.
 mod totals;
-mod words;
 
 use answers::Answer;
 use stack_marker::StackAnswer;
@@ -143,7 +142,7 @@ fn expect(after: &mut [u32], trial: Trial) -> u32
     }
     let mut marks = [0u32; 4001];
     fixpoint_marker::mark(after, trial.n, &mut marks);
-    words::keep_marked(after, trial.n, &marks)
+    trial_words::keep_marked(after, trial.n, &marks)
 }
 
 // Is it what has to be said: the kept cells, and the visits; with as many stack words as cells, that they were enough, without a check; with none, that they were
@@ -170,9 +169,9 @@ fn is_expected(said: Said, trial: Trial, kept: u32) -> bool {
 // The stack's words are 7 before. After a collection with the stack they have to be 0, and otherwise as before.
 fn is_stack_expected(stack: &[u32], trial: Trial) -> bool {
     if trial.marker < NO_WORDS || trial.malformed {
-        words::all_are(stack, 7)
+        trial_words::all_are(stack, 7)
     } else {
-        words::all_are(stack, 0)
+        trial_words::all_are(stack, 0)
     }
 }
 
@@ -183,11 +182,11 @@ fn run(words: &mut [u32], after: &mut [u32], stack: &mut [u32], trial: Trial) ->
 {
     let kept = expect(after, trial);
     make(words, trial);
-    words::set_all(stack, 7);
+    trial_words::set_all(stack, 7);
     let said = collect(words, stack, trial.marker);
     let is_answer = is_expected(said, trial, kept);
     let is_stack = is_stack_expected(stack, trial);
-    let is_same = words::same(words, after);
+    let is_same = trial_words::same(words, after);
     Outcome {
         agreed: is_answer & is_stack & is_same,
         kept,

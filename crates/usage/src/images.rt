@@ -3,7 +3,6 @@
 // An image of one cell is 1 + 16 + 3 numbers, here of a byte each: 27 of 47 bytes are behind it. An image of two cells is 1 + 16 + 6 numbers, of which 300
 // takes two bytes: 3 of 27 bytes are behind it. Three bytes 0 are K and two registers; the next number is missing: refused 6, with the empty part, and the
 // words are as they were.
-use crate::print;
 use answers::Answer;
 use pool::Pool;
 use save::Saved;

@@ -1,7 +1,6 @@
 // The list of calls of the customer's example, behind its fresh pool of two cells, as words: five a call, its code and its arguments. Three answer words a
 // call: 0 or the refusal's number, and the numbers given. The example prints ok, ok, no 5, ok, ok, ok, ok 9, ok 1 3; the visits that each `new` gives too,
 // the first of its numbers, are 0 here.
-use crate::print;
 use batch::Ran;
 use pool::Pool;
 

@@ -4,7 +4,6 @@
 mod images;
 mod lists;
 mod numbers;
-mod print;
 mod tallies;
 
 fn main() {

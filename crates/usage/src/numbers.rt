@@ -1,5 +1,4 @@
 // A reader is laid over bytes, and advances in place, number by number.
-use crate::print;
 use leb128::Number;
 ghost use mathlib.Core.Path.{_≡_};
 ghost use Rattle.usage.specs.Numbers.{twoNumbers};

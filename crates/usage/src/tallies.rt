@@ -1,7 +1,6 @@
 // A tally is lent to one collection after the other, and counts on.
 // Two cells kept are 6 visits, one is 3. What is no pool is refused, and leaves the tally. Each count stops at 4294967295: 4294967294 + 1 + 1 and
 // 4294967290 + 6 + 3 pass it.
-use crate::print;
 use pool::Pool;
 use tally::Tally;
 ghost use mathlib.Core.Path.{_≡_};

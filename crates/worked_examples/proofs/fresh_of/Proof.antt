@@ -14,8 +14,8 @@ slice-aggregate-fresh c = sym (length-take-le _ _ (c .before .if1 .taken))
 fresh-requires : tie.Need-fresh-requires
 fresh-requires c κs = search needs
 
-show-requires : tie.Need-show-requires
-show-requires c κs = search needs
+answer-requires : tie.Need-answer-requires
+answer-requires c κs = search needs
 
 same-length : tie.Need-same-length
 same-length c = search needs
@@ -29,4 +29,4 @@ returns-2 c = search needs
 pub fresh-of-spec : {M : Type 1} → statement M
 fresh-of-spec =
     tie.close
-    (tie.spec slice-relend-prefix-fresh slice-aggregate-fresh fresh-requires show-requires same-length returns returns-2)
+    (tie.spec slice-relend-prefix-fresh slice-aggregate-fresh fresh-requires answer-requires same-length returns returns-2)

@@ -1,9 +1,9 @@
--- `trial_pools::put` meets its contract: past the end nothing is stored, and such a place of a list sets nothing.
+-- `trial_words::put` meets its contract: past the end nothing is stored, and such a place of a list sets nothing.
 use borrow.Author.Needs.{needs}
 use mathlib.Core.Path.{sym}
 use lib.Seq.{set-out}
-use Rattle.trial_pools.proofs.put.Statement.{statement}
-use Rattle.trial_pools.proofs.put.Tie as tie
+use Rattle.trial_words.proofs.put.Statement.{statement}
+use Rattle.trial_words.proofs.put.Tie as tie
 
 mul-words : tie.Need-mul-words
 mul-words c = search needs

@@ -1,4 +1,4 @@
--- `trials::words::all_are` meets its contract: the words passed are v. The measure is what is left of the words.
+-- `trial_words::all_are` meets its contract: the words passed are v. The measure is what is left of the words.
 use borrow.Author.Needs.{needs}
 use Prim.Native.Nat.{ℕ, _≤_, _<_, _-_}
 use native.Mathlib.Omega.{arith}
@@ -6,8 +6,8 @@ use mathlib.Core.Path.{_≡_}
 use mathlib.Core.Bool.{false≢true}
 use borrow.Author.Count.{below-more}
 use lib.ListN.{length, getD}
-use Rattle.trials.proofs.words.all_are.Statement.{statement}
-use Rattle.trials.proofs.words.all_are.Tie as tie
+use Rattle.trial_words.proofs.all_are.Statement.{statement}
+use Rattle.trial_words.proofs.all_are.Tie as tie
 
 abbrev Inv-loop : tie.InvT-loop
 Inv-loop words v k₀ k = (k ≤ length words) × ((j : ℕ) → j < k → getD words j 0 ≡ v)

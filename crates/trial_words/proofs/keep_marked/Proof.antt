@@ -1,10 +1,10 @@
--- `trials::words::keep_marked` is safe and ends. The measure is the number of cells that are left.
+-- `trial_words::keep_marked` is safe and ends. The measure is the number of cells that are left.
 use borrow.Author.Needs.{needs}
 use Prim.Native.Nat.{_≤_, _+_}
 use mathlib.Core.Path.{_≡_}
 use lib.ListN.{length}
-use Rattle.trials.proofs.words.keep_marked.Statement.{statement}
-use Rattle.trials.proofs.words.keep_marked.Tie as tie
+use Rattle.trial_words.proofs.keep_marked.Statement.{statement}
+use Rattle.trial_words.proofs.keep_marked.Tie as tie
 
 abbrev Inv-loop : tie.InvT-loop
 Inv-loop words₀ n marks kept₀ next₀ i₀ words kept next i = (kept + i ≤ n) × (i ≤ n) × (length words ≡ length words₀)

@@ -1,4 +1,4 @@
--- `trials::words::same` meets its contract: the words passed are the same. The measure is what is left of the words.
+-- `trial_words::same` meets its contract: the words passed are the same. The measure is what is left of the words.
 use borrow.Author.Needs.{needs}
 use Prim.Native.Nat.{ℕ, _≤_, _<_, _-_}
 use native.Mathlib.Omega.{arith}
@@ -7,8 +7,8 @@ use borrow.Author.Count.{below-more}
 use mathlib.Core.Path.{_≡_}
 use lib.ListN.{length, getD}
 use lib.Seq.{ext-getD}
-use Rattle.trials.proofs.words.same.Statement.{statement}
-use Rattle.trials.proofs.words.same.Tie as tie
+use Rattle.trial_words.proofs.same.Statement.{statement}
+use Rattle.trial_words.proofs.same.Tie as tie
 
 abbrev Inv-loop : tie.InvT-loop
 Inv-loop a b k₀ k = (k ≤ length a) × (length a ≡ length b) × ((j : ℕ) → j < k → getD a j 0 ≡ getD b j 0)

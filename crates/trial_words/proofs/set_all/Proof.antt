@@ -1,11 +1,11 @@
--- `trials::words::set_all` is safe and ends. The measure is what is left of the words.
+-- `trial_words::set_all` is safe and ends. The measure is what is left of the words.
 use borrow.Author.Needs.{needs}
 use native.Mathlib.Omega.{arith}
 use Prim.Native.Nat.{_≤_, _-_}
 use mathlib.Core.Path.{_≡_}
 use lib.ListN.{length, length-set}
-use Rattle.trials.proofs.words.set_all.Statement.{statement}
-use Rattle.trials.proofs.words.set_all.Tie as tie
+use Rattle.trial_words.proofs.set_all.Statement.{statement}
+use Rattle.trial_words.proofs.set_all.Tie as tie
 
 abbrev Inv-loop : tie.InvT-loop
 Inv-loop words₀ v k₀ words k = (k ≤ length words₀) × (length words ≡ length words₀)

@@ -1,7 +1,7 @@
--- `worked_examples::print` is safe: the part that is written is within the line.
+-- `print::prefix` is safe: the part that is written is within the line.
 use borrow.Author.Needs.{needs}
-use Rattle.worked_examples.proofs.print.Statement.{statement}
-use Rattle.worked_examples.proofs.print.Tie as tie
+use Rattle.print.proofs.prefix.Statement.{statement}
+use Rattle.print.proofs.prefix.Tie as tie
 use mathlib.Core.Path.{sym}
 use native.Mathlib.Omega.{arith}
 use lib.Seq.{length-take-le}
@@ -18,5 +18,5 @@ returns c = search needs
 returns-2 : tie.Need-returns-2
 returns-2 c = search needs
 
-pub print-spec : {M : Type 1} → statement M
-print-spec = tie.close (tie.spec slice-aggregate-write-all write-all-requires returns returns-2)
+pub prefix-spec : {M : Type 1} → statement M
+prefix-spec = tie.close (tie.spec slice-aggregate-write-all write-all-requires returns returns-2)

@@ -1,9 +1,17 @@
 // Reads and writes of slices of words, and what a collection has to leave of a pool's words by the marks of its cells.
-use trial_pools::put;
 ghost use mathlib.Core.Path.{_≡_};
 ghost use mathlib.Core.Bool.{true};
 ghost use Prim.Native.Nat.{ℕ, _<_};
-ghost use lib.ListN.{length, getD};
+ghost use lib.ListN.{length, getD, set};
+
+// Stores a word, where there is that place.
+pub fn put(words: &mut [u32], k: usize, v: u32)
+    ensures { λ _. ⌜ now (words .exit) ≡ set (now (words .entry)) k v ⌝ }
+{
+    if k < words.len() {
+        words[k] = v;
+    }
+}
 
 // Stores a word of a cell. Cell i's words begin at word 14 + 4 × i.
 fn put_cell(words: &mut [u32], i: u32, field: u32, v: u32) {
