@@ -55,6 +55,13 @@ static uint32_t try_next(uint32_t *waypoint, uint32_t *metres) {
     return answer;
 }
 
+static uint32_t try_occupancy(uint32_t *percent) {
+    uint32_t kept = 0, visits, answer = cellpool_collect(plan_words, LEN, &kept, &visits);
+    /* The collection found that the pool has so many cells: it keeps no more. */
+    if (answer == CELLPOOL_OK) answer = cellpool_occupancy(kept, PLAN_CELLS, percent);
+    return answer;
+}
+
 static uint32_t try_store(plan_slot *slot, uint32_t sequence) {
     size_t bytes = 0;
     uint32_t answer;
@@ -108,6 +115,13 @@ plan_code plan_next(uint32_t *waypoint, uint32_t *metres) {
     plan_code code = PLAN_OK;
     int tries = 3;
     while (tries > 0) code = settled(try_next(waypoint, metres), &tries);
+    return code;
+}
+
+plan_code plan_occupancy(uint32_t *percent) {
+    plan_code code = PLAN_OK;
+    int tries = 3;
+    while (tries > 0) code = settled(try_occupancy(percent), &tries);
     return code;
 }
 

@@ -51,6 +51,9 @@ plan_code plan_begin(void);
 plan_code plan_add(uint32_t waypoint, uint32_t metres);
 /* Take the first waypoint from the plan and enter it in the log. */
 plan_code plan_next(uint32_t *waypoint, uint32_t *metres);
+/* The percent of the pool's cells that plan and log take, for the ground display: the nearest whole number, and of a
+   half the even one. It is written only where the answer is PLAN_OK. */
+plan_code plan_occupancy(uint32_t *percent);
 /* Store plan and log in the older slot. */
 plan_code plan_store(void);
 /* Take plan and log from the newest slot that is good. */

@@ -1,7 +1,7 @@
 /*
  * The board's day, on a desk: what firmware.c does where the pool is full, memory is damaged, and storage is damaged too.
- * The figures in the comments are counted by hand: a waypoint takes two cells of 24, an entry of the log one. The board
- * keeps something of its own in the three words left over, which is there all day.
+ * The figures are counted by hand: a waypoint takes two cells of 24, an entry of the log one. Comments have percents
+ * before they are rounded. The board keeps something of its own in the three words left over, which is there all day.
  */
 #include "firmware.h"
 
@@ -23,6 +23,13 @@ static unsigned long live(void) {
     return kept;
 }
 
+/* The percent that the ground display shows. */
+static unsigned long shown(void) {
+    uint32_t percent = 0;
+    expect("occupancy", plan_occupancy(&percent), PLAN_OK);
+    return percent;
+}
+
 static void fly(uint32_t waypoint) {
     uint32_t number = 0, metres = 0;
     expect("next", plan_next(&number, &metres), PLAN_OK);
@@ -33,7 +40,7 @@ static void fly(uint32_t waypoint) {
 int main(void) {
     /* The words left over: behind 18 of the pool and 4 of each cell. */
     uint32_t *const spare = plan_words + CELLPOOL_WORDS(PLAN_CELLS);
-    uint32_t i, number, metres;
+    uint32_t i, number, metres, percent;
 
     for (i = 0; i < 3; i++) spare[i] = 1000 + i;
     expect("begin", plan_begin(), PLAN_OK);
@@ -44,11 +51,15 @@ int main(void) {
            (unsigned long)plan_leftover);
     for (i = 10; i >= 1; i--) expect("add", plan_add(i, 100 + 10 * i), PLAN_OK);
     expect("cells of ten waypoints", live(), 20);
+    expect("percent of 20 cells", shown(), 83); /* 83.3 */
     expect("store", plan_store(), PLAN_OK);
-    for (i = 1; i <= 6; i++) fly(i);
+    for (i = 1; i <= 5; i++) fly(i);
+    expect("percent of five waypoints and five entries", shown(), 62); /* 15 cells are 62.5: to the even one */
+    fly(6);
     expect("cells of four waypoints and six entries", live(), 8 + 6);
+    expect("percent of 14 cells", shown(), 58); /* 58.3 */
     expect("store", plan_store(), PLAN_OK);
-    printf("six of ten waypoints flown, %lu cells live\n", live());
+    printf("six of ten waypoints flown, %lu cells live, %lu percent\n", live(), shown());
 
     /* Five more fill the pool, 14 + 10; the sixth drops the log, 4 + 6 waypoints are 20 cells; two more fill it again. */
     for (i = 6; i >= 2; i--) expect("add", plan_add(i, 100 + 10 * i), PLAN_OK);
@@ -62,14 +73,20 @@ int main(void) {
     expect("cells", live(), 24);
     expect("add to a full plan", plan_add(0, 100), PLAN_FULL);
     expect("cells", live(), 24);
+    expect("percent of 24 cells", shown(), 100);
     fly(0);
     expect("cells of eleven waypoints and one entry", live(), 22 + 1);
-    printf("log dropped %lu time, twelve waypoints in a full pool, one of them flown\n", (unsigned long)plan_drops);
+    expect("percent of 23 cells", shown(), 96); /* 95.8 */
+    fly(0);
+    fly(1);
+    expect("percent of nine waypoints and three entries", shown(), 88); /* 21 cells are 87.5: to the even one */
+    printf("log dropped %lu time, twelve waypoints in a full pool, three of them flown\n", (unsigned long)plan_drops);
 
-    /* A damaged register: the plan of the last store comes back, with waypoint 7 as its first. */
+    /* A damaged register, which the display meets: the plan of the last store comes back, waypoint 7 as its first. */
     plan_words[2] = PLAN_CELLS + 1;
-    fly(7);
+    expect("percent of 14 cells", shown(), 58); /* 58.3 */
     expect("recovered", plan_recoveries, 1);
+    fly(7);
     expect("cells of three waypoints and seven entries", live(), 6 + 7);
     printf("damaged memory: recovered, and waypoint 7 flown\n");
 
@@ -84,10 +101,14 @@ int main(void) {
     for (i = 2; i <= 10; i++) fly(i);
     expect("next behind the last", plan_next(&number, &metres), PLAN_END);
     expect("cells of ten entries", live(), 10);
+    expect("percent of 10 cells", shown(), 42); /* 41.7 */
     plan_slots[0].bytes = 0xFFFFFFFFu;
     plan_words[1 + 4] = 99;
     expect("store of damaged words, no slot good", plan_store(), PLAN_LOST);
     expect("cells of nothing", live(), 0);
+    expect("percent of nothing", shown(), 0);
+    plan_words[0] = PLAN_CELLS + 1;
+    expect("percent of damaged words, no slot good", plan_occupancy(&percent), PLAN_LOST);
     for (i = 0; i < 3; i++) expect("a word left over", spare[i], 1000 + i);
     printf("the words left over at the end of the day: %lu, %lu, %lu\n", (unsigned long)spare[0], (unsigned long)spare[1],
            (unsigned long)spare[2]);

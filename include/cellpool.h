@@ -94,8 +94,10 @@
  * 5.0.0: the length of a pool may be 1 to 3 words more than 18 + 4 * N, which was refused with 1, and these words stay as
  * they are. cellpool_fresh has an argument more, leftover, and CELLPOOL_CELLS comes. Nothing else has changed for lengths
  * that were accepted, nor in images.
+ * 6.0.0: cellpool_occupancy rounds to the nearest percent, and a half to the even one, where 5.0.0 rounded down: the
+ * percent may be one higher, and 100 no longer says that every cell is kept. Nothing else has changed.
  */
-#define CELLPOOL_VERSION_MAJOR 5
+#define CELLPOOL_VERSION_MAJOR 6
 #define CELLPOOL_VERSION_MINOR 0
 #define CELLPOOL_VERSION_PATCH 0
 #define CELLPOOL_VERSION (10000 * CELLPOOL_VERSION_MAJOR + 100 * CELLPOOL_VERSION_MINOR + CELLPOOL_VERSION_PATCH)
@@ -290,7 +292,9 @@ uint32_t cellpool_load(uint32_t *words, size_t len, const uint8_t *bytes, size_t
 CELLPOOL_MUST_USE
 uint32_t cellpool_check_image(const uint8_t *bytes, size_t bytes_len, uint32_t n);
 
-/* *percent becomes 100 * kept / n, rounded down. Refused: 1. */
+/* *percent becomes 100 * kept / n, rounded to the nearest whole number, and an exact half to the even one: 1 of 3 is
+   33, 2 of 3 is 67, 1 of 200 (0.5) is 0, and 3 of 200 (1.5) is 2. If n is 200 or more, 0 does not say that no cell is
+   kept, nor 100 that every one is: 20 of 4,000 (0.5) is 0, and 3,980 of 4,000 (99.5) is 100. Refused: 1. */
 CELLPOOL_MUST_USE
 uint32_t cellpool_occupancy(uint32_t kept, uint32_t n, uint32_t *percent);
 

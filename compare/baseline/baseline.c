@@ -588,6 +588,9 @@ uint32_t NAME(check_image)(const uint8_t *bytes, size_t bytes_len, uint32_t n) {
 
 uint32_t NAME(occupancy)(uint32_t kept, uint32_t n, uint32_t *percent) {
     if (n < 1 || n > CELLPOOL_MOST_CELLS || kept > n) return CELLPOOL_REFUSED_SIZE;
-    *percent = 100 * kept / n;
+    /* 100 * kept / n and 1 / 2 more, rounded down, is the nearest whole number, and of an exact half the one above. */
+    uint32_t twice = 200 * kept + n, nearest = twice / (2 * n);
+    if (twice % (2 * n) == 0) nearest -= nearest % 2; /* of a half the even one */
+    *percent = nearest;
     return CELLPOOL_OK;
 }

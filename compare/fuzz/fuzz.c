@@ -8,12 +8,14 @@
  * The blocks stand against pages that may be neither read nor written, so that also an archive compiled without a
  * sanitizer is caught at the first access outside. The library is compared with itself too: a refusal is one that the
  * header lists with its function and changes nothing but what the header names, refusal 1 comes exactly where the
- * length is that of no pool or, where the function asks for it, word 0 is not its number of cells, the words left over
- * stay, the forms of collect agree, a stack makes no check exactly from one length on, the worst case for the stack
- * takes just as many words as are answered, and with fewer a check for each push that finds them full, an image that
- * was saved loads, whatever is left over, and saves as the same bytes, while every cut of it is refused, and any image
- * that loads is saved as the bytes that were read exactly if its cells are numbered in the order of the visits. The
- * cases of the plain C version's visits add up to the cells that the library keeps.
+ * length is that of no pool or, where the function asks for it, word 0 is not its number of cells, or where the
+ * number of cells that is given is that of no pool or less than what is kept, a percent is the nearest whole one, and
+ * for a half the even one, the words left over stay, the forms of collect agree, a stack makes no check exactly from
+ * one length on, the worst case for the stack takes just as many words as are answered, and with fewer a check for
+ * each push that finds them full, an image that was saved loads, whatever is left over, and saves as the same bytes,
+ * while every cut of it is refused, and any image that loads is saved as the bytes that were read exactly if its
+ * cells are numbered in the order of the visits. The cases of the plain C version's visits add up to the cells that
+ * the library keeps.
  *
  * With -DSTANDALONE a main is added that runs pseudo-random inputs: fuzz [inputs [seed]].
  */
@@ -148,9 +150,12 @@ static uint32_t run(int side, const Call *call, Results *results) {
     }
 }
 
-/* Before a call: is the length that of a pool, and word 0 its number of cells where the function asks for that? */
-static int size_fits(int function) {
-    int by_length = function == FRESH || function == WORST || function == LOAD;
+/* Before a call: is the length that of a pool, and word 0 its number of cells where the function asks for that? Where
+   it takes no words: is n that of a pool, and not less than what is kept? */
+static int size_fits(const Call *call) {
+    int function = call->function, by_length = function == FRESH || function == WORST || function == LOAD;
+    if (function == CHECK) return call->a >= 1 && call->a <= CELLPOOL_MOST_CELLS;
+    if (function == OCCUPANCY) return call->a >= 1 && call->a <= CELLPOOL_MOST_CELLS && call->v <= call->a;
     return cells >= 1 && cells <= CELLPOOL_MOST_CELLS && (by_length || words_of(LIBRARY)[0] == cells);
 }
 
@@ -159,7 +164,7 @@ static uint32_t make(Call call, Results *results) {
     Results start, found[SIDES];
     uint32_t answer[SIDES], lent = functions[call.function].lent;
     size_t tail = blocks[WORDS].bytes - leftover * sizeof(uint32_t);
-    int fits = size_fits(call.function);
+    int fits = size_fits(&call);
     called = functions[call.function].name;
     for (int i = 0; i < 9; i++) start.number[i] = UNSET;
     for (int i = 0; i < 3; i++) start.size[i] = UNSET;
@@ -182,10 +187,9 @@ static uint32_t make(Call call, Results *results) {
         if ((lent & BIT(block)) == 0) continue;
         DEMAND(memcmp(blocks[block].at[LIBRARY], blocks[block].at[PLAIN], blocks[block].bytes) == 0);
     }
-    if (lent & BIT(WORDS)) {
-        DEMAND((answer[LIBRARY] == 1) == !fits);
+    DEMAND((answer[LIBRARY] == 1) == !fits);
+    if (lent & BIT(WORDS))
         DEMAND(memcmp(blocks[WORDS].at[LIBRARY] + tail, blocks[WORDS].before + tail, blocks[WORDS].bytes - tail) == 0);
-    }
     if (answer[LIBRARY] != 0) {
         /* Refused, save clears its scratch where only the output is too short, and load answers where the bytes end. */
         int cleared = call.function == SAVE && answer[LIBRARY] == 10 && blocks[STACK].bytes >= 8 * (size_t)cells;
@@ -222,6 +226,15 @@ static uint32_t number_of(Input *input, uint32_t n) {
     for (int i = 0; i < 4; i++) number = number << 8 | byte_of(input);
     return number;
 }
+
+/* One of so many places, by two bytes. */
+static size_t place_of(Input *input, size_t places) {
+    size_t low = byte_of(input), high = byte_of(input);
+    return (low | high << 8) % places;
+}
+
+/* Any number up to n + 1. */
+static uint32_t any_number_of(Input *input, uint32_t n) { return (uint32_t)place_of(input, (size_t)n + 2); }
 
 /* The first used cell from this link on; nil where there is none, and for nil. */
 static uint32_t valid(const uint32_t *words, uint32_t link) {
@@ -294,11 +307,6 @@ static size_t image_of(Input *input, uint8_t kind, uint8_t *image) {
         for (size_t i = 0; i < bytes; i++) image[i] = byte_of(input);
     }
     return bytes;
-}
-
-static size_t place_of(Input *input, size_t bytes) {
-    size_t low = byte_of(input), high = byte_of(input);
-    return (low | high << 8) % bytes;
 }
 
 /* The number that goes through this place, or to the end of the bytes, gets groups of 0 behind its own. */
@@ -378,6 +386,13 @@ static void built(uint32_t entries) {
     }
 }
 
+/* A percent was answered: the nearest whole number, and of two that are equally near the even one. */
+static void measured(uint32_t kept, uint32_t n, uint32_t percent) {
+    DEMAND(percent <= 100);
+    uint32_t exact = 100 * kept, shown = percent * n, twice = 2 * (exact > shown ? exact - shown : shown - exact);
+    DEMAND(twice < n || (twice == n && percent % 2 == 0));
+}
+
 /* A call by the input. */
 static void any_call(Input *input) {
     uint8_t kind = byte_of(input);
@@ -403,8 +418,8 @@ static void any_call(Input *input) {
         break;
     case LOAD: lend_image(input); break;
     case OCCUPANCY:
-        call.a = kind & 0x40 ? number_of(input, 4000) : cells;
-        call.v = number_of(input, call.a < 4000 ? call.a : 4000);
+        call.a = !(kind & 0x40) ? cells : kind & 0x10 ? any_number_of(input, 4000) : number_of(input, 4000);
+        call.v = (kind & 0x20 ? number_of : any_number_of)(input, call.a < 4000 ? call.a : 4000);
         break;
     default:
         call.r = byte_of(input) % 17u;
@@ -417,6 +432,7 @@ static void any_call(Input *input) {
     if (call.function == FRESH) DEMAND(results.number[1] == cells && results.number[3] == leftover);
     if (call.function == LOAD) loaded(results.size[1]);
     if (call.function == WORST) built(results.number[1]);
+    if (call.function == OCCUPANCY) measured(call.v, call.a, results.number[1]);
     if (call.function == SAVE) {
         saved_bytes = results.size[1];
         memcpy(saved, blocks[OUT].at[LIBRARY], saved_bytes);

@@ -5,6 +5,7 @@
 use crate::refusal::*;
 use crate::visit::{Case, Marking};
 use crate::{cell_at, words_for, Interface, Tally, CELL, FREE, HEADER, MOST_CELLS, MOST_RECURSIVE, REGISTERS, USED};
+use std::cmp::Ordering;
 
 #[derive(Clone, Copy, Debug, Default)]
 pub struct PlainRust;
@@ -678,6 +679,12 @@ impl Interface for PlainRust {
         if n < 1 || n as usize > MOST_CELLS || kept > n {
             return Err(SIZE);
         }
-        Ok(100 * kept / n)
+        let (percent, rest) = (100 * kept / n, 100 * kept % n);
+        // To the nearest whole number, and a half to the even one.
+        Ok(match (2 * rest).cmp(&n) {
+            Ordering::Less => percent,
+            Ordering::Equal => percent + percent % 2,
+            Ordering::Greater => percent + 1,
+        })
     }
 }

@@ -1008,18 +1008,23 @@ fn leftovers(pool: &dyn Interface, random: &mut Random, rounds: usize) -> Outcom
     Ok(())
 }
 
-/// The percentage of kept cells.
+/// The percentage of kept cells: every one of up to 400 cells and of the largest pool, and for every N the numbers beside
+/// which the percent changes, among them every exact half; the ends, any, and numbers out of the limits.
 fn percentages(pool: &dyn Interface, random: &mut Random, _: usize) -> Outcome {
     for n in (0..=MOST_CELLS as u32 + 10).chain([1 << 16, (1 << 16) + 100, u32::MAX - 1, u32::MAX]) {
-        let every = match n {
-            0..130 | 4_000 => n,
-            3_990..4_010 => 200,
-            _ => 0,
+        let (every, percents) = match n {
+            0..=400 | 4_000 => (n, 100),
+            401..3_990 => (0, 100),
+            3_990..=4_010 => (200, 100),
+            _ => (0, 0),
         };
+        // A percent and a half is 3 * n / 200 cells, and so on: the number below, and either one beside it.
+        let halves = (0..percents).map(|percent| (2 * percent + 1) * n / 200);
+        let around = halves.flat_map(|kept| [kept.wrapping_sub(1), kept, kept + 1]);
         let ends = [0, n / 2, n.wrapping_sub(1), n, n.wrapping_add(1), n.wrapping_add(1 << 16), u32::MAX];
         let any = [(); 3].map(|()| random.below(n as usize + 1) as u32);
         let more = [(); 3].map(|()| random.word());
-        for kept in (0..every).chain(ends).chain(any).chain(more) {
+        for kept in (0..every).chain(around).chain(ends).chain(any).chain(more) {
             let what = || format!("percentage of {kept} of {n}");
             equal(what, pool.occupancy(kept, n), Model.occupancy(kept, n))?;
         }

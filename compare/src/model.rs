@@ -4,7 +4,8 @@
 //! refusal changes nothing by construction. The marker goes by breadth with a set; visits are three for each kept
 //! cell, and the cases of the visits are those of the recursive procedure of source document 000; the stack marker is
 //! Algorithm 2 of source document 003, where two equal unmarked links are one: on a list without limit, and on one with a
-//! limit, where a full list is checked. A refusal comes from its cause, and the model answers with either.
+//! limit, where a full list is checked; the percent is found by trying every whole one. A refusal comes from its cause,
+//! and the model answers with either.
 
 use crate::cause::{Cause, Link, Name, Place};
 use crate::visit::{Case, Marking, CASES};
@@ -775,6 +776,11 @@ impl<R: From<Cause>> Interface<R> for Model {
         if kept > n {
             return Err(Cause::Kept.into());
         }
-        Ok(100 * kept / n)
+        // "The percent goes to the nearest whole number, and an exact half to the even one" (02, S-7). Each whole percent
+        // is tried: p is as far from 100 * kept / n as p * n is from 100 * kept, counted in n-th parts. Of two that are
+        // equally near, one is even.
+        let distance = |p: u32| (100 * kept).abs_diff(p * n);
+        let nearest = (0..=100).min_by_key(|&p| (distance(p), p % 2));
+        Ok(nearest.expect("there are whole percents"))
     }
 }

@@ -241,7 +241,7 @@ bind! {
 #[cfg(before)]
 bind! {
     /// An earlier version of the library. Before 4.0.0 its collect_stack lacks the last argument, and before 5.0.0 its fresh: do not
-    /// call these. Before 5.0.0 it refuses words left over.
+    /// call these. Before 5.0.0 it refuses words left over, and before 6.0.0 it rounds the percent down.
     Before:
     before_cellpool_fresh, before_cellpool_copy, before_cellpool_clear, before_cellpool_new, before_cellpool_left,
     before_cellpool_right, before_cellpool_setleft, before_cellpool_setright, before_cellpool_setvalue,

@@ -5,8 +5,8 @@
  * Each call is made on a block of its own, which is painted before with one byte and then with another; the lowest byte that
  * has changed tells how far the call went. Inputs are chosen so that every function takes its longest way: all cells used
  * and reached, a stack that is enough, one that its checks make enough and one that is not, a chain of 64 cells for the
- * recursive marker, images of every length of number, and refused calls, also at the last number of an image. A line is
- * printed for each function, its name and the most bytes of its calls.
+ * recursive marker, images of every length of number, percents rounded each way, and refused calls, also at the last
+ * number of an image. A line is printed for each function, its name and the most bytes of its calls.
  *
  * x86-64 with the System V calling convention, as the library is.
  */
@@ -187,6 +187,7 @@ int main(void) {
     TRY(9, check_image, AT(image), image_len, N - 1);
     TRY(12, check_image, AT(padded), image_len + 1, N);
     TOLD(check_image);
-    TRY(0, occupancy, 1, 3, r0), TRY(1, occupancy, 3, 1, r0), TOLD(occupancy);
+    TRY(0, occupancy, 1, 3, r0), TRY(0, occupancy, 2, 3, r0), TRY(0, occupancy, 3, 3, r0), TRY(1, occupancy, 3, 1, r0);
+    TRY(0, occupancy, 20, N, r0), TRY(0, occupancy, 60, N, r0), TRY(1, occupancy, 1, N + 1, r0), TOLD(occupancy);
     return 0;
 }

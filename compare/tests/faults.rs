@@ -175,6 +175,40 @@ enum Misfit {
     TestsOver,
 }
 
+/// What is wrong in how the percent is rounded.
+#[derive(Clone, Copy, Debug, PartialEq, Eq)]
+enum Misround {
+    /// Down: the behaviour of before.
+    Down,
+    Up,
+    /// To the nearest one, and a half up.
+    HalfUp,
+    /// And a half down.
+    HalfDown,
+    /// And a half to the odd one.
+    HalfOdd,
+    /// A half goes up where there are more cells than 400, and to the even one elsewhere.
+    HalfUpOfMany,
+    /// It goes down there.
+    HalfDownOfMany,
+    /// Half of an odd N is rounded down: where the rest is that, it is taken for a half.
+    HalfOfOdd,
+    /// Twice the rest is cut to 12 bits.
+    CutsRest,
+    /// The product is cut to 16 bits.
+    CutsProduct,
+    /// A tenth of a percent is rounded to first.
+    Twice,
+    /// Tenths of a percent are counted, and what is less is not seen.
+    TenthsOnly,
+    /// Numbers of floating point are divided, multiplied by 100 and rounded.
+    FloatingPoint,
+    /// The percent is 0 only where no cell is kept.
+    ZeroForNone,
+    /// It is 100 only where every cell is.
+    HundredForAll,
+}
+
 #[derive(Clone, Copy, Debug, PartialEq, Eq)]
 enum Fault {
     Correct,
@@ -192,6 +226,8 @@ enum Fault {
     Builds(Misbuilt),
     /// The function takes lengths and the words left over so.
     Fits(&'static str, Misfit),
+    /// The percent is rounded so.
+    Rounds(Misround),
     CollectKeepsAll,
     CollectLosesFreeCell,
     CollectLosesCellInWindow,
@@ -262,9 +298,10 @@ enum Fault {
     CheckAcceptsInWindow,
     CheckLengthCut,
     CheckRefusesOneLength,
-    OccupancyRoundsUp,
     OccupancyWrongInWindow,
-    OccupancyCutsProduct,
+    OccupancyLimitOneLess,
+    OccupancyIgnoresLimit,
+    OccupancyOfOneMore,
     FreshLeavesRegister,
     FreshLengthCut,
     /// The length modulo 4 is answered for the words left over.
@@ -391,6 +428,25 @@ const WORST_CASE: [Fault; 14] = [
     Builds(Misbuilt::Accepts(18)),
 ];
 
+/// A percent that is rounded wrong.
+const ROUNDING: [Fault; 15] = [
+    Rounds(Misround::Down),
+    Rounds(Misround::Up),
+    Rounds(Misround::HalfUp),
+    Rounds(Misround::HalfDown),
+    Rounds(Misround::HalfOdd),
+    Rounds(Misround::HalfUpOfMany),
+    Rounds(Misround::HalfDownOfMany),
+    Rounds(Misround::HalfOfOdd),
+    Rounds(Misround::CutsRest),
+    Rounds(Misround::CutsProduct),
+    Rounds(Misround::Twice),
+    Rounds(Misround::TenthsOnly),
+    Rounds(Misround::FloatingPoint),
+    Rounds(Misround::ZeroForNone),
+    Rounds(Misround::HundredForAll),
+];
+
 /// The functions that take words: fresh and the eleven calls, and then the others.
 const FUNCTIONS: [&str; 18] = [
     "fresh",
@@ -435,7 +491,7 @@ const fn in_all(fault: Misfit) -> [Fault; 18] {
 
 /// The faults that each comparison finds. Those of the reference model show in the answers to a list of calls, without a look at
 /// the words, and no others do.
-const FOUND_BY: [(Comparison, &[Fault]); 64] = [
+const FOUND_BY: [(Comparison, &[Fault]); 65] = [
     (
         checks::REFERENCE,
         &[
@@ -617,7 +673,8 @@ const FOUND_BY: [(Comparison, &[Fault]); 64] = [
     (checks::NUMBERS, &other_orders("check")),
     (checks::ROUND_TRIPS, &other_forms("load")),
     (checks::ROUND_TRIPS, &other_forms("check")),
-    (checks::PERCENTAGES, &[OccupancyRoundsUp, OccupancyWrongInWindow, OccupancyCutsProduct]),
+    (checks::PERCENTAGES, &ROUNDING),
+    (checks::PERCENTAGES, &[OccupancyWrongInWindow, OccupancyLimitOneLess, OccupancyIgnoresLimit, OccupancyOfOneMore]),
     (
         checks::LENGTHS,
         &[
@@ -1127,6 +1184,36 @@ impl Interface for Misfitting {
     }
 }
 
+/// The quotient as the nearest whole number, and a half as the even one.
+fn nearest(dividend: u32, divisor: u32) -> u32 {
+    let (whole, rest) = (dividend / divisor, dividend % divisor);
+    whole + u32::from(2 * rest > divisor || (2 * rest == divisor && whole % 2 == 1))
+}
+
+/// The percent with this fault, where this is the correct one.
+fn misrounded(fault: Misround, kept: u32, n: u32, correct: u32) -> u32 {
+    let (percent, rest) = (100 * kept / n, 100 * kept % n);
+    assert_eq!(nearest(100 * kept, n), correct, "the fault alone makes a difference");
+    match fault {
+        Misround::Down => percent,
+        Misround::Up => percent + u32::from(rest > 0),
+        Misround::HalfUp => percent + u32::from(2 * rest >= n),
+        Misround::HalfDown => percent + u32::from(2 * rest > n),
+        Misround::HalfOdd if 2 * rest == n => percent | 1,
+        Misround::HalfUpOfMany if 2 * rest == n && n > 400 => percent + 1,
+        Misround::HalfDownOfMany if 2 * rest == n && n > 400 => percent,
+        Misround::HalfOfOdd if rest == n / 2 => percent + percent % 2,
+        Misround::CutsRest if 2 * rest > n => percent + u32::from((2 * rest) & 0xFFF > n),
+        Misround::CutsProduct => nearest((100 * kept) & 0xFFFF, n),
+        Misround::Twice => nearest(nearest(1_000 * kept, n), 10),
+        Misround::TenthsOnly => nearest(1_000 * kept / n, 10),
+        Misround::FloatingPoint => (f64::from(kept) / f64::from(n) * 100.0).round_ties_even() as u32,
+        Misround::ZeroForNone if kept > 0 => correct.max(1),
+        Misround::HundredForAll if kept < n => correct.min(99),
+        _ => correct,
+    }
+}
+
 /// The implementation with this fault.
 fn faulty(fault: Fault) -> Box<dyn Interface> {
     match fault {
@@ -1519,11 +1606,16 @@ impl Interface for Faulty {
     }
 
     fn occupancy(&self, kept: u32, n: u32) -> Result<u32, u32> {
+        match self.0 {
+            OccupancyLimitOneLess if n == 4_000 => return Err(1),
+            OccupancyIgnoresLimit if n == 4_001 => return PlainRust.occupancy(kept.min(4_000), 4_000),
+            OccupancyOfOneMore if kept == n.wrapping_add(1) => return PlainRust.occupancy(n, n),
+            _ => {}
+        }
         let percent = PlainRust.occupancy(kept, n)?;
         Ok(match self.0 {
-            OccupancyRoundsUp => (100 * kept).div_ceil(n),
             OccupancyWrongInWindow if (1_000..3_000).contains(&n) => percent ^ 1,
-            OccupancyCutsProduct => ((100 * kept) & 0xFFFF) / n,
+            Rounds(fault) => misrounded(fault, kept, n, percent),
             _ => percent,
         })
     }
@@ -1681,8 +1773,15 @@ mod in_c {
     const TEST_OVER: &str = "i <= n + 1; i++) {\nconst uint32_t *at = cell_in(words, i);\nif (at[STATE] == USED) {";
     const LEFT_OVER: &str = "*leftover = (uint32_t)len - CELLPOOL_WORDS(n);";
 
+    /// The percent: what is asked of the numbers, what is divided, what is a half, where the half goes, and the answer.
+    const LIMITS: &str = "n > CELLPOOL_MOST_CELLS || kept > n";
+    const DIVIDEND: &str = "twice = 200 * kept + n,";
+    const IS_HALF: &str = "twice % (2 * n) == 0";
+    const TO_EVEN: &str = "nearest -= nearest % 2;";
+    const PERCENT: &str = "*percent = nearest;";
+
     /// What finds the fault, the text, and what stands in its place.
-    const CHANGES: [(&str, &str, &str); 132] = [
+    const CHANGES: [(&str, &str, &str); 154] = [
         // Lengths cut to 32 or 16 bits.
         ("lengths", "cells_of(size_t len)", "cells_of(uint32_t len)"),
         ("lengths", "size_of(const uint32_t *words, size_t len)", "size_of(const uint32_t *words, uint32_t len)"),
@@ -1818,7 +1917,7 @@ mod in_c {
         ("fuzz", CLEARED, "memset(words, 0, CELLPOOL_WORDS(n) * 4 - 4);\nwords[0] = n;\nREGISTER(0) = 1;"),
         ("fuzz", "*entries = (n - 1) / 2;", "*entries = n / 2;"),
         ("fuzz", BUILDER, "uint32_t *entries) {\nuint32_t n = size_of(words, len);"),
-        ("fuzz", BUILDER, "uint32_t *entries) {\nuint32_t n = cells_of(len);\nif (n == 0 && len > 0) words[0] = 0;"),
+        ("fuzz", BUILDER, "uint32_t *entries) {\nuint32_t n = cells_of(len);\nif (n == 0 && len > 0) words[0] ^= 1;"),
         // Padded numbers accepted, all or some; no 0 accepted; padded numbers asked about too late, and too early.
         ("fuzz", "place > 0 && byte == 0 ?", "0 ?"),
         ("fuzz", "place > 0 && byte == 0 ?", "place == 1 && byte == 0 ?"),
@@ -1832,6 +1931,22 @@ mod in_c {
             "if (answer == 12 && k > n) return 9;\nif (answer != CELLPOOL_OK) return answer;\nif (k > n)",
         ),
         ("fuzz", "if (place == 4 &&", "if (place == 4 && (byte & 0x7F) == 0) return 12;\nif (place == 4 &&"),
+        // The percent: rounded down, as before 02, S-7, and up; a half up, down and to the odd one; a whole percent taken for a
+        // half, and what is near a half; less than a half added, and more; another factor; a product of 16 bits; one kept cell
+        // too many accepted, and all cells kept refused.
+        ("fuzz", PERCENT, "*percent = 100 * kept / n;"),
+        ("fuzz", PERCENT, "*percent = (100 * kept + n - 1) / n;"),
+        ("fuzz", TO_EVEN, "(void)0;"),
+        ("fuzz", TO_EVEN, "nearest--;"),
+        ("fuzz", TO_EVEN, "nearest -= nearest % 2 == 0;"),
+        ("fuzz", IS_HALF, "twice % n == 0"),
+        ("fuzz", IS_HALF, "twice % (2 * n) <= 1"),
+        ("fuzz", DIVIDEND, "twice = 200 * kept + n - 1,"),
+        ("fuzz", DIVIDEND, "twice = 200 * kept + n + 1,"),
+        ("fuzz", DIVIDEND, "twice = 199 * kept + n,"),
+        ("fuzz", DIVIDEND, "twice = (uint16_t)(200 * kept) + n,"),
+        ("fuzz", LIMITS, "n > CELLPOOL_MOST_CELLS || kept > n + 1"),
+        ("fuzz", LIMITS, "n > CELLPOOL_MOST_CELLS || kept >= n"),
         // The same in the plain C version that the fuzz target compares with: what it demands of the library alone finds it.
         ("fuzz both", FEWEST, BEFORE),
         ("fuzz both", FEWEST, SHORTER),
@@ -1840,6 +1955,15 @@ mod in_c {
         ("fuzz both", CLEARED, CLEARED_OVER),
         ("fuzz both", LOADED, LOADED_OVER),
         ("fuzz both", LEFT_OVER, "*leftover = (uint32_t)len % CELL;"),
+        ("fuzz both", PERCENT, "*percent = 100 * kept / n;"),
+        ("fuzz both", PERCENT, "*percent = (100 * kept + n - 1) / n;"),
+        ("fuzz both", TO_EVEN, "(void)0;"),
+        ("fuzz both", TO_EVEN, "nearest--;"),
+        ("fuzz both", TO_EVEN, "nearest -= nearest % 2 == 0;"),
+        ("fuzz both", IS_HALF, "twice % n == 0"),
+        ("fuzz both", DIVIDEND, "twice = (uint16_t)(200 * kept) + n,"),
+        ("fuzz both", LIMITS, "n > CELLPOOL_MOST_CELLS || kept > n + 1"),
+        ("fuzz both", LIMITS, "n > CELLPOOL_MOST_CELLS || kept >= n"),
         ("fuzz both", "place > 0 && byte == 0 ?", "0 ?"),
         ("fuzz both", "place > 0 && byte == 0 ?", "place == 1 && byte == 0 ?"),
         ("fuzz both", "place > 0 && byte == 0 ?", "place > 0 && place < 4 && byte == 0 ?"),

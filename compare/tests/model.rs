@@ -5,8 +5,9 @@ use cellpool_compare::checks::{self, Comparison};
 use cellpool_compare::generate::{self, Shape};
 use cellpool_compare::model::{groups, parse, Cell, Limited, Model, Pool};
 use cellpool_compare::random::{rounds, seed, Random};
-use cellpool_compare::{Interface, Tally, USED};
+use cellpool_compare::{Interface, Tally, MOST_CELLS, USED};
 use std::cell::RefCell;
+use std::cmp::Ordering::{Equal, Greater, Less};
 use std::collections::{BTreeMap, BTreeSet};
 
 fn random(stream: u64) -> Random {
@@ -315,6 +316,27 @@ fn an_image_is_saved_as_it_was_read_exactly_if_its_cells_are_in_the_order_of_the
     assert!(same > 1_000 && other > 1_000, "{same} the same, {other} not");
 }
 
+/// "The percent goes to the nearest whole number, and an exact half to the even one" (02, S-7), for up to 400 cells and every
+/// N that has halves: twice the distance is less than n, counted in n-th parts of a percent, or it is n and the percent is even.
+#[test]
+fn the_percent_is_the_nearest_and_a_half_goes_to_the_even_one() {
+    let mut halves = 0;
+    for n in (1..=400).chain((408..=MOST_CELLS as u32).step_by(8)) {
+        let percents: Result<Vec<u32>, u32> = (0..=n).map(|kept| Model.occupancy(kept, n)).collect();
+        let percents = percents.expect("n and kept are within their limits");
+        for (kept, percent) in (0..=n).zip(&percents) {
+            let twice = 2 * (100 * kept).abs_diff(percent * n);
+            assert!(twice < n || (twice == n && percent % 2 == 0), "{kept} of {n}: {percent}");
+            halves += u32::from(twice == n);
+            // 100 is even, so that the percents of what is kept and of what is free make 100, also where both are halves.
+            assert_eq!(percent + percents[(n - kept) as usize], 100, "{kept} of {n}");
+        }
+    }
+    // An odd multiple of n / 200 is a whole number only if 8 divides n: each of 100 where 200 divides n, every fifth one where
+    // 40 does, and else the four odd eighths of n. 8 divides 500 numbers up to 4,000, 40 divides 100 and 200 divides 20.
+    assert_eq!(halves, 20 * 100 + 80 * 20 + 400 * 4);
+}
+
 #[test]
 fn the_model_answers_as_the_reference_model() {
     checks::against_reference(&Model, &mut random(5), rounds(10_000)).unwrap();
@@ -568,7 +590,17 @@ impl Interface for Counting {
         self.count("check", Model.check_image(bytes, n), done)
     }
     fn occupancy(&self, kept: u32, n: u32) -> Result<u32, u32> {
-        self.count("occupancy", Model.occupancy(kept, n), done)
+        let kind = |&percent: &u32| {
+            let (exact, shown) = (100 * kept, percent * n);
+            match (exact.cmp(&shown), 2 * exact.abs_diff(shown) == n) {
+                (Equal, _) => "a whole percent",
+                (Greater, false) => "down",
+                (Less, false) => "up",
+                (Greater, true) => "a half, to the even one below",
+                (Less, true) => "a half, to the even one above",
+            }
+        };
+        self.count("occupancy", Model.occupancy(kept, n), kind)
     }
 }
 
@@ -650,7 +682,11 @@ fn answers() -> Vec<(&'static str, Vec<&'static str>, Vec<Cause>)> {
         ("save", vec!["done"], [collect(), vec![Scratch, Output]].concat()),
         ("load", vec!["done", "bytes behind"], [length(), image()].concat()),
         ("check", vec!["done"], [vec![NoCells, ManyCells], image()].concat()),
-        ("occupancy", vec!["done"], vec![NoCells, ManyCells, Kept]),
+        (
+            "occupancy",
+            vec!["a whole percent", "down", "up", "a half, to the even one below", "a half, to the even one above"],
+            vec![NoCells, ManyCells, Kept],
+        ),
     ]
 }
 

@@ -989,15 +989,87 @@ fn the_tally_stops_at_its_limit() {
     });
 }
 
+/// Kept, N and the percent: "the percent goes to the nearest whole number, and an exact half to the even one" (02, S-7).
+const PERCENTAGES: [(u32, u32, u32); 58] = [
+    // The customer's: 0.5, 1.5, 33.3 and 66.7.
+    (1, 200, 0),
+    (3, 200, 2),
+    (1, 3, 33),
+    (2, 3, 67),
+    // Whole percents: none, all and some.
+    (0, 1, 0),
+    (0, 3, 0),
+    (0, 4_000, 0),
+    (1, 1, 100),
+    (3, 3, 100),
+    (200, 200, 100),
+    (4_000, 4_000, 100),
+    (1, 2, 50),
+    (3, 4, 75),
+    (2, 200, 1),
+    (4, 200, 2),
+    (2_000, 4_000, 50),
+    (3_960, 4_000, 99),
+    // Halves of 200 cells: 2.5, 3.5, 28.5, 49.5, 50.5, 57.5, 98.5, 99.5.
+    (5, 200, 2),
+    (7, 200, 4),
+    (57, 200, 28),
+    (99, 200, 50),
+    (101, 200, 50),
+    (115, 200, 58),
+    (197, 200, 98),
+    (199, 200, 100),
+    // Of 40 cells: 2.5, 7.5, 92.5, 97.5; of 8: 12.5, 37.5, 62.5, 87.5; of 24 the last two again.
+    (1, 40, 2),
+    (3, 40, 8),
+    (37, 40, 92),
+    (39, 40, 98),
+    (1, 8, 12),
+    (3, 8, 38),
+    (5, 8, 62),
+    (7, 8, 88),
+    (15, 24, 62),
+    (21, 24, 88),
+    // Of 4,000 cells: 0.5, 1.5, 98.5, 99.5, and a cell less and more, which is a 40th of a percent; of 3,992: 12.5 and 87.5.
+    (19, 4_000, 0),
+    (20, 4_000, 0),
+    (21, 4_000, 1),
+    (59, 4_000, 1),
+    (60, 4_000, 2),
+    (61, 4_000, 2),
+    (3_939, 4_000, 98),
+    (3_940, 4_000, 98),
+    (3_941, 4_000, 99),
+    (3_979, 4_000, 99),
+    (3_980, 4_000, 100),
+    (3_981, 4_000, 100),
+    (499, 3_992, 12),
+    (3_493, 3_992, 88),
+    // Near a half or a whole percent: 1.49, 2.53, 49.99, 50.01.
+    (1, 67, 1),
+    (2, 79, 3),
+    (1_999, 3_999, 50),
+    (2_000, 3_999, 50),
+    // One cell kept, and one free: 0.025 and 99.975 of 4,000 cells, 0.503 and 99.497 of 199.
+    (1, 4_000, 0),
+    (3_999, 4_000, 100),
+    (1, 199, 1),
+    (198, 199, 99),
+    // A product of 16 bits would begin again at 656 cells kept: 65,600 / 4,000 is 16.4.
+    (656, 4_000, 16),
+];
+
 #[test]
 fn percentages() {
     on_all(|pool| {
-        assert_eq!(pool.occupancy(1, 3), Ok(33));
-        assert_eq!(pool.occupancy(2, 3), Ok(66));
-        assert_eq!(pool.occupancy(0, 1), Ok(0));
-        assert_eq!(pool.occupancy(1, 1), Ok(100));
-        assert_eq!(pool.occupancy(3_999, 4_000), Ok(99));
-        assert_eq!(pool.occupancy(4_000, 4_000), Ok(100));
+        for (kept, n, percent) in PERCENTAGES {
+            assert_eq!(pool.occupancy(kept, n), Ok(percent), "{kept} of {n}");
+        }
+        // Up to 199 cells one kept cell shows, and one free cell; from 200 on neither does, as the header states.
+        for n in 1..=4_000 {
+            assert_eq!(pool.occupancy(1, n) == Ok(0), n >= 200, "1 of {n}");
+            assert_eq!(pool.occupancy(n - 1, n) == Ok(100), n >= 200, "all but one of {n}");
+        }
         assert_eq!(pool.occupancy(2, 1), Err(1));
         assert_eq!(pool.occupancy(0, 0), Err(1));
         assert_eq!(pool.occupancy(1, 4_001), Err(1));

@@ -336,6 +336,8 @@ fn calls(bench: &Bench, random: &mut Random) {
     println!("| setright | {:.1} |{}", figures.library, figures.ratios());
     let figures = bench.calls(n, restart, |pool, words, _| pool.value(words, 0).is_ok(), &mut words);
     println!("| value | {:.1} |{}", figures.library, figures.ratios());
+    let figures = bench.calls(n, |_| (), |pool, _, v| pool.occupancy(black_box(v), n as u32).is_ok(), &mut words);
+    println!("| occupancy | {:.1} |{}", figures.library, figures.ratios());
 }
 
 fn build(bench: &Bench, _: &mut Random) {

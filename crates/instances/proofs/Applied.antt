@@ -16,6 +16,7 @@ use Rattle.pool.proofs.RetainedPool.{retained-free-list}
 use Rattle.pool.proofs.Sizes.{lengths-of-pools, leftover-count}
 use Rattle.pool.proofs.FreshPool.{fresh-is-free}
 use Rattle.questions.proofs.FreshPool.{fresh-is-well-formed}
+use Rattle.occupancy.proofs.Nearest.{occupancy-is-nearest}
 use Rattle.reversal.specs.Reached.{isReached, visitsOf}
 use Rattle.collector.proofs.CollectTheorem.{collection-keeps-the-reached, collection-marks-and-sweeps}
 use Rattle.reversal.proofs.Roots.{run-from-roots, run-over-pool}
@@ -56,7 +57,7 @@ use Rattle.replies.proofs.Decimals.{decimals-read-back, fewest-digits}
 use Rattle.runner.specs.Work.{initial}
 use Rattle.runner.proofs.Whole.{starts-whole, parts-join, last-line-ends}
 use Rattle.instances.specs.Instances.{around, three, threeCollected, two, graph, roots, twoRuns, Swapped, image, twoCells, words, scratch, output, calls, list, lent, lentForFive, behind, longer, out, padded, lines, progress, largest}
-use Rattle.instances.proofs.Instances.{pool-instance, reversal-instance, runs-instance, graph-instance, number-instance, image-instance, check-instance, worst-case-instance, leftover-instance, batch-instance, script-instance}
+use Rattle.instances.proofs.Instances.{pool-instance, reversal-instance, runs-instance, graph-instance, number-instance, occupancy-instance, image-instance, check-instance, worst-case-instance, leftover-instance, batch-instance, script-instance}
 
 pub applied : Unit {0}
 unfolding visitsOf
@@ -66,6 +67,7 @@ applied =
     let v = runs-instance in
     let g = graph-instance in
     let k = number-instance in
+    let o = occupancy-instance in
     let i = image-instance in
     let l = leftover-instance in
     let b = batch-instance in
@@ -133,6 +135,9 @@ applied =
     let t = reads-encodings around 1 300 3 (k .bytes) .0 (k .read) in
     let t = reads-encodings around 1 300 3 (k .bytes) .1 (k .encoded) in
     let t = decimals-read-back 4294967295 (k .largest) in
+    let percent = occupancy-is-nearest 3 40 (o .questions .0) (o .questions .1) (o .questions .2) in
+    let t = percent .2 8 .0 (o .nearest) in
+    let t = o .nearest .even (o .half) in
     let t = check-is-load 2 0 image words (omega arith) (i .size) in
     let t = load-is-well-formed words image (i .accepted) in
     let t = save-then-load three scratch output 24 (replicate 6 0) (image ++ 9 ∷ 9 ∷ []) words (i .words32) (i .saved) (i .target) (i .fit) in

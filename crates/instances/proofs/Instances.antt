@@ -43,7 +43,7 @@ use Rattle.script.specs.Lines.{all, command}
 use Rattle.script.specs.Reader.{spaceOf, letterOf, digitOf, feedOf, endOf, begunOf}
 use Rattle.replies.specs.Replies.{digits, decimal}
 use Rattle.script.specs.Scripts.{nextLine}
-use Rattle.instances.specs.Instances.{three, threeCollected, two, graph, roots, twoRuns, Swapped, around, image, PoolInstance, ReversalInstance, RunsInstance, GraphInstance, NumberInstance, ImageInstance, CheckInstance, WorstCaseInstance, LeftoverInstance, BatchInstance, ScriptInstance}
+use Rattle.instances.specs.Instances.{three, threeCollected, two, graph, roots, twoRuns, Swapped, around, image, PoolInstance, ReversalInstance, RunsInstance, GraphInstance, NumberInstance, OccupancyInstance, ImageInstance, CheckInstance, WorstCaseInstance, LeftoverInstance, BatchInstance, ScriptInstance}
 use Rattle.reversal.specs.Reached.{visitsOf}
 
 -- Every element of a list that is tested whole is below a bound.
@@ -233,6 +233,14 @@ number-instance =
       bytes = below 256 (omega arith) around refl;
       read = refl;
       encoded = (omega arith, record { behind = refl; from = refl });
+    }
+
+pub occupancy-instance : OccupancyInstance
+occupancy-instance =
+    record {
+      questions = (omega arith, omega arith, omega arith);
+      nearest = record { near = omega arith; even = λ half. refl };
+      half = refl;
     }
 
 pub image-instance : ImageInstance

@@ -18,6 +18,7 @@ use Rattle.pool.specs.Lengths.{LengthOf}
 use Rattle.pool.specs.Retain.{freshWords}
 use Rattle.pool.specs.Fresh.{freshOf}
 use Rattle.answers.specs.Outcome.{answered}
+use Rattle.occupancy.specs.Occupancy.{distance, Nearest}
 use Rattle.reversal.specs.Reached.{reachedCells, reachedCount}
 use Rattle.collector.specs.Collect.{collectOf}
 use Rattle.reversal.specs.declared.VisitCase.the-variants as visit
@@ -169,6 +170,12 @@ pub record NumberInstance : Type 0 where
   pub bytes : Bytes around
   pub read : readAt around 1 ≡ number.Value 300 3
   pub encoded : (300 < 2 ^ 32) × Between around 1 3 (encode 300)
+
+-- The occupancy: `OccupancyIsNearest` where 3 of 40 cells are kept: 7.5 percent, an exact half.
+pub record OccupancyInstance : Type 0 where
+  pub questions : (1 ≤ 40) × (40 ≤ cellLimit) × (3 ≤ 40)
+  pub nearest : Nearest (100 * 3) 40 8
+  pub half : 2 * distance (100 * 3) (8 * 40) ≡ 40
 
 -- The bytes of an image of two cells, what it holds, and words to load it into.
 abbrev pub image : List ℕ

@@ -1,4 +1,4 @@
--- The starred cases of document 01 ("Strips flown on paper") and its lengths, those that 02 names, and examples of its S-5 and S-6, as one table, and the sentence
+-- The starred cases of document 01 ("Strips flown on paper") and its lengths, those that 02 names, and examples of its S-5, S-6 and S-7, as one table, and the sentence
 -- that every case of it holds.
 use Prim.Native.Nat.{ℕ}
 use mathlib.Core.Path.{_≡_}
@@ -20,7 +20,7 @@ use Rattle.worked_examples.specs.CheckedPools.{poolFrom, combLinks, twoC
 
 -- A case: the bytes of a number; bytes, and what the check of them as an image for a pool of one cell answers; a pool, and what its collection keeps and
 -- visits; a pool and a number of stack words, and what the collection with them keeps, whether they are enough (1) or not (0), and how many checks run; a number of
--- cells, and what the builder of the worst case for the stack answers; what percent of n cells is kept; a number of words, and how many cells fresh makes of them
+-- cells, and what the builder of the worst case for the stack answers; how many cells are kept, of how many, and the percent; a number of words, and how many cells fresh makes of them
 -- and how many words are left over; and a number of words of which it makes no pool.
 pub data Case : Type 0 where
   number : ℕ → List ℕ → Case
@@ -97,8 +97,15 @@ table =
     -- nothing is promised of longer stacks: two words make more checks than one
     ∷ stack (poolFrom 1 0 elevenLinks) 1 11 1 1
     ∷ stack (poolFrom 1 0 elevenLinks) 2 11 1 2
-    -- "Gauge 1 of 3: 33"
+    -- "Gauge 1 of 3: 33", and 02, S-7: "The percent goes to the nearest whole number, and an exact half to the even one. 1 of 200 shows 0, 3 of 200 shows 2, 1 of 3
+    -- shows 33, 2 of 3 shows 67"; 2.5 and 7.5 percent, and all of the largest pool
+    ∷ percent 1 200 0
+    ∷ percent 3 200 2
     ∷ percent 1 3 33
+    ∷ percent 2 3 67
+    ∷ percent 1 40 2
+    ∷ percent 3 40 8
+    ∷ percent 4000 4000 100
     -- "Length 18: refused 1; 22: N = 1; 16,018: N = 4,000; 16,022: refused 1", and 02, S-6: "The length may now be 18 + 4 × N + e, with e from 0 to 3"
     ∷ noPool 18
     ∷ noPool 21
