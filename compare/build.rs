@@ -2,7 +2,7 @@
 //! the program runscript in plain C.
 //!
 //! CELLPOOL_LIB_DIR names another directory of the archive; CC another C compiler. CELLPOOL_BEFORE_DIR names the directory of an
-//! archive of an earlier version with the same functions, which the benchmark then has beside this one.
+//! archive of an earlier version, which the benchmark then has beside this one; what it lacks is left out.
 
 use std::env;
 use std::ffi::OsStr;
@@ -13,6 +13,7 @@ fn main() {
     println!("cargo:rustc-check-cfg=cfg(c_baseline)");
     println!("cargo:rerun-if-changed=build.rs");
     println!("cargo:rustc-check-cfg=cfg(before)");
+    println!("cargo:rustc-check-cfg=cfg(before_has_points)");
     println!("cargo:rerun-if-env-changed=CELLPOOL_LIB_DIR");
     println!("cargo:rerun-if-env-changed=CELLPOOL_BEFORE_DIR");
     println!("cargo:rerun-if-env-changed=CC");
@@ -74,6 +75,10 @@ fn link_before(archive: &Path) {
     println!("cargo:rustc-link-search=native={}", out.display());
     println!("cargo:rustc-link-lib=static=cellpool_before");
     println!("cargo:rustc-cfg=before");
+    let listed = Command::new("nm").arg(&renamed).output().expect("nm is beside objcopy");
+    if String::from_utf8_lossy(&listed.stdout).contains(" T before_cellpool_point\n") {
+        println!("cargo:rustc-cfg=before_has_points");
+    }
 }
 
 /// Compile C files into an object or a program.

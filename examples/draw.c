@@ -3,8 +3,9 @@
  *
  *   ./draw < plan.image | dot -Tsvg > plan.svg
  *
- * A cell is a box with its number in the image, its value, and a field for each link, left before right; a field of a nil
- * link has a stroke. Left links are solid, right links dashed. Registers that hold a cell are the plain names r0 to r15.
+ * A pair is a box with its number in the image, its value, and a field for each link, left before right; a field of a nil
+ * link has a stroke. A point is a box with round corners, and its fields are x and y. Left links are solid, right links
+ * dashed. Registers that hold a cell are the plain names r0 to r15.
  * The status is 0, or 1 where the input is no image.
  */
 #include "cellpool.h"
@@ -12,6 +13,9 @@
 #include <stdio.h>
 
 #define CELLS CELLPOOL_MOST_CELLS
+
+/* The states of used cells. */
+enum { PAIR = 0, POINT = 5 };
 
 static uint32_t words[CELLPOOL_WORDS(CELLS)];
 /* Any image fits, and one byte more, which tells that there are bytes behind the longest one too. */
@@ -37,8 +41,13 @@ static int draw(size_t count) {
         printf("  r%lu -> c%lu;\n", (unsigned long)i, (unsigned long)words[2 + i]);
     }
     /* A loaded image has its cells in front, and only they are used. */
-    for (i = 1; i <= CELLS && cell(i)[0] == 0; i++) {
+    for (i = 1; i <= CELLS && (cell(i)[0] == PAIR || cell(i)[0] == POINT); i++) {
         const uint32_t left = cell(i)[1], right = cell(i)[2], value = cell(i)[3];
+        if (cell(i)[0] == POINT) {
+            printf("  c%lu [shape=Mrecord, label=\"{cell %lu|%lu|{%lu|%lu}}\"];\n", (unsigned long)i, (unsigned long)i,
+                   (unsigned long)value, (unsigned long)left, (unsigned long)right);
+            continue;
+        }
         printf("  c%lu [label=\"{cell %lu|%lu|{<l>%s|<r>%s}}\"];\n", (unsigned long)i, (unsigned long)i, (unsigned long)value,
                left == 0 ? "/" : "", right == 0 ? "/" : "");
         if (left != 0) printf("  c%lu:l -> c%lu;\n", (unsigned long)i, (unsigned long)left);

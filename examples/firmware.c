@@ -1,14 +1,16 @@
 /*
  * A flight plan in a cell pool, as a board keeps it: static memory only, no standard library, every answer looked at.
  *
- * The plan is a list of waypoints. A waypoint is a cell: its value is the waypoint's number, its left link leads to a cell
- * with its height in metres, its right link to the next waypoint. The log is a list of the waypoints flown, newest first.
+ * The plan is a list of waypoints. A waypoint is a pair: its value is the waypoint's number, its left link leads to a point,
+ * its place, with east and north as x and y and the height in metres as value, and its right link to the next waypoint. The
+ * log is a list of the waypoints flown, newest first.
  *
  * What is done about a refusal:
  *   no cell is free (5)       the pool has collected already: drop the log, which is only good to have, and try once more
- *   malformed or size (3, 1)  memory was damaged: take the newest stored plan that is good, and try once more
+ *   malformed or size (3, 1), memory was damaged: take the newest stored plan that is good, and try once more
+ *   or of the other kind (13)
  *   nil (4)                   the plan has ended
- *   an image (6 to 9, 12)     that stored plan is not good, whatever its checksum: take the older one
+ *   an image (6 to 9, 12, 14) that stored plan is not good, whatever its checksum: take the older one
  *   anything else             an error in this program: tell the caller, and change nothing
  *
  * Build, with a main of your own in the place of firmware_main.c:
@@ -17,7 +19,7 @@
 #include "firmware.h"
 
 /* Registers: the plan, the log, one for the work of a function, which is nil between calls, and one that stays nil. */
-enum { PLAN, LOG, METRES, NIL };
+enum { PLAN, LOG, PLACE, NIL };
 
 #define LEN PLAN_WORDS
 
@@ -38,19 +40,21 @@ static uint32_t crc_of(const uint8_t *bytes, uint32_t count) {
 }
 
 /* One try of each function: the first answer that is a refusal, or 0. */
-static uint32_t try_add(uint32_t waypoint, uint32_t metres) {
-    uint32_t visits, answer = cellpool_new(plan_words, LEN, METRES, NIL, NIL, metres, &visits);
-    if (answer == CELLPOOL_OK) answer = cellpool_new(plan_words, LEN, PLAN, METRES, PLAN, waypoint, &visits);
+static uint32_t try_add(uint32_t waypoint, plan_place place) {
+    uint32_t visits, answer = cellpool_point(plan_words, LEN, PLACE, place.metres, place.east, place.north, &visits);
+    if (answer == CELLPOOL_OK) answer = cellpool_new(plan_words, LEN, PLAN, PLACE, PLAN, waypoint, &visits);
     return answer;
 }
 
-static uint32_t try_next(uint32_t *waypoint, uint32_t *metres) {
+static uint32_t try_next(uint32_t *waypoint, plan_place *place) {
     uint32_t visits, answer = cellpool_value(plan_words, LEN, PLAN, waypoint);
-    if (answer == CELLPOOL_OK) answer = cellpool_left(plan_words, LEN, METRES, PLAN);
-    if (answer == CELLPOOL_OK) answer = cellpool_value(plan_words, LEN, METRES, metres);
+    if (answer == CELLPOOL_OK) answer = cellpool_left(plan_words, LEN, PLACE, PLAN);
+    if (answer == CELLPOOL_OK) answer = cellpool_east(plan_words, LEN, PLACE, &place->east);
+    if (answer == CELLPOOL_OK) answer = cellpool_north(plan_words, LEN, PLACE, &place->north);
+    if (answer == CELLPOOL_OK) answer = cellpool_value(plan_words, LEN, PLACE, &place->metres);
     /* Go on before the entry is made: it finds room, since nothing reaches the waypoint's two cells any more. */
     if (answer == CELLPOOL_OK) answer = cellpool_right(plan_words, LEN, PLAN, PLAN);
-    if (answer == CELLPOOL_OK) answer = cellpool_clear(plan_words, LEN, METRES);
+    if (answer == CELLPOOL_OK) answer = cellpool_clear(plan_words, LEN, PLACE);
     if (answer == CELLPOOL_OK) answer = cellpool_new(plan_words, LEN, LOG, NIL, LOG, *waypoint, &visits);
     return answer;
 }
@@ -84,6 +88,7 @@ static plan_code remedy(uint32_t answer) {
         plan_drops++;
         return cellpool_clear(plan_words, LEN, LOG) == CELLPOOL_OK ? PLAN_OK : PLAN_FAULT;
     case CELLPOOL_REFUSED_SIZE:
+    case CELLPOOL_REFUSED_KIND:
     case CELLPOOL_REFUSED_MALFORMED: return plan_recover();
     case CELLPOOL_REFUSED_NIL: return PLAN_END;
     default: return PLAN_FAULT;
@@ -93,7 +98,7 @@ static plan_code remedy(uint32_t answer) {
 /* After a try: done, or what is to be done about it. Two remedies, a stored plan and then room in it, may be needed. */
 static plan_code settled(uint32_t answer, int *tries) {
     plan_code code = answer == CELLPOOL_OK ? PLAN_OK : remedy(answer);
-    if (cellpool_clear(plan_words, LEN, METRES) != CELLPOOL_OK) code = PLAN_FAULT;
+    if (cellpool_clear(plan_words, LEN, PLACE) != CELLPOOL_OK) code = PLAN_FAULT;
     if (answer == CELLPOOL_OK || code != PLAN_OK) *tries = 0;
     else if (--*tries == 0) code = PLAN_FAULT;
     return code;
@@ -104,17 +109,17 @@ plan_code plan_begin(void) {
     return answer == CELLPOOL_OK ? PLAN_OK : PLAN_FAULT;
 }
 
-plan_code plan_add(uint32_t waypoint, uint32_t metres) {
+plan_code plan_add(uint32_t waypoint, plan_place place) {
     plan_code code = PLAN_OK;
     int tries = 3;
-    while (tries > 0) code = settled(try_add(waypoint, metres), &tries);
+    while (tries > 0) code = settled(try_add(waypoint, place), &tries);
     return code;
 }
 
-plan_code plan_next(uint32_t *waypoint, uint32_t *metres) {
+plan_code plan_next(uint32_t *waypoint, plan_place *place) {
     plan_code code = PLAN_OK;
     int tries = 3;
-    while (tries > 0) code = settled(try_next(waypoint, metres), &tries);
+    while (tries > 0) code = settled(try_next(waypoint, place), &tries);
     return code;
 }
 

@@ -12,7 +12,8 @@ extern "C" {
 #define PLAN_BYTES 470u
 #define PLAN_WORDS (PLAN_BYTES / 4u)
 
-/* Cells of the pool: a waypoint takes two, an entry of the log one. 117 words have 24 cells, and three are left over. */
+/* Cells of the pool: a waypoint takes two, a pair and the point of its place, an entry of the log one. 117 words have 24
+   cells, and three are left over. */
 #define PLAN_CELLS CELLPOOL_CELLS(PLAN_WORDS)
 #if PLAN_CELLS == 0
 #error "no pool has so many words"
@@ -29,6 +30,11 @@ typedef enum {
     /* A call was refused for a reason that these functions shut out: an error in the program. */
     PLAN_FAULT
 } plan_code;
+
+/* Where a waypoint is, in the board's own units. */
+typedef struct {
+    uint32_t east, north, metres;
+} plan_place;
 
 /* A stored plan: an image carries no checksum of its own. */
 typedef struct {
@@ -48,9 +54,9 @@ extern uint32_t plan_recoveries, plan_drops;
 /* An empty plan and an empty log. */
 plan_code plan_begin(void);
 /* Put a waypoint before the plan. */
-plan_code plan_add(uint32_t waypoint, uint32_t metres);
+plan_code plan_add(uint32_t waypoint, plan_place place);
 /* Take the first waypoint from the plan and enter it in the log. */
-plan_code plan_next(uint32_t *waypoint, uint32_t *metres);
+plan_code plan_next(uint32_t *waypoint, plan_place *place);
 /* The percent of the pool's cells that plan and log take, for the ground display: the nearest whole number, and of a
    half the even one. It is written only where the answer is PLAN_OK. */
 plan_code plan_occupancy(uint32_t *percent);

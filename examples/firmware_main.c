@@ -30,17 +30,36 @@ static unsigned long shown(void) {
     return percent;
 }
 
+/* Where a waypoint of this day is: the numbers are larger than any link. */
+static plan_place place_of(uint32_t waypoint) {
+    plan_place place;
+    place.east = 500000 + 25 * waypoint;
+    place.north = 5400000 - 40 * waypoint;
+    place.metres = 100 + 10 * waypoint;
+    return place;
+}
+
 static void fly(uint32_t waypoint) {
-    uint32_t number = 0, metres = 0;
-    expect("next", plan_next(&number, &metres), PLAN_OK);
+    plan_place place = {0, 0, 0}, expected = place_of(waypoint);
+    uint32_t number = 0;
+    expect("next", plan_next(&number, &place), PLAN_OK);
     expect("waypoint", number, waypoint);
-    expect("metres", metres, 100 + 10 * waypoint);
+    expect("east", place.east, expected.east);
+    expect("north", place.north, expected.north);
+    expect("metres", place.metres, expected.metres);
+}
+
+/* The state of the place of the first waypoint: the left cell of the one in the plan's register. */
+static uint32_t *state_of_place(void) {
+    const uint32_t *waypoint = plan_words + CELLPOOL_WORDS(plan_words[2] - 1);
+    return plan_words + CELLPOOL_WORDS(waypoint[1] - 1);
 }
 
 int main(void) {
     /* The words left over: behind 18 of the pool and 4 of each cell. */
     uint32_t *const spare = plan_words + CELLPOOL_WORDS(PLAN_CELLS);
-    uint32_t i, number, metres, percent;
+    uint32_t i, number, percent;
+    plan_place place;
 
     for (i = 0; i < 3; i++) spare[i] = 1000 + i;
     expect("begin", plan_begin(), PLAN_OK);
@@ -49,7 +68,7 @@ int main(void) {
     expect("words left over", plan_leftover, 3);
     printf("%lu bytes of memory: %lu cells, %lu words left over\n", (unsigned long)PLAN_BYTES, (unsigned long)plan_cells,
            (unsigned long)plan_leftover);
-    for (i = 10; i >= 1; i--) expect("add", plan_add(i, 100 + 10 * i), PLAN_OK);
+    for (i = 10; i >= 1; i--) expect("add", plan_add(i, place_of(i)), PLAN_OK);
     expect("cells of ten waypoints", live(), 20);
     expect("percent of 20 cells", shown(), 83); /* 83.3 */
     expect("store", plan_store(), PLAN_OK);
@@ -62,16 +81,16 @@ int main(void) {
     printf("six of ten waypoints flown, %lu cells live, %lu percent\n", live(), shown());
 
     /* Five more fill the pool, 14 + 10; the sixth drops the log, 4 + 6 waypoints are 20 cells; two more fill it again. */
-    for (i = 6; i >= 2; i--) expect("add", plan_add(i, 100 + 10 * i), PLAN_OK);
+    for (i = 6; i >= 2; i--) expect("add", plan_add(i, place_of(i)), PLAN_OK);
     expect("cells", live(), 24);
     expect("log dropped", plan_drops, 0);
-    expect("add", plan_add(1, 110), PLAN_OK);
+    expect("add", plan_add(1, place_of(1)), PLAN_OK);
     expect("log dropped", plan_drops, 1);
     expect("cells", live(), 20);
-    expect("add", plan_add(0, 100), PLAN_OK);
-    expect("add", plan_add(0, 100), PLAN_OK);
+    expect("add", plan_add(0, place_of(0)), PLAN_OK);
+    expect("add", plan_add(0, place_of(0)), PLAN_OK);
     expect("cells", live(), 24);
-    expect("add to a full plan", plan_add(0, 100), PLAN_FULL);
+    expect("add to a full plan", plan_add(0, place_of(0)), PLAN_FULL);
     expect("cells", live(), 24);
     expect("percent of 24 cells", shown(), 100);
     fly(0);
@@ -90,16 +109,24 @@ int main(void) {
     expect("cells of three waypoints and seven entries", live(), 6 + 7);
     printf("damaged memory: recovered, and waypoint 7 flown\n");
 
+    /* The state of a point damaged, so that it looks like a pair: what is no place is refused with 13, and the same plan
+       comes back. */
+    *state_of_place() = 0;
+    fly(7);
+    expect("recovered", plan_recoveries, 2);
+    expect("cells of three waypoints and seven entries", live(), 6 + 7);
+    printf("a place that is no point: recovered, and waypoint 7 flown again\n");
+
     /* Damaged words and a flipped bit in the newer slot: the older one has all ten waypoints. */
     plan_words[0] = 0;
     plan_slots[1].image[20] ^= 1u;
     fly(1);
-    expect("recovered", plan_recoveries, 2);
+    expect("recovered", plan_recoveries, 3);
     expect("cells of nine waypoints and one entry", live(), 18 + 1);
     printf("newer slot damaged too: recovered from the older one\n");
 
     for (i = 2; i <= 10; i++) fly(i);
-    expect("next behind the last", plan_next(&number, &metres), PLAN_END);
+    expect("next behind the last", plan_next(&number, &place), PLAN_END);
     expect("cells of ten entries", live(), 10);
     expect("percent of 10 cells", shown(), 42); /* 41.7 */
     plan_slots[0].bytes = 0xFFFFFFFFu;

@@ -1,15 +1,18 @@
 /*
- * cellpool: a pool of cells of two links and a value, in 32-bit words that the caller lends.
+ * cellpool: a pool of cells in 32-bit words that the caller lends. A used cell is a pair, of two links and a value, or a
+ * point, of two numbers x and y and a value.
  *
  * A pool of N cells, N from 1 to 4,000, is a block of 18 + 4 * N words (CELLPOOL_WORDS) and none to three more, which
  * are left over: any length from 22 to 16,021 is that of a pool, and N comes from the length alone (CELLPOOL_CELLS).
  *   word 0        N
  *   word 1        head of the chain of free cells, 0 for none
  *   words 2..17   registers 0 to 15
- *   then four words for each cell 1 to N: state (0 used, 4 free), left, right, value
+ *   then four words for each cell 1 to N: state (0 a pair, 4 free, 5 a point), left, right, value; of a point x stands in
+ *   the place of left, and y in that of right
  *   then the words left over, whose content is the caller's
- * A link is 0 (nil) or the number of a cell. It is valid if it is 0 or the number of a used cell. A pool is
- * well-formed if every state is 0 or 4 and all registers and all links of used cells are valid.
+ * A link is 0 (nil) or the number of a cell. It is valid if it is 0 or the number of a used cell, a pair or a point. A
+ * pool is well-formed if every state is 0, 4 or 5 and all registers and all links of pairs are valid. The x and y of a
+ * point are any numbers: no function takes them for links.
  *
  * Every function is total: it answers CELLPOOL_OK or a refusal, for any content of the words. A refusal leaves every
  * lent block as it was, except where a function says so below, and neither reads nor writes the numbers lent for
@@ -25,8 +28,8 @@
  *     lent numbers to 4 bytes, size_t to 8; images may stand anywhere. Lengths are counted in elements.
  *   - Lent blocks do not overlap, and are used by nobody else during a call.
  *   - One pool is used by one thread at a time, also in calls that are refused: a collection changes the words while
- *     it runs, also that of a cellpool_new which is then refused with 5, after which every word is as it was. No
- *     function keeps a pointer, allocates, or uses global state, so two pools may be used at the same time.
+ *     it runs, also that of a cellpool_new or cellpool_point which is then refused with 5, after which every word is as
+ *     it was. No function keeps a pointer, allocates, or uses global state, so two pools may be used at the same time.
  *   - An image has no magic number, no version and no checksum: bytes that happen to be an image of another plan, or
  *     one with a flipped bit in a value, are loaded. Where storage or a link may fail, put a checksum around it.
  *   - A number of an image has one form, its fewest bytes: 5 is 05, and 85 00 is refused with 12. Whoever writes images
@@ -34,9 +37,9 @@
  *     byte for byte: loaded and saved again, it is the same bytes.
  *
  * The archive is for x86-64 in ELF only, with the System V calling convention, and position independent. It has the
- * instructions that every x86-64 processor has, SSE2 among them (today in cellpool_collect_stack and cellpool_worst_case
- * alone), no x87, MMX or AVX, and needs nothing but memset. Each function is in a section of its own, so that the linker
- * may drop what is not called (--gc-sections).
+ * instructions that every x86-64 processor has, SSE2 among them (today in cellpool_worst_case alone), no x87, MMX or AVX,
+ * and needs nothing but memset. Each function is in a section of its own, so that the linker may drop what is not called
+ * (--gc-sections).
  *
  * Interrupts: the archive may use the red zone, the 128 bytes below the stack pointer that the calling convention gives to
  * a function that calls no other (today no function does, another version may). An interrupt handler on the same stack
@@ -53,21 +56,25 @@
  *   cellpool_clear               constant                                           32
  *   cellpool_new                 constant where a cell is free; else it collects:   192
  *                                linear
+ *   cellpool_point               constant where a cell is free; else it collects:   192
+ *                                linear
  *   cellpool_left                constant                                           32
  *   cellpool_right               constant                                           32
  *   cellpool_setleft             constant                                           32
  *   cellpool_setright            constant                                           32
  *   cellpool_setvalue            constant                                           32
  *   cellpool_value               constant                                           32
+ *   cellpool_east                constant                                           32
+ *   cellpool_north               constant                                           32
  *   cellpool_same                constant                                           32
  *   cellpool_collect             linear                                             160
  *   cellpool_collect_tally       linear                                             192
- *   cellpool_collect_stack       linear, and linear in (checks + 1) * stack_len     160
+ *   cellpool_collect_stack       linear, and linear in (checks + 1) * stack_len     192
  *   cellpool_worst_case          linear                                             96
  *   cellpool_collect_recursive   linear                                             6144
  *   cellpool_save                linear, and linear in scratch_len                  320
- *   cellpool_load                linear                                             256
- *   cellpool_check_image         linear in the cells of the image                   192
+ *   cellpool_load                linear                                             448
+ *   cellpool_check_image         linear in the cells of the image                   256
  *   cellpool_occupancy           constant                                           32
  */
 #ifndef CELLPOOL_H
@@ -96,8 +103,14 @@
  * that were accepted, nor in images.
  * 6.0.0: cellpool_occupancy rounds to the nearest percent, and a half to the even one, where 5.0.0 rounded down: the
  * percent may be one higher, and 100 no longer says that every cell is kept. Nothing else has changed.
+ * 7.0.0: a used cell may be a point, of state 5, which 6.0.0 refuses as malformed: cellpool_point, cellpool_east and
+ * cellpool_north come. Where a register holds a point, the functions of links refuse with 13. A point takes one visit, so
+ * that visits may be fewer than three for each cell kept. In an image each cell begins with its kind, and only this form
+ * is read. An image with cells that was saved before is refused, with the number that its bytes give; but with bytes behind
+ * it, it may be taken for another plan. Save such plans anew. CELLPOOL_IMAGE_BYTES is larger. For pools without points
+ * nothing has changed but their images.
  */
-#define CELLPOOL_VERSION_MAJOR 6
+#define CELLPOOL_VERSION_MAJOR 7
 #define CELLPOOL_VERSION_MINOR 0
 #define CELLPOOL_VERSION_PATCH 0
 #define CELLPOOL_VERSION (10000 * CELLPOOL_VERSION_MAJOR + 100 * CELLPOOL_VERSION_MINOR + CELLPOOL_VERSION_PATCH)
@@ -129,9 +142,9 @@ extern "C" {
 /* Words of stack with which cellpool_collect_stack makes no check on any pool of n cells, and as many as the pool of
    cellpool_worst_case takes. 0 for two cells and fewer (an array of C has one element at least). n is evaluated twice. */
 #define CELLPOOL_STACK(n) ((n) == 0 ? 0u : ((n) - 1u) / 2u)
-/* Bytes that hold every image of k cells, whoever wrote it: K and 16 registers of at most 2 bytes, links of 2 and a
-   value of 5. */
-#define CELLPOOL_IMAGE_BYTES(k) (34u + 9u * (k))
+/* Bytes that hold every image of k cells, whoever wrote it: K and 16 registers of at most 2 bytes, and a cell of 16, since
+   a point has a kind of 1 byte and x, y and a value of 5 (a pair has links of 2). */
+#define CELLPOOL_IMAGE_BYTES(k) (34u + 16u * (k))
 
 /* Answers. */
 enum {
@@ -161,7 +174,11 @@ enum {
     /* The pool has more than 64 cells: too many for the recursive marker. */
     CELLPOOL_REFUSED_TOO_LARGE = 11,
     /* A number of the image is padded: its last byte is 00, and it is longer than that byte. */
-    CELLPOOL_REFUSED_PADDED = 12
+    CELLPOOL_REFUSED_PADDED = 12,
+    /* The cell is of the other kind: a point where a pair is needed, or a pair where a point is. */
+    CELLPOOL_REFUSED_KIND = 13,
+    /* A kind of the image is neither 0 (a pair) nor 1 (a point). */
+    CELLPOOL_REFUSED_KIND_NUMBER = 14
 };
 
 /* An answer in words, for logs and consoles. */
@@ -180,6 +197,8 @@ static inline const char *cellpool_refusal_text(uint32_t answer) {
     case CELLPOOL_REFUSED_NO_ROOM: return "the scratch or the output is too short";
     case CELLPOOL_REFUSED_TOO_LARGE: return "the pool is too large for the recursive marker";
     case CELLPOOL_REFUSED_PADDED: return "a number of the image is padded";
+    case CELLPOOL_REFUSED_KIND: return "the cell is of the other kind";
+    case CELLPOOL_REFUSED_KIND_NUMBER: return "a kind of the image is unknown";
     default: return "no answer of this library";
     }
 }
@@ -197,39 +216,52 @@ uint32_t cellpool_copy(uint32_t *words, size_t len, uint32_t r, uint32_t a);
 CELLPOOL_MUST_USE
 uint32_t cellpool_clear(uint32_t *words, size_t len, uint32_t r);
 
-/* Register r gets a new cell with the link in register a as its left, that in b as its right, and value v. Where no
+/* Register r gets a new pair with the link in register a as its left, that in b as its right, and value v. Where no
    free cell is left it collects first, with the old content of r still a root. *visits becomes the visits of that
    collection, 0 where there was none. Refused with 5 it has collected, and every word is as before: all cells were
    reached. Refused: 1, 2, 3, 5. */
 CELLPOOL_MUST_USE
 uint32_t cellpool_new(uint32_t *words, size_t len, uint32_t r, uint32_t a, uint32_t b, uint32_t v, uint32_t *visits);
 
-/* Register r gets the left (right) link of the cell in register a. Refused: 1, 2, 3 (the register), 4, 3 (the link). */
+/* Register r gets a new point with value v and these x and y, which may be any numbers. No register is read; a collection
+   and *visits are as with cellpool_new. Refused: 1, 2, 3, 5. */
+CELLPOOL_MUST_USE
+uint32_t cellpool_point(uint32_t *words, size_t len, uint32_t r, uint32_t v, uint32_t x, uint32_t y, uint32_t *visits);
+
+/* Register r gets the left (right) link of the pair in register a. Refused: 1, 2, 3 (the register), 4, 13 (a point), 3
+   (the link). */
 CELLPOOL_MUST_USE
 uint32_t cellpool_left(uint32_t *words, size_t len, uint32_t r, uint32_t a);
 CELLPOOL_MUST_USE
 uint32_t cellpool_right(uint32_t *words, size_t len, uint32_t r, uint32_t a);
 
-/* The left (right) link of the cell in register a becomes the content of register b. Refused: 1, 2, 3, 4. */
+/* The left (right) link of the pair in register a becomes the content of register b. Refused: 1, 2, 3, 4, 13 (a point). */
 CELLPOOL_MUST_USE
 uint32_t cellpool_setleft(uint32_t *words, size_t len, uint32_t a, uint32_t b);
 CELLPOOL_MUST_USE
 uint32_t cellpool_setright(uint32_t *words, size_t len, uint32_t a, uint32_t b);
 
-/* The value of the cell in register a becomes v. Refused: 1, 2, 3, 4. */
+/* The value of the cell in register a, a pair or a point, becomes v. Refused: 1, 2, 3, 4. */
 CELLPOOL_MUST_USE
 uint32_t cellpool_setvalue(uint32_t *words, size_t len, uint32_t a, uint32_t v);
 
-/* *value becomes the value of the cell in register a. Refused: 1, 2, 3, 4. */
+/* *value becomes the value of the cell in register a, a pair or a point. Refused: 1, 2, 3, 4. */
 CELLPOOL_MUST_USE
 uint32_t cellpool_value(const uint32_t *words, size_t len, uint32_t a, uint32_t *value);
+
+/* *x (*y) becomes that of the point in register a. Refused: 1, 2, 3, 4, 13 (a pair). */
+CELLPOOL_MUST_USE
+uint32_t cellpool_east(const uint32_t *words, size_t len, uint32_t a, uint32_t *x);
+CELLPOOL_MUST_USE
+uint32_t cellpool_north(const uint32_t *words, size_t len, uint32_t a, uint32_t *y);
 
 /* *same becomes 1 if registers a and b hold the same cell or are both nil, else 0. Refused: 1, 2, 3. */
 CELLPOOL_MUST_USE
 uint32_t cellpool_same(const uint32_t *words, size_t len, uint32_t a, uint32_t b, uint32_t *same);
 
 /* Keep the cells that the registers reach, free all others, and chain the free cells in ascending order. Marks by
-   link reversal, with no further memory. *kept becomes the cells kept, *visits three times that. Refused: 1, 3. */
+   link reversal, with no further memory. *kept becomes the cells kept, *visits three for each pair kept and one for each
+   point. Refused: 1, 3. */
 CELLPOOL_MUST_USE
 uint32_t cellpool_collect(uint32_t *words, size_t len, uint32_t *kept, uint32_t *visits);
 
@@ -241,8 +273,8 @@ uint32_t cellpool_collect_tally(uint32_t *words, size_t len, uint32_t *collectio
 
 /* As cellpool_collect, marking with a stack of stack_len lent words, which end 0. Where the links of a cell lead to two
    different cells, both not marked yet, a word holds the right one until it is its turn; two equal links take no word, and
-   neither does a link beside nil or beside one to a marked cell. Pool and *kept are those of cellpool_collect, however few
-   the words.
+   neither does a link beside nil or beside one to a marked cell; a point has no links. Pool and *kept are those of
+   cellpool_collect, however few the words.
    Where a word is to be taken and each one holds a cell, a check looks at these cells, the newest first. From such a cell
    it goes on, and marks, while one way alone leads on: one link to an unmarked cell, or two equal ones. Where no way leads
    on, the word is given back. Where two lead on, the word stays, and holds the cell that was reached, whose two links stay
@@ -261,7 +293,7 @@ uint32_t cellpool_collect_stack(uint32_t *words, size_t len, uint32_t *stack, si
                                 uint32_t *enough, uint32_t *checks);
 
 /* Make the words a pool for which cellpool_collect_stack takes the most stack words, where it has them: N by the length
-   alone, as with cellpool_fresh, all cells used and reached from register 0, which holds cell 1, registers 1 to 15 nil,
+   alone, as with cellpool_fresh, all cells pairs and reached from register 0, which holds cell 1, registers 1 to 15 nil,
    the head 0, all values 0.
    If i is odd, the left link of cell i is i + 2 and the right one i + 1, each nil where that is above N; if i is even, both
    are nil. *entries becomes the words held, (N - 1) / 2, rounded down: no well-formed pool of N cells takes more, whatever
@@ -276,19 +308,22 @@ CELLPOOL_MUST_USE
 uint32_t cellpool_collect_recursive(uint32_t *words, size_t len, uint32_t *kept, uint32_t *visits);
 
 /* Write an image of the cells that the registers reach to the front of out. *bytes becomes its length; bytes of out
-   behind it stay, and so do the words. scratch has 2 * N words or more; once the pool is found well-formed, all of it
-   ends 0, also where the output is then too short. Refused: 1, 10 (the scratch), 3, 10 (the output). */
+   behind it stay, and so do the words. An image is the number of its cells, the 16 registers, and for each cell its kind
+   (0 a pair, 1 a point), its left and right, or x and y, and its value. scratch has 2 * N words or more; once the pool is
+   found well-formed, all of it ends 0, also where the output is then too short. Refused: 1, 10 (the scratch), 3, 10 (the
+   output). */
 CELLPOOL_MUST_USE
 uint32_t cellpool_save(const uint32_t *words, size_t len, uint32_t *scratch, size_t scratch_len, uint8_t *out,
                        size_t out_len, size_t *bytes);
 
 /* Make the words the pool of an image, N by their length alone, as with cellpool_fresh. *rest becomes the place of the
-   first byte behind the image; refused, it becomes bytes_len. Refused: 1, then number by number 6, 7, 12, 9, 8. */
+   first byte behind the image; refused, it becomes bytes_len. Refused: 1, then number by number 6, 7, 12, and 9 (the
+   number of cells), 8 (a register or a link) or 14 (a kind). */
 CELLPOOL_MUST_USE
 uint32_t cellpool_load(uint32_t *words, size_t len, const uint8_t *bytes, size_t bytes_len, size_t *rest);
 
 /* Answer what cellpool_load would for a pool of n cells, and write nothing. Refused: 1, then number by number 6, 7, 12,
-   9, 8. */
+   and 9, 8 or 14. */
 CELLPOOL_MUST_USE
 uint32_t cellpool_check_image(const uint8_t *bytes, size_t bytes_len, uint32_t n);
 

@@ -13,9 +13,12 @@
 #define NAME(name) baseline_##name
 #endif
 
-#define USED 0u
+#define PAIR 0u
 #define FREE 4u
+#define POINT 5u
+/* The states of marked cells. */
 #define MARKED 3u
+#define MARKED_POINT 6u
 #define ROOT UINT32_MAX
 #define REGISTER(i) words[2 + (i)]
 
@@ -38,8 +41,10 @@ static uint32_t size_of(const uint32_t *words, size_t len) {
     return n != 0 && words[0] == n ? n : 0;
 }
 
+static int used(uint32_t state) { return state == PAIR || state == POINT; }
+
 static int valid_link(const uint32_t *words, uint32_t n, uint32_t link) {
-    return link == 0 || (link <= n && cell_in(words, link)[STATE] == USED);
+    return link == 0 || (link <= n && used(cell_in(words, link)[STATE]));
 }
 
 static int well_formed(const uint32_t *words, uint32_t n) {
@@ -47,20 +52,46 @@ static int well_formed(const uint32_t *words, uint32_t n) {
         if (!valid_link(words, n, REGISTER(i))) return 0;
     for (uint32_t i = 1; i <= n; i++) {
         const uint32_t *at = cell_in(words, i);
-        if (at[STATE] == USED) {
+        if (at[STATE] == PAIR) {
             if (!valid_link(words, n, at[LEFT]) || !valid_link(words, n, at[RIGHT])) return 0;
-        } else if (at[STATE] != FREE) {
+        } else if (at[STATE] != FREE && at[STATE] != POINT) {
             return 0;
         }
     }
     return 1;
 }
 
-static int unmarked(uint32_t *words, uint32_t link) { return link != 0 && cell(words, link)[STATE] == USED; }
+static int unmarked(const uint32_t *words, uint32_t link) { return link != 0 && used(cell_in(words, link)[STATE]); }
 
-/* The five cases of a visit, by their numbers in source document 000. They are told by the mark after the addition and by the
-   state of the next link, which stands in l[p]: the left one at the first visit, the right one at the second. */
-typedef enum { RETREAT = 1, FOLLOW_LEFT = 2, PASS_LEFT = 3, FOLLOW_RIGHT = 4, PASS_RIGHT = 5 } Case;
+static int is_point(uint32_t state) { return state == POINT || state == MARKED_POINT; }
+
+/* Mark a used cell; it may be marked already. */
+static void mark(uint32_t *words, uint32_t link) {
+    uint32_t *at = cell(words, link);
+    at[STATE] = is_point(at[STATE]) ? MARKED_POINT : MARKED;
+}
+
+/* Clear the mark of a cell; answers whether it had one. */
+static int clear_mark(uint32_t *at) {
+    if (at[STATE] != MARKED && at[STATE] != MARKED_POINT) return 0;
+    at[STATE] = at[STATE] == MARKED ? PAIR : POINT;
+    return 1;
+}
+
+/* The links of a used cell, marked or not: a point is a cell with two nil links. */
+typedef struct {
+    uint32_t left, right;
+} Links;
+
+static inline Links links_of(const uint32_t *words, uint32_t link) {
+    const uint32_t *at = cell_in(words, link);
+    return is_point(at[STATE]) ? (Links){0, 0} : (Links){at[LEFT], at[RIGHT]};
+}
+
+/* The cases of a visit: the five of a pair, by their numbers in source document 000, and that of a point. They are told by the
+   mark after the addition and by the state of the next link, which stands in l[p]: the left one at the first visit of a pair,
+   the right one at the second. */
+typedef enum { RETREAT = 1, FOLLOW_LEFT = 2, PASS_LEFT = 3, FOLLOW_RIGHT = 4, PASS_RIGHT = 5, AT_POINT = 6, CASES = 6 } Case;
 
 /* The cell in hand p, its predecessor q, and the words of p: its mark m and what stands in its links l and r. */
 typedef struct {
@@ -71,11 +102,11 @@ typedef struct {
 static inline Case case_of(uint32_t *words, Hand hand) {
     if (hand.m == 1) return unmarked(words, hand.l) ? FOLLOW_LEFT : PASS_LEFT;
     if (hand.m == 2) return unmarked(words, hand.l) ? FOLLOW_RIGHT : PASS_RIGHT;
-    return RETREAT;
+    return hand.m == MARKED_POINT ? AT_POINT : RETREAT;
 }
 
-/* What a case does: in 1, 2 and 4 p, l[p], r[p], q become l[p], r[p], q, p; in 3 and 5 l[p], r[p], q become r[p], q, l[p]. Where
-   another cell comes in hand, m, l and r are still those of the one that was. */
+/* What a case does: in 1, 2 and 4 p, l[p], r[p], q become l[p], r[p], q, p; in 3 and 5 l[p], r[p], q become r[p], q, l[p]; at a
+   point p, q become q, p. Where another cell comes in hand, m, l and r are still those of the one that was. */
 static inline Hand exchange(Case which, Hand hand) {
     Hand to = hand;
     switch (which) {
@@ -94,11 +125,15 @@ static inline Hand exchange(Case which, Hand hand) {
     case PASS_RIGHT: /* 5. The right link is marked or nil: the cell stays in hand. */
         to.l = hand.r, to.r = hand.q, to.q = hand.l;
         break;
+    case AT_POINT: /* A point: back to the predecessor, and its numbers stay. */
+        to.p = hand.q, to.q = hand.p;
+        break;
     }
     return to;
 }
 
-/* One visit. The mark is written before the next link is looked at, which may lead to the cell itself. */
+/* One visit: the mark of a pair goes from 0 to 3, that of a point from 5 to 6. It is written before the next link is looked at,
+   which may lead to the cell itself. */
 static inline Hand visit(uint32_t *words, Hand hand, Case *which) {
     cell(words, hand.p)[STATE] = ++hand.m;
     *which = case_of(words, hand);
@@ -110,7 +145,7 @@ static inline Hand take(const uint32_t *words, uint32_t p, uint32_t q) {
     return (Hand){.p = p, .q = q, .m = at[STATE], .l = at[LEFT], .r = at[RIGHT]};
 }
 
-/* Mark by link reversal from every register; answers the visits. A cell is visited again while it stays in hand, so that its
+/* Mark by link reversal from every register; answers the visits. A pair is visited again while it stays in hand, so that its
    links are read and written once for up to three visits. */
 static uint32_t mark_by_reversal(uint32_t *words) {
     uint32_t visits = 0;
@@ -143,7 +178,8 @@ static uint32_t mark_by_reversal(uint32_t *words) {
    different links are unmarked, and 0 where both are marked or nil. */
 static uint32_t walk(uint32_t *words, uint32_t node) {
     for (;;) {
-        uint32_t left = cell(words, node)[LEFT], right = cell(words, node)[RIGHT];
+        Links links = links_of(words, node);
+        uint32_t left = links.left, right = links.right;
         if (unmarked(words, left)) {
             if (left != right && unmarked(words, right)) return node;
             node = left;
@@ -152,7 +188,7 @@ static uint32_t walk(uint32_t *words, uint32_t node) {
         } else {
             return 0;
         }
-        cell(words, node)[STATE] = MARKED;
+        mark(words, node);
     }
 }
 
@@ -172,16 +208,17 @@ static inline int mark_with_stack(uint32_t *words, uint32_t *stack, size_t stack
         uint32_t node = REGISTER(i);
         size_t height = 0;
         if (!unmarked(words, node)) continue;
-        cell(words, node)[STATE] = MARKED;
+        mark(words, node);
         for (;;) {
-            uint32_t left = cell(words, node)[LEFT], right = cell(words, node)[RIGHT];
+            Links links = links_of(words, node);
+            uint32_t left = links.left, right = links.right;
             if (unmarked(words, left)) {
                 /* Two equal unmarked links are one. */
                 if (right != left && unmarked(words, right)) {
-                    cell(words, right)[STATE] = MARKED;
+                    mark(words, right);
                     if (height == stack_len) {
                         if (!checked) return 0;
-                        cell(words, left)[STATE] = MARKED; /* a check finds both links marked */
+                        mark(words, left); /* a check finds both links marked */
                         ++*checks;
                         height = check(words, stack, height);
                         if (height == stack_len) return 0;
@@ -197,25 +234,27 @@ static inline int mark_with_stack(uint32_t *words, uint32_t *stack, size_t stack
             } else {
                 break;
             }
-            cell(words, node)[STATE] = MARKED;
+            mark(words, node);
         }
     }
     return 1;
 }
 
-static void mark_recursively(uint32_t *words, uint32_t link) {
-    uint32_t *at = cell(words, link);
-    at[STATE] = MARKED;
-    if (unmarked(words, at[LEFT])) mark_recursively(words, at[LEFT]);
-    if (unmarked(words, at[RIGHT])) mark_recursively(words, at[RIGHT]);
+/* Answers the visits: three of a pair, one of a point. */
+static uint32_t mark_recursively(uint32_t *words, uint32_t link) {
+    Links links = links_of(words, link);
+    uint32_t visits = is_point(cell(words, link)[STATE]) ? 1 : 3;
+    mark(words, link);
+    if (unmarked(words, links.left)) visits += mark_recursively(words, links.left);
+    if (unmarked(words, links.right)) visits += mark_recursively(words, links.right);
+    return visits;
 }
 
 static uint32_t sweep(uint32_t *words, uint32_t n) {
     uint32_t kept = 0, next = 0;
     for (uint32_t i = n; i >= 1; i--) {
         uint32_t *at = cell(words, i);
-        if (at[STATE] == MARKED) {
-            at[STATE] = USED;
+        if (clear_mark(at)) {
             kept++;
         } else {
             at[STATE] = FREE;
@@ -236,7 +275,7 @@ uint32_t baseline_mark_by_cases(uint32_t *words, size_t len, uint32_t *times, ui
     if (n == 0) return CELLPOOL_REFUSED_SIZE;
     if (!well_formed(words, n)) return CELLPOOL_REFUSED_MALFORMED;
     *runs = 0;
-    for (int i = 0; i < 5; i++) times[i] = 0;
+    for (int i = 0; i < CASES; i++) times[i] = 0;
     for (uint32_t i = 0; i < CELLPOOL_REGISTERS; i++) {
         if (!unmarked(words, REGISTER(i))) continue;
         uint32_t p = REGISTER(i), q = ROOT;
@@ -286,12 +325,10 @@ uint32_t NAME(clear)(uint32_t *words, size_t len, uint32_t r) {
     return CELLPOOL_OK;
 }
 
-uint32_t NAME(new)(uint32_t *words, size_t len, uint32_t r, uint32_t a, uint32_t b, uint32_t v, uint32_t *visits) {
-    uint32_t n = size_of(words, len), made = 0;
-    if (n == 0) return CELLPOOL_REFUSED_SIZE;
-    if (r >= CELLPOOL_REGISTERS || a >= CELLPOOL_REGISTERS || b >= CELLPOOL_REGISTERS) return CELLPOOL_REFUSED_REGISTER;
-    uint32_t left = REGISTER(a), right = REGISTER(b);
-    if (!valid_link(words, n, left) || !valid_link(words, n, right)) return CELLPOOL_REFUSED_MALFORMED;
+/* Register r gets the head cell with this content, where the registers that were to be read are sound. */
+static inline uint32_t allocate(uint32_t *words, uint32_t n, uint32_t r, uint32_t state, uint32_t left, uint32_t right,
+                                uint32_t value, uint32_t *visits) {
+    uint32_t made = 0;
     if (words[1] == 0) {
         if (!well_formed(words, n)) return CELLPOOL_REFUSED_MALFORMED;
         made = mark_by_reversal(words);
@@ -303,13 +340,29 @@ uint32_t NAME(new)(uint32_t *words, size_t len, uint32_t r, uint32_t a, uint32_t
     uint32_t *at = cell(words, head);
     if (at[STATE] != FREE || at[LEFT] > n) return CELLPOOL_REFUSED_MALFORMED;
     words[1] = at[LEFT];
-    at[STATE] = USED;
+    at[STATE] = state;
     at[LEFT] = left;
     at[RIGHT] = right;
-    at[VALUE] = v;
+    at[VALUE] = value;
     REGISTER(r) = head;
     *visits = made;
     return CELLPOOL_OK;
+}
+
+uint32_t NAME(new)(uint32_t *words, size_t len, uint32_t r, uint32_t a, uint32_t b, uint32_t v, uint32_t *visits) {
+    uint32_t n = size_of(words, len);
+    if (n == 0) return CELLPOOL_REFUSED_SIZE;
+    if (r >= CELLPOOL_REGISTERS || a >= CELLPOOL_REGISTERS || b >= CELLPOOL_REGISTERS) return CELLPOOL_REFUSED_REGISTER;
+    uint32_t left = REGISTER(a), right = REGISTER(b);
+    if (!valid_link(words, n, left) || !valid_link(words, n, right)) return CELLPOOL_REFUSED_MALFORMED;
+    return allocate(words, n, r, PAIR, left, right, v, visits);
+}
+
+uint32_t NAME(point)(uint32_t *words, size_t len, uint32_t r, uint32_t v, uint32_t x, uint32_t y, uint32_t *visits) {
+    uint32_t n = size_of(words, len);
+    if (n == 0) return CELLPOOL_REFUSED_SIZE;
+    if (r >= CELLPOOL_REGISTERS) return CELLPOOL_REFUSED_REGISTER;
+    return allocate(words, n, r, POINT, x, y, v, visits);
 }
 
 static uint32_t follow(uint32_t *words, size_t len, uint32_t r, uint32_t a, int side) {
@@ -318,6 +371,7 @@ static uint32_t follow(uint32_t *words, size_t len, uint32_t r, uint32_t a, int 
     if (r >= CELLPOOL_REGISTERS || a >= CELLPOOL_REGISTERS) return CELLPOOL_REFUSED_REGISTER;
     if (!valid_link(words, n, REGISTER(a))) return CELLPOOL_REFUSED_MALFORMED;
     if (REGISTER(a) == 0) return CELLPOOL_REFUSED_NIL;
+    if (cell(words, REGISTER(a))[STATE] != PAIR) return CELLPOOL_REFUSED_KIND;
     uint32_t link = cell(words, REGISTER(a))[side];
     if (!valid_link(words, n, link)) return CELLPOOL_REFUSED_MALFORMED;
     REGISTER(r) = link;
@@ -334,6 +388,7 @@ static uint32_t relink(uint32_t *words, size_t len, uint32_t a, uint32_t b, int 
     uint32_t to = REGISTER(a), link = REGISTER(b);
     if (!valid_link(words, n, to) || !valid_link(words, n, link)) return CELLPOOL_REFUSED_MALFORMED;
     if (to == 0) return CELLPOOL_REFUSED_NIL;
+    if (cell(words, to)[STATE] != PAIR) return CELLPOOL_REFUSED_KIND;
     cell(words, to)[side] = link;
     return CELLPOOL_OK;
 }
@@ -361,6 +416,17 @@ uint32_t NAME(value)(const uint32_t *words, size_t len, uint32_t a, uint32_t *va
     if (answer == CELLPOOL_OK) *value = cell_in(words, REGISTER(a))[VALUE];
     return answer;
 }
+
+static uint32_t coordinate(const uint32_t *words, size_t len, uint32_t a, int side, uint32_t *number) {
+    uint32_t answer = held(words, len, a);
+    if (answer != CELLPOOL_OK) return answer;
+    if (cell_in(words, REGISTER(a))[STATE] != POINT) return CELLPOOL_REFUSED_KIND;
+    *number = cell_in(words, REGISTER(a))[side];
+    return CELLPOOL_OK;
+}
+
+uint32_t NAME(east)(const uint32_t *words, size_t len, uint32_t a, uint32_t *x) { return coordinate(words, len, a, LEFT, x); }
+uint32_t NAME(north)(const uint32_t *words, size_t len, uint32_t a, uint32_t *y) { return coordinate(words, len, a, RIGHT, y); }
 
 uint32_t NAME(same)(const uint32_t *words, size_t len, uint32_t a, uint32_t b, uint32_t *same) {
     uint32_t n = size_of(words, len);
@@ -400,8 +466,7 @@ static inline uint32_t collect_with_stack(uint32_t *words, size_t len, uint32_t 
     if (!well_formed(words, n)) return CELLPOOL_REFUSED_MALFORMED;
     *enough = (uint32_t)mark_with_stack(words, stack, stack_len, checked, &count);
     if (!*enough) {
-        for (uint32_t i = 1; i <= n; i++)
-            if (cell(words, i)[STATE] == MARKED) cell(words, i)[STATE] = USED;
+        for (uint32_t i = 1; i <= n; i++) clear_mark(cell(words, i));
         mark_by_reversal(words);
     }
     memset(stack, 0, stack_len * sizeof *stack);
@@ -442,10 +507,11 @@ uint32_t NAME(collect_recursive)(uint32_t *words, size_t len, uint32_t *kept, ui
     if (n == 0) return CELLPOOL_REFUSED_SIZE;
     if (n > CELLPOOL_MOST_RECURSIVE) return CELLPOOL_REFUSED_TOO_LARGE;
     if (!well_formed(words, n)) return CELLPOOL_REFUSED_MALFORMED;
+    uint32_t made = 0;
     for (uint32_t i = 0; i < CELLPOOL_REGISTERS; i++)
-        if (unmarked(words, REGISTER(i))) mark_recursively(words, REGISTER(i));
+        if (unmarked(words, REGISTER(i))) made += mark_recursively(words, REGISTER(i));
     *kept = sweep(words, n);
-    *visits = 3 * *kept;
+    *visits = made;
     return CELLPOOL_OK;
 }
 
@@ -476,9 +542,9 @@ static uint32_t number_cells(const uint32_t *words, uint32_t n, uint32_t *number
             if (node != 0 && numbers[node - 1] == 0) {
                 numbers[node - 1] = ++count;
                 order[--pending] = node;
-                node = cell_in(words, node)[LEFT];
+                node = links_of(words, node).left;
             } else if (pending < n) {
-                node = cell_in(words, order[pending++])[RIGHT];
+                node = links_of(words, order[pending++]).right;
             } else {
                 break;
             }
@@ -500,23 +566,27 @@ uint32_t NAME(save)(const uint32_t *words, size_t len, uint32_t *scratch, size_t
     uint32_t k = number_cells(words, n, numbers, order);
     size_t size = bytes_of(k);
 #define RENUMBER(link) ((link) == 0 ? 0 : numbers[(link) - 1])
+/* A point's x and y are no links. */
+#define WRITTEN(side) (at[STATE] == POINT ? at[side] : RENUMBER(at[side]))
     for (uint32_t i = 0; i < CELLPOOL_REGISTERS; i++) size += bytes_of(RENUMBER(REGISTER(i)));
     for (uint32_t i = 0; i < k; i++) {
         const uint32_t *at = cell_in(words, order[i]);
-        size += bytes_of(RENUMBER(at[LEFT])) + bytes_of(RENUMBER(at[RIGHT])) + bytes_of(at[VALUE]);
+        size += 1 + bytes_of(WRITTEN(LEFT)) + bytes_of(WRITTEN(RIGHT)) + bytes_of(at[VALUE]);
     }
     if (size <= out_len) {
         out = write_number(out, k);
         for (uint32_t i = 0; i < CELLPOOL_REGISTERS; i++) out = write_number(out, RENUMBER(REGISTER(i)));
         for (uint32_t i = 0; i < k; i++) {
             const uint32_t *at = cell_in(words, order[i]);
-            out = write_number(out, RENUMBER(at[LEFT]));
-            out = write_number(out, RENUMBER(at[RIGHT]));
+            out = write_number(out, at[STATE] == POINT ? 1 : 0);
+            out = write_number(out, WRITTEN(LEFT));
+            out = write_number(out, WRITTEN(RIGHT));
             out = write_number(out, at[VALUE]);
         }
         *bytes = size;
         answer = CELLPOOL_OK;
     }
+#undef WRITTEN
 #undef RENUMBER
     memset(scratch, 0, 2 * (size_t)n * sizeof *scratch);
     return answer;
@@ -537,21 +607,25 @@ static uint32_t read_number(const uint8_t *bytes, size_t len, size_t *at, uint32
     }
 }
 
-static uint32_t read_link(const uint8_t *bytes, size_t len, size_t *at, uint32_t k) {
+/* A link, which is at most K, or an x or y, which is any number. */
+static uint32_t read_link(const uint8_t *bytes, size_t len, size_t *at, uint32_t most) {
     uint32_t link, answer = read_number(bytes, len, at, &link);
-    return answer == CELLPOOL_OK && link > k ? CELLPOOL_REFUSED_LINK_RANGE : answer;
+    return answer == CELLPOOL_OK && link > most ? CELLPOOL_REFUSED_LINK_RANGE : answer;
 }
 
 static uint32_t validate(const uint8_t *bytes, size_t len, uint32_t n, size_t *end) {
     size_t at = 0;
-    uint32_t k, value, answer = read_number(bytes, len, &at, &k);
+    uint32_t k, kind, value, answer = read_number(bytes, len, &at, &k);
     if (answer != CELLPOOL_OK) return answer;
     if (k > n) return CELLPOOL_REFUSED_TOO_MANY_CELLS;
     for (uint32_t i = 0; i < CELLPOOL_REGISTERS; i++)
         if ((answer = read_link(bytes, len, &at, k)) != CELLPOOL_OK) return answer;
     for (uint32_t i = 0; i < k; i++) {
-        if ((answer = read_link(bytes, len, &at, k)) != CELLPOOL_OK) return answer;
-        if ((answer = read_link(bytes, len, &at, k)) != CELLPOOL_OK) return answer;
+        if ((answer = read_number(bytes, len, &at, &kind)) != CELLPOOL_OK) return answer;
+        if (kind > 1) return CELLPOOL_REFUSED_KIND_NUMBER;
+        uint32_t most = kind == 1 ? UINT32_MAX : k;
+        if ((answer = read_link(bytes, len, &at, most)) != CELLPOOL_OK) return answer;
+        if ((answer = read_link(bytes, len, &at, most)) != CELLPOOL_OK) return answer;
         if ((answer = read_number(bytes, len, &at, &value)) != CELLPOOL_OK) return answer;
     }
     *end = at;
@@ -559,7 +633,7 @@ static uint32_t validate(const uint8_t *bytes, size_t len, uint32_t n, size_t *e
 }
 
 uint32_t NAME(load)(uint32_t *words, size_t len, const uint8_t *bytes, size_t bytes_len, size_t *rest) {
-    uint32_t n = cells_of(len), k = 0, answer;
+    uint32_t n = cells_of(len), k = 0, kind = 0, answer;
     size_t at = 0;
     *rest = bytes_len;
     if (n == 0) return CELLPOOL_REFUSED_SIZE;
@@ -570,8 +644,10 @@ uint32_t NAME(load)(uint32_t *words, size_t len, const uint8_t *bytes, size_t by
     for (uint32_t i = 0; i < CELLPOOL_REGISTERS; i++) read_number(bytes, bytes_len, &at, &REGISTER(i));
     for (uint32_t i = 1; i <= n; i++) {
         uint32_t *to = cell(words, i);
-        to[STATE] = i <= k ? MARKED : FREE;
+        to[STATE] = FREE;
         if (i > k) continue;
+        read_number(bytes, bytes_len, &at, &kind);
+        to[STATE] = kind == 1 ? MARKED_POINT : MARKED;
         read_number(bytes, bytes_len, &at, &to[LEFT]);
         read_number(bytes, bytes_len, &at, &to[RIGHT]);
         read_number(bytes, bytes_len, &at, &to[VALUE]);

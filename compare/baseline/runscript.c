@@ -71,6 +71,7 @@ struct line {
 static const unsigned char words_of[256] = {
     ['g'] = 1, ['f'] = 2, ['z'] = 2, ['v'] = 2, ['c'] = 3, ['l'] = 3,
     ['r'] = 3, ['L'] = 3, ['R'] = 3, ['V'] = 3, ['s'] = 3, ['n'] = 5,
+    ['p'] = 5, ['e'] = 2, ['o'] = 2,
 };
 
 /* Reads a line and its end; the letter of a bad line is BAD. Answers 0 where there is no further line. */
@@ -148,6 +149,7 @@ static void run_line(const struct line *line) {
     switch (line->letter) {
     case 'f': refusal = fresh(x[0]); break;
     case 'n': refusal = cellpool_new(words, used, x[0], x[1], x[2], x[3], &first); break;
+    case 'p': refusal = cellpool_point(words, used, x[0], x[1], x[2], x[3], &first); break;
     case 'c': refusal = cellpool_copy(words, used, x[0], x[1]); break;
     case 'z': refusal = cellpool_clear(words, used, x[0]); break;
     case 'l': refusal = cellpool_left(words, used, x[0], x[1]); break;
@@ -157,6 +159,14 @@ static void run_line(const struct line *line) {
     case 'V': refusal = cellpool_setvalue(words, used, x[0], x[1]); break;
     case 'v':
         refusal = cellpool_value(words, used, x[0], &first);
+        count = 1;
+        break;
+    case 'e':
+        refusal = cellpool_east(words, used, x[0], &first);
+        count = 1;
+        break;
+    case 'o':
+        refusal = cellpool_north(words, used, x[0], &first);
         count = 1;
         break;
     case 's':

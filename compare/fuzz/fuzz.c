@@ -7,15 +7,17 @@
  *
  * The blocks stand against pages that may be neither read nor written, so that also an archive compiled without a
  * sanitizer is caught at the first access outside. The library is compared with itself too: a refusal is one that the
- * header lists with its function and changes nothing but what the header names, refusal 1 comes exactly where the
+ * header lists with its function and changes nothing but what the header names; refusal 1 comes exactly where the
  * length is that of no pool or, where the function asks for it, word 0 is not its number of cells, or where the
- * number of cells that is given is that of no pool or less than what is kept, a percent is the nearest whole one, and
- * for a half the even one, the words left over stay, the forms of collect agree, a stack makes no check exactly from
- * one length on, the worst case for the stack takes just as many words as are answered, and with fewer a check for
- * each push that finds them full, an image that was saved loads, whatever is left over, and saves as the same bytes,
- * while every cut of it is refused, and any image that loads is saved as the bytes that were read exactly if its
- * cells are numbered in the order of the visits. The cases of the plain C version's visits add up to the cells that
- * the library keeps.
+ * number of cells that is given is that of no pool or less than what is kept; refusal 13 comes exactly where the cell is
+ * of the other kind and there is nothing to refuse before it; a new cell has the content that was given, and east and
+ * north are the words of a point; a percent is the nearest whole one, and for a half the even one; the words left over
+ * stay; the forms of collect agree, leave every kept cell as it was, and make three visits of a pair and one of a point; a
+ * stack makes no check exactly from one length on; the worst case for the stack takes just as many words as are answered,
+ * and with fewer a check for each push that finds them full; an image that was saved loads, whatever is left over, with
+ * the pairs and points that are reached, and saves as the same bytes, while every cut of it is refused; and any image that
+ * loads is saved as the bytes that were read exactly if its cells are numbered in the order of the visits. The cases of
+ * the plain C version's visits add up to the pairs and points that the library keeps.
  *
  * With -DSTANDALONE a main is added that runs pseudo-random inputs: fuzz [inputs [seed]].
  */
@@ -73,8 +75,8 @@ static uint32_t *words_of(int side) { return (uint32_t *)blocks[WORDS].at[side];
 static uint32_t cells, leftover;
 
 enum {
-    COPY, CLEAR, NEW, LEFT, RIGHT, SETLEFT, SETRIGHT, SETVALUE, VALUE, SAME, COLLECT,
-    FRESH, TALLY, STACKED, WORST, RECURSIVE, SAVE, LOAD, CHECK, OCCUPANCY, FUNCTIONS
+    COPY, CLEAR, NEW, POINT, LEFT, RIGHT, SETLEFT, SETRIGHT, SETVALUE, VALUE, EAST, NORTH, SAME, COLLECT, CALLS,
+    FRESH = CALLS, TALLY, STACKED, WORST, RECURSIVE, SAVE, LOAD, CHECK, OCCUPANCY, FUNCTIONS
 };
 
 /* Every function: the refusals that the header lists with it, and the blocks that it is lent. */
@@ -86,12 +88,15 @@ static const struct {
     [COPY] = {"copy", BIT(1) | BIT(2) | BIT(3), BIT(WORDS)},
     [CLEAR] = {"clear", BIT(1) | BIT(2), BIT(WORDS)},
     [NEW] = {"new", BIT(1) | BIT(2) | BIT(3) | BIT(5), BIT(WORDS)},
-    [LEFT] = {"left", BIT(1) | BIT(2) | BIT(3) | BIT(4), BIT(WORDS)},
-    [RIGHT] = {"right", BIT(1) | BIT(2) | BIT(3) | BIT(4), BIT(WORDS)},
-    [SETLEFT] = {"setleft", BIT(1) | BIT(2) | BIT(3) | BIT(4), BIT(WORDS)},
-    [SETRIGHT] = {"setright", BIT(1) | BIT(2) | BIT(3) | BIT(4), BIT(WORDS)},
+    [POINT] = {"point", BIT(1) | BIT(2) | BIT(3) | BIT(5), BIT(WORDS)},
+    [LEFT] = {"left", BIT(1) | BIT(2) | BIT(3) | BIT(4) | BIT(13), BIT(WORDS)},
+    [RIGHT] = {"right", BIT(1) | BIT(2) | BIT(3) | BIT(4) | BIT(13), BIT(WORDS)},
+    [SETLEFT] = {"setleft", BIT(1) | BIT(2) | BIT(3) | BIT(4) | BIT(13), BIT(WORDS)},
+    [SETRIGHT] = {"setright", BIT(1) | BIT(2) | BIT(3) | BIT(4) | BIT(13), BIT(WORDS)},
     [SETVALUE] = {"setvalue", BIT(1) | BIT(2) | BIT(3) | BIT(4), BIT(WORDS)},
     [VALUE] = {"value", BIT(1) | BIT(2) | BIT(3) | BIT(4), BIT(WORDS)},
+    [EAST] = {"east", BIT(1) | BIT(2) | BIT(3) | BIT(4) | BIT(13), BIT(WORDS)},
+    [NORTH] = {"north", BIT(1) | BIT(2) | BIT(3) | BIT(4) | BIT(13), BIT(WORDS)},
     [SAME] = {"same", BIT(1) | BIT(2) | BIT(3), BIT(WORDS)},
     [COLLECT] = {"collect", BIT(1) | BIT(3), BIT(WORDS)},
     [FRESH] = {"fresh", BIT(1), BIT(WORDS)},
@@ -100,14 +105,14 @@ static const struct {
     [WORST] = {"worst_case", BIT(1), BIT(WORDS)},
     [RECURSIVE] = {"collect_recursive", BIT(1) | BIT(3) | BIT(11), BIT(WORDS)},
     [SAVE] = {"save", BIT(1) | BIT(3) | BIT(10), BIT(WORDS) | BIT(STACK) | BIT(OUT)},
-    [LOAD] = {"load", BIT(1) | BIT(6) | BIT(7) | BIT(8) | BIT(9) | BIT(12), BIT(WORDS) | BIT(IMAGE)},
-    [CHECK] = {"check_image", BIT(1) | BIT(6) | BIT(7) | BIT(8) | BIT(9) | BIT(12), BIT(IMAGE)},
+    [LOAD] = {"load", BIT(1) | BIT(6) | BIT(7) | BIT(8) | BIT(9) | BIT(12) | BIT(14), BIT(WORDS) | BIT(IMAGE)},
+    [CHECK] = {"check_image", BIT(1) | BIT(6) | BIT(7) | BIT(8) | BIT(9) | BIT(12) | BIT(14), BIT(IMAGE)},
     [OCCUPANCY] = {"occupancy", BIT(1), 0},
 };
 
 typedef struct {
     int function;
-    /* Of a tally, a and b are what it counts from; of check_image and occupancy, a is n. */
+    /* Of a point, a and b are x and y; of a tally, what it counts from; of check_image and occupancy, a is n. */
     uint32_t r, a, b, v;
 } Call;
 
@@ -130,12 +135,15 @@ static uint32_t run(int side, const Call *call, Results *results) {
     case COPY: return BY(side, copy)(words, len, r, a);
     case CLEAR: return BY(side, clear)(words, len, r);
     case NEW: return BY(side, new)(words, len, r, a, b, v, number + 1);
+    case POINT: return BY(side, point)(words, len, r, v, a, b, number + 1);
     case LEFT: return BY(side, left)(words, len, r, a);
     case RIGHT: return BY(side, right)(words, len, r, a);
     case SETLEFT: return BY(side, setleft)(words, len, a, b);
     case SETRIGHT: return BY(side, setright)(words, len, a, b);
     case SETVALUE: return BY(side, setvalue)(words, len, a, v);
     case VALUE: return BY(side, value)(words, len, a, number + 1);
+    case EAST: return BY(side, east)(words, len, a, number + 1);
+    case NORTH: return BY(side, north)(words, len, a, number + 1);
     case SAME: return BY(side, same)(words, len, a, b, number + 1);
     case COLLECT: return BY(side, collect)(words, len, number + 1, number + 3);
     case FRESH: return BY(side, fresh)(words, len, number + 1, number + 3);
@@ -159,12 +167,31 @@ static int size_fits(const Call *call) {
     return cells >= 1 && cells <= CELLPOOL_MOST_CELLS && (by_length || words_of(LIBRARY)[0] == cells);
 }
 
+/* The four words of a cell. */
+static const uint32_t *cell_in(const uint32_t *words, uint32_t i) { return words + CELLPOOL_WORDS((size_t)i - 1); }
+
+static int is_used(const uint32_t *words, uint32_t i) { return cell_in(words, i)[0] == 0 || cell_in(words, i)[0] == 5; }
+
+/* Before a call: does it fit and name registers that are there, are those that it reads sound, does a hold a cell, and is that
+   of the other kind than the call needs? */
+static int other_kind(const Call *call, int fits) {
+    const uint32_t *words = words_of(LIBRARY);
+    int function = call->function, sets = function == SETLEFT || function == SETRIGHT;
+    int of_points = function == EAST || function == NORTH, follows = function == LEFT || function == RIGHT;
+    if (!fits || !(sets || of_points || follows) || call->a >= 16) return 0;
+    if ((follows && call->r >= 16) || (sets && call->b >= 16)) return 0;
+    uint32_t held = words[2 + call->a], other = sets ? words[2 + call->b] : 0;
+    if (held == 0 || held > cells || !is_used(words, held)) return 0;
+    if (other != 0 && (other > cells || !is_used(words, other))) return 0;
+    return (cell_in(words, held)[0] == 5) != of_points;
+}
+
 /* Make a call on both sides, from the library's blocks as they are, and compare. */
 static uint32_t make(Call call, Results *results) {
     Results start, found[SIDES];
     uint32_t answer[SIDES], lent = functions[call.function].lent;
     size_t tail = blocks[WORDS].bytes - leftover * sizeof(uint32_t);
-    int fits = size_fits(&call);
+    int fits = size_fits(&call), of_other_kind = other_kind(&call, fits);
     called = functions[call.function].name;
     for (int i = 0; i < 9; i++) start.number[i] = UNSET;
     for (int i = 0; i < 3; i++) start.size[i] = UNSET;
@@ -188,6 +215,7 @@ static uint32_t make(Call call, Results *results) {
         DEMAND(memcmp(blocks[block].at[LIBRARY], blocks[block].at[PLAIN], blocks[block].bytes) == 0);
     }
     DEMAND((answer[LIBRARY] == 1) == !fits);
+    DEMAND((answer[LIBRARY] == 13) == of_other_kind);
     if (lent & BIT(WORDS))
         DEMAND(memcmp(blocks[WORDS].at[LIBRARY] + tail, blocks[WORDS].before + tail, blocks[WORDS].bytes - tail) == 0);
     if (answer[LIBRARY] != 0) {
@@ -236,28 +264,29 @@ static size_t place_of(Input *input, size_t places) {
 /* Any number up to n + 1. */
 static uint32_t any_number_of(Input *input, uint32_t n) { return (uint32_t)place_of(input, (size_t)n + 2); }
 
-/* The first used cell from this link on; nil where there is none, and for nil. */
-static uint32_t valid(const uint32_t *words, uint32_t link) {
+/* The first used cell from this link on, or the first pair; nil where there is none, and for nil. */
+static uint32_t valid(const uint32_t *words, uint32_t link, int pair) {
     if (link == 0) return 0;
-    while (link <= cells && words[CELLPOOL_WORDS((size_t)link - 1)] != 0) link++;
+    while (link <= cells && !(pair ? cell_in(words, link)[0] == 0 : is_used(words, link))) link++;
     return link <= cells ? link : 0;
 }
 
 /* The bits of an input's first byte: blocks stand before their guards or behind them; the words are a well-formed pool; the stack
-   marker has much to push in it: register 0 holds the first used cell, and the others are nil; each left link leads to the next
-   used cell. */
-enum { AT_END = 1, MENDED = 2, ONE_REGISTER = 4, CHAINED = 8 };
+   marker has much to push in it: register 0 holds the first pair, and the others are nil; each left link leads to the next pair;
+   and by two bits how many points there are: none, where the lower one is 0, some, or as many as pairs. */
+enum { AT_END = 1, MENDED = 2, ONE_REGISTER = 4, CHAINED = 8, POINTS = 16, MANY_POINTS = 32 };
 
 /* Make the words a well-formed pool. */
 static void mend(uint32_t *words, uint8_t mode) {
     words[0] = cells;
     for (size_t i = 18; i < CELLPOOL_WORDS((size_t)cells); i += 4)
-        if (words[i] != 0) words[i] = 4;
-    for (size_t i = 2; i < 18; i++) words[i] = valid(words, mode & ONE_REGISTER ? i == 2 : words[i]);
+        if (words[i] != 0 && words[i] != 5) words[i] = 4;
+    for (size_t i = 2; i < 18; i++)
+        words[i] = mode & ONE_REGISTER ? valid(words, i == 2, 1) : valid(words, words[i], 0);
     for (size_t i = 18; i < CELLPOOL_WORDS((size_t)cells); i += 4) {
         if (words[i] != 0) continue;
-        if (mode & CHAINED) words[i + 1] = (uint32_t)(i - 18) / 4 + 2;
-        for (size_t side = 1; side <= 2; side++) words[i + side] = valid(words, words[i + side]);
+        words[i + 1] = mode & CHAINED ? valid(words, (uint32_t)(i - 18) / 4 + 2, 1) : valid(words, words[i + 1], 0);
+        words[i + 2] = valid(words, words[i + 2], 0);
     }
 }
 
@@ -273,8 +302,10 @@ static void lend_pool(Input *input, uint8_t mode) {
     uint32_t *words = lend(WORDS, len * sizeof *words);
     for (size_t i = 0; i < len; i++) {
         uint32_t number = number_of(input, cells);
-        /* States are mostly 0 or 4. */
-        if (i >= 18 && i % 4 == 2 && number <= cells + 1) number = number % 8 < 5 ? 0 : number % 8 < 7 ? 4 : number;
+        /* States are mostly 0, 4 or 5. */
+        static const uint32_t states[3][7] = {{0, 0, 0, 0, 0, 4, 4}, {0, 0, 0, 0, 5, 4, 4}, {0, 0, 0, 5, 5, 5, 4}};
+        if (i >= 18 && i % 4 == 2 && number <= cells + 1 && number % 8 < 7)
+            number = states[!(mode & POINTS) ? 0 : mode & MANY_POINTS ? 2 : 1][number % 8];
         words[i] = number;
     }
     if (byte_of(input) % 8 != 0) words[0] = cells;
@@ -298,9 +329,13 @@ static size_t image_of(Input *input, uint8_t kind, uint8_t *image) {
         memcpy(image, saved, bytes);
     } else if (kind & 2) {
         uint8_t k = (uint8_t)(byte_of(input) % ((cells < 5 ? cells : 5) + 1));
-        bytes = 17 + 3 * (size_t)k;
+        bytes = 17 + 4 * (size_t)k;
         image[0] = k;
-        for (size_t i = 1; i < bytes; i++) image[i] = (uint8_t)(byte_of(input) % (k + 1u));
+        for (size_t i = 1; i < bytes; i++) {
+            uint8_t byte = byte_of(input);
+            /* A kind is 0 or 1, and seldom 2. */
+            image[i] = (uint8_t)(i < 17 || i % 4 != 1 ? byte % (k + 1u) : byte % 32u == 31 ? 2 : byte % 2u);
+        }
     } else {
         bytes = number_of(input, 245) % (left + 1);
         if (bytes > ROOM) bytes = ROOM;
@@ -336,12 +371,17 @@ static void lend_image(Input *input) {
     memcpy(lend(IMAGE, bytes), image, bytes);
 }
 
+/* A link of a cell in the graph: a point has none. */
+static uint32_t link_of(const uint32_t *words, uint32_t i, size_t side) {
+    return cell_in(words, i)[0] == 0 ? cell_in(words, i)[side] : 0;
+}
+
 /* Are the cells of a loaded image, which are the used ones, numbered in the order of the visits, depth first, left before
    right, registers in order? While they are, 1 to `visited` have been visited, and a link to another leads to the next one. */
 static int in_order_of_visits(const uint32_t *words) {
     static uint32_t path[4000];
     uint32_t k = 0, visited = 0, link;
-    while (k < cells && words[CELLPOOL_WORDS((size_t)k)] == 0) k++;
+    while (k < cells && is_used(words, k + 1)) k++;
     for (size_t i = 2; i < 18; i++) {
         size_t depth = 0;
         link = words[i];
@@ -349,9 +389,9 @@ static int in_order_of_visits(const uint32_t *words) {
             if (link > visited) {
                 if (link > visited + 1 || link > k) return 0;
                 path[depth++] = ++visited;
-                link = words[CELLPOOL_WORDS((size_t)link - 1) + 1];
+                link = link_of(words, link, 1);
             } else if (depth > 0) {
-                link = words[CELLPOOL_WORDS((size_t)path[--depth] - 1) + 2];
+                link = link_of(words, path[--depth], 2);
             } else {
                 break;
             }
@@ -393,33 +433,60 @@ static void measured(uint32_t kept, uint32_t n, uint32_t percent) {
     DEMAND(twice < n || (twice == n && percent % 2 == 0));
 }
 
+/* The cells of this state. */
+static uint32_t count_of(const uint32_t *words, uint32_t state) {
+    uint32_t count = 0;
+    for (uint32_t i = 1; i <= cells; i++) count += cell_in(words, i)[0] == state;
+    return count;
+}
+
+/* The visits of a collection that has kept the used cells. */
+static uint32_t visits_of(const uint32_t *words) { return 3 * count_of(words, 0) + count_of(words, 5); }
+
+/* A cell was made, with this state, left, right and value; before, the head was this. */
+static void made(const Call *call, uint32_t head, uint32_t state, uint32_t left, uint32_t right, uint32_t visits) {
+    uint32_t *words = words_of(LIBRARY), taken = words[2 + call->r];
+    const uint32_t content[] = {state, left, right, call->v};
+    DEMAND(taken >= 1 && taken <= cells && (head == 0 || taken == head));
+    DEMAND(memcmp(cell_in(words, taken), content, sizeof content) == 0);
+    DEMAND(visits == (head == 0 ? visits_of(words) - (state == 0 ? 3 : 1) : 0));
+}
+
 /* A call by the input. */
 static void any_call(Input *input) {
-    uint8_t kind = byte_of(input);
-    Call call = {kind < 0x80 ? kind % 11 : kind < 0xA0 ? NEW : kind % FUNCTIONS, 0, 0, 0, 0};
+    /* The functions that are no calls, and some more often, take a second byte, which tells how. */
+    uint8_t kind = byte_of(input), how = kind < 0xA0 ? 0 : byte_of(input);
+    Call call = {kind < 0x80 ? kind % CALLS : kind < 0x90 ? NEW : kind < 0xA0 ? POINT : kind % FUNCTIONS, 0, 0, 0, 0};
     Results results;
+    uint32_t head = 0, left = 0, right = 0;
     switch (call.function) {
     case FRESH:
     case COLLECT:
     case WORST:
     case RECURSIVE: break;
     case TALLY:
-        call.a = number_of(input, 3) ^ (kind & 0x20 ? UINT32_MAX : 0);
-        call.b = number_of(input, 120) ^ (kind & 0x40 ? UINT32_MAX : 0);
+        call.a = number_of(input, 3) ^ (how & 1 ? UINT32_MAX : 0);
+        call.b = number_of(input, 120) ^ (how & 2 ? UINT32_MAX : 0);
         break;
     case STACKED: lend_filled(STACK, number_of(input, cells), sizeof(uint32_t), 0x5A); break;
     case SAVE:
-        lend_filled(STACK, 2 * (size_t)cells + byte_of(input) % 8u - (kind & 0x20 && cells > 0), sizeof(uint32_t), 0x5A);
-        lend_filled(OUT, kind & 0x40 ? CELLPOOL_IMAGE_BYTES((size_t)cells) : number_of(input, 60), 1, 0x77);
+        lend_filled(STACK, 2 * (size_t)cells + byte_of(input) % 8u - (how & 1 && cells > 0), sizeof(uint32_t), 0x5A);
+        lend_filled(OUT, how & 2 ? CELLPOOL_IMAGE_BYTES((size_t)cells) : number_of(input, 60), 1, 0x77);
         break;
     case CHECK:
         lend_image(input);
-        call.a = kind & 0x40 ? number_of(input, cells) : cells;
+        call.a = how & 1 ? number_of(input, cells) : cells;
         break;
     case LOAD: lend_image(input); break;
     case OCCUPANCY:
-        call.a = !(kind & 0x40) ? cells : kind & 0x10 ? any_number_of(input, 4000) : number_of(input, 4000);
-        call.v = (kind & 0x20 ? number_of : any_number_of)(input, call.a < 4000 ? call.a : 4000);
+        call.a = how & 1 ? any_number_of(input, 4000) : how & 2 ? number_of(input, 4000) : cells;
+        call.v = (how & 4 ? number_of : any_number_of)(input, call.a < 4000 ? call.a : 4000);
+        break;
+    case POINT:
+        call.r = byte_of(input) % 17u;
+        call.a = number_of(input, cells);
+        call.b = number_of(input, cells);
+        call.v = number_of(input, cells);
         break;
     default:
         call.r = byte_of(input) % 17u;
@@ -428,8 +495,19 @@ static void any_call(Input *input) {
         call.v = number_of(input, cells);
         break;
     }
+    if (blocks[WORDS].bytes >= 18 * sizeof(uint32_t)) {
+        head = words_of(LIBRARY)[1];
+        left = call.function == NEW && call.a < 16 ? words_of(LIBRARY)[2 + call.a] : call.a;
+        right = call.function == NEW && call.b < 16 ? words_of(LIBRARY)[2 + call.b] : call.b;
+    }
     if (make(call, &results) != 0) return;
     if (call.function == FRESH) DEMAND(results.number[1] == cells && results.number[3] == leftover);
+    if (call.function == EAST || call.function == NORTH) {
+        uint32_t held = words_of(LIBRARY)[2 + call.a];
+        DEMAND(results.number[1] == cell_in(words_of(LIBRARY), held)[call.function == EAST ? 1 : 2]);
+    }
+    if (call.function == NEW) made(&call, head, 0, left, right, results.number[1]);
+    if (call.function == POINT) made(&call, head, 5, left, right, results.number[1]);
     if (call.function == LOAD) loaded(results.size[1]);
     if (call.function == WORST) built(results.number[1]);
     if (call.function == OCCUPANCY) measured(call.v, call.a, results.number[1]);
@@ -453,30 +531,39 @@ static size_t stack_needed(const uint8_t *start, uint32_t kept) {
     return least;
 }
 
-/* The visits of the plain C version by their cases, on the same words: each kept cell has a first visit, a second and a third,
-   and cases 2 and 4 come once for each kept cell at which no run begins. */
-static void visits_by_cases(const uint8_t *start, uint32_t answer, uint32_t kept) {
+/* The visits of the plain C version by their cases, on the same words: each kept pair has a first visit, a second and a third, each
+   kept point one, and cases 2 and 4 come once for each kept cell at which no run begins. */
+static void visits_by_cases(const uint8_t *start, uint32_t answer, uint32_t pairs, uint32_t points) {
     static uint8_t cases[3 * CELLPOOL_MOST_CELLS];
     static uint32_t entered[3 * CELLPOOL_MOST_CELLS];
-    uint32_t times[5], runs, *words = words_of(PLAIN);
+    uint32_t times[6], runs, *words = words_of(PLAIN);
     size_t len = blocks[WORDS].bytes / sizeof *words;
     memcpy(words, start, blocks[WORDS].bytes);
     DEMAND(baseline_mark_by_cases(words, len, times, &runs, cases, entered) == answer);
     if (answer != 0) return;
-    DEMAND(times[1] + times[2] == kept && times[3] + times[4] == kept && times[0] == kept);
-    DEMAND(times[1] + times[3] == kept - runs);
+    DEMAND(times[1] + times[2] == pairs && times[3] + times[4] == pairs && times[0] == pairs && times[5] == points);
+    DEMAND(times[1] + times[3] == pairs + points - runs);
 }
 
 /* Every form of collect on the same words: the same words and cells kept, and the same visits where there are some. */
 static void forms_of_collect(Input *input) {
-    static uint8_t start[ROOM], collected[ROOM];
+    static uint32_t start_words[ROOM / sizeof(uint32_t)];
+    static uint8_t collected[ROOM], *const start = (uint8_t *)start_words;
     size_t bytes = blocks[WORDS].bytes;
     Results first, other;
     memcpy(start, words_of(LIBRARY), bytes);
     uint32_t answer = make_plainly(COLLECT, &first), kept = answer == 0 ? first.number[1] : 0;
-    DEMAND(answer != 0 || first.number[3] == 3 * kept);
     memcpy(collected, words_of(LIBRARY), bytes);
-    visits_by_cases(start, answer, kept);
+    uint32_t pairs = answer == 0 ? count_of(words_of(LIBRARY), 0) : 0, points = kept - pairs;
+    if (answer == 0) {
+        DEMAND(points == count_of(words_of(LIBRARY), 5) && first.number[3] == 3 * pairs + points);
+        /* A kept cell is as it was. */
+        for (uint32_t i = 1; i <= cells; i++) {
+            const uint32_t *at = cell_in(words_of(LIBRARY), i);
+            DEMAND(at[0] == 4 || memcmp(at, cell_in(start_words, i), 4 * sizeof *at) == 0);
+        }
+    }
+    visits_by_cases(start, answer, pairs, points);
 
 #define AGAIN(function)                           \
     (memcpy(words_of(LIBRARY), start, bytes),     \
@@ -502,10 +589,22 @@ static void forms_of_collect(Input *input) {
     memcpy(words_of(LIBRARY), start, bytes);
 }
 
-/* An image that was saved fits its bytes and no fewer; it loads, whatever is left over behind the cells, and saves as the same
-   bytes; every cut is refused. */
+/* A sum over the points of a pool, of their numbers and values, which does not depend on the order. */
+static uint32_t sum_of_points(const uint32_t *words) {
+    uint32_t sum = 0;
+    for (uint32_t i = 1; i <= cells; i++) {
+        const uint32_t *at = cell_in(words, i);
+        if (at[0] == 5) sum += (at[1] * 3 + at[2] * 5 + at[3] * 7 + 11) * 0x9E3779B9u >> 7;
+    }
+    return sum;
+}
+
+/* An image that was saved fits its bytes and no fewer; it loads, whatever is left over behind the cells, with the pairs and points
+   that are reached, and saves as the same bytes; every cut is refused. */
 static void saved_and_loaded(Input *input) {
+    static uint32_t collected[ROOM / sizeof(uint32_t)];
     Results first, other;
+    memcpy(collected, words_of(LIBRARY), blocks[WORDS].bytes);
     uint8_t *out = lend_filled(OUT, CELLPOOL_IMAGE_BYTES((size_t)cells), 1, 0x77);
     lend_filled(STACK, 2 * (size_t)cells, sizeof(uint32_t), 0x5A);
     if (make_plainly(SAVE, &first) != 0) return;
@@ -513,9 +612,13 @@ static void saved_and_loaded(Input *input) {
     memcpy(lend(IMAGE, bytes), out, bytes);
     lend_filled(OUT, bytes - 1, 1, 0x77);
     DEMAND(make_plainly(SAVE, NULL) == 10);
+    DEMAND(cellpool_collect(collected, blocks[WORDS].bytes / sizeof *collected, &other.number[1], &other.number[3]) == 0);
     leftover = byte_of(input) % 4u;
     lend_filled(WORDS, CELLPOOL_WORDS((size_t)cells) + leftover, sizeof(uint32_t), 0x44);
     DEMAND(make_plainly(LOAD, &other) == 0 && other.size[1] == bytes);
+    DEMAND(count_of(words_of(LIBRARY), 0) == count_of(collected, 0));
+    DEMAND(count_of(words_of(LIBRARY), 5) == count_of(collected, 5));
+    DEMAND(sum_of_points(words_of(LIBRARY)) == sum_of_points(collected));
     out = lend_filled(OUT, bytes, 1, 0x77);
     DEMAND(make_plainly(SAVE, &other) == 0 && other.size[1] == bytes);
     DEMAND(memcmp(out, blocks[IMAGE].at[LIBRARY], bytes) == 0);

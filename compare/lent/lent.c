@@ -96,7 +96,7 @@ static void set_up_largest(void) {
 }
 
 /* The image of the small one. */
-static const uint8_t image[] = {2, 1, 0, 0, 0, 0, 0, 0, 0, 0, 0, 0, 0, 0, 0, 0, 0, 2, 2, 8, 0, 0, 7};
+static const uint8_t image[] = {2, 1, 0, 0, 0, 0, 0, 0, 0, 0, 0, 0, 0, 0, 0, 0, 0, 0, 2, 2, 8, 0, 0, 0, 7};
 enum { IMAGE = sizeof image };
 
 /* Blocks of which nothing may be touched, and blocks with a first page that may. An image has its place at the end of such
@@ -121,12 +121,15 @@ static void refused_words(size_t len) {
     EXPECT(1, cellpool_copy(none, len, 0, 0));
     EXPECT(1, cellpool_clear(none, len, 0));
     EXPECT(1, cellpool_new(none, len, 0, 0, 0, 7, numbers));
+    EXPECT(1, cellpool_point(none, len, 0, 7, 1, 1, numbers));
     EXPECT(1, cellpool_left(none, len, 0, 0));
     EXPECT(1, cellpool_right(none, len, 0, 0));
     EXPECT(1, cellpool_setleft(none, len, 0, 0));
     EXPECT(1, cellpool_setright(none, len, 0, 0));
     EXPECT(1, cellpool_setvalue(none, len, 0, 7));
     EXPECT(1, cellpool_value(none, len, 0, numbers));
+    EXPECT(1, cellpool_east(none, len, 0, numbers));
+    EXPECT(1, cellpool_north(none, len, 0, numbers));
     EXPECT(1, cellpool_same(none, len, 0, 0, numbers));
     EXPECT(1, cellpool_collect(none, len, numbers, numbers + 1));
     EXPECT(1, cellpool_collect_tally(none, len, numbers, numbers + 1, numbers + 2, numbers + 3));
@@ -166,6 +169,19 @@ static void left_over(uint32_t leftover) {
     EXPECT_ON(0, cellpool_clear(words, len, 0));
     EXPECT_ON(0, cellpool_new(words, len, 0, 0, 0, 7, numbers));
     DEMAND(numbers[0] == 3 && words[2] == 2);
+    EXPECT_ON(0, cellpool_point(words, len, 0, 7, N + 1, N + 2, numbers));
+    DEMAND(numbers[0] == 3 && words[2] == 2);
+    /* Cell 2 is the point now, and its numbers lead past the end, where nothing is touched. */
+    EXPECT(0, cellpool_east(words, len, 0, numbers));
+    EXPECT(0, cellpool_north(words, len, 0, numbers + 1));
+    DEMAND(numbers[0] == N + 1 && numbers[1] == N + 2);
+    EXPECT(13, cellpool_left(words, len, 1, 0));
+    EXPECT(0, cellpool_collect(words, len, numbers, numbers + 1));
+    DEMAND(numbers[0] == 1 && numbers[1] == 1);
+    EXPECT(0, cellpool_collect_stack(words, len, stack, 1, numbers, numbers + 1, numbers + 2));
+    EXPECT(0, cellpool_collect_recursive(words, len, numbers, numbers + 1));
+    EXPECT(0, cellpool_save(words, len, scratch, SCRATCH, written, IMAGE, sizes));
+    DEMAND(sizes[0] == 21);
     EXPECT_ON(0, cellpool_left(words, len, 1, 0));
     EXPECT_ON(0, cellpool_right(words, len, 1, 0));
     EXPECT_ON(0, cellpool_setleft(words, len, 0, 0));
@@ -187,6 +203,7 @@ static void left_over(uint32_t leftover) {
     EXPECT(3, cellpool_collect(words, len, numbers, numbers + 1));
     memcpy(words, changed(1, N + 1), sizeof pool);
     EXPECT(3, cellpool_new(words, len, 0, 0, 0, 7, numbers));
+    EXPECT(3, cellpool_point(words, len, 0, 7, 1, 1, numbers));
 #undef EXPECT_ON
 }
 
@@ -212,7 +229,12 @@ static void long_blocks(size_t upper) {
     EXPECT(9, cellpool_load(pool, LEN, saved, upper + 1, sizes));
     DEMAND(sizes[0] == upper + 1);
     EXPECT(9, cellpool_check_image(saved, upper + 1, N));
-    /* A padded number at the end of the page. */
+    /* A kind that there is not, and a padded number, at the end of the page. */
+    memcpy(saved + 3, image, IMAGE - 3);
+    saved[IMAGE - 1] = 2;
+    EXPECT(14, cellpool_load(pool, LEN, saved + 3, upper + IMAGE - 3, sizes));
+    DEMAND(sizes[0] == upper + IMAGE - 3);
+    EXPECT(14, cellpool_check_image(saved + 3, upper + IMAGE - 3, N));
     saved[IMAGE - 2] = 0x82;
     saved[IMAGE - 1] = 0;
     EXPECT(12, cellpool_load(pool, LEN, saved + IMAGE - 2, upper + 2, sizes));
@@ -300,10 +322,32 @@ static void results(void) {
     pool[19] = 3;
     EXPECT(3, cellpool_new(pool, LEN, 0, 0, 0, 7, lent));
 
+    EXPECT(1, cellpool_point(changed(0, 1), LEN, 0, 7, 1, 1, lent));
+    set_up();
+    EXPECT(2, cellpool_point(pool, LEN, 16, 7, 1, 1, lent));
+    EXPECT(5, cellpool_point(pool, LEN, 0, 7, 1, 1, lent));
+    EXPECT(3, cellpool_point(changed(3, 3), LEN, 0, 7, 1, 1, lent));
+    EXPECT(3, cellpool_point(changed(1, 3), LEN, 0, 7, 1, 1, lent));
+    EXPECT(3, cellpool_point(changed(1, 1), LEN, 0, 7, 1, 1, lent));
+    pool[18] = 4;
+    pool[19] = 3;
+    EXPECT(3, cellpool_point(pool, LEN, 0, 7, 1, 1, lent));
+
     EXPECT(1, cellpool_value(changed(0, 1), LEN, 0, lent));
     EXPECT(2, cellpool_value(changed(3, 3), LEN, 16, lent));
     EXPECT(3, cellpool_value(pool, LEN, 1, lent));
     EXPECT(4, cellpool_value(pool, LEN, 2, lent));
+
+    EXPECT(1, cellpool_east(changed(0, 1), LEN, 0, lent));
+    EXPECT(2, cellpool_east(changed(3, 3), LEN, 16, lent));
+    EXPECT(3, cellpool_east(pool, LEN, 1, lent));
+    EXPECT(4, cellpool_east(pool, LEN, 2, lent));
+    EXPECT(13, cellpool_east(pool, LEN, 0, lent));
+    EXPECT(1, cellpool_north(changed(0, 1), LEN, 0, lent));
+    EXPECT(2, cellpool_north(changed(3, 3), LEN, 16, lent));
+    EXPECT(3, cellpool_north(pool, LEN, 1, lent));
+    EXPECT(4, cellpool_north(pool, LEN, 2, lent));
+    EXPECT(13, cellpool_north(pool, LEN, 0, lent));
 
     EXPECT(1, cellpool_same(changed(0, 1), LEN, 0, 0, lent));
     EXPECT(2, cellpool_same(changed(3, 3), LEN, 16, 0, lent));

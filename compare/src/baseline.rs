@@ -4,14 +4,19 @@
 
 use crate::refusal::*;
 use crate::visit::{Case, Marking};
-use crate::{cell_at, words_for, Interface, Tally, CELL, FREE, HEADER, MOST_CELLS, MOST_RECURSIVE, REGISTERS, USED};
+use crate::{
+    cell_at, is_used, words_for, Interface, Tally, CELL, FREE, HEADER, MOST_CELLS, MOST_RECURSIVE, PAIR, POINT,
+    REGISTERS,
+};
 use std::cmp::Ordering;
 
 #[derive(Clone, Copy, Debug, Default)]
 pub struct PlainRust;
 
-/// State of a marked cell.
+/// State of a marked pair.
 pub const MARKED: u32 = 3;
+/// State of a marked point.
+pub const MARKED_POINT: u32 = POINT + 1;
 /// The virtual root: no cell.
 const ROOT: u32 = u32::MAX;
 
@@ -48,7 +53,7 @@ fn registers_valid(highest: u32) -> Result<(), u32> {
 }
 
 fn valid_link(words: &[u32], n: u32, link: u32) -> bool {
-    link == 0 || (link <= n && words[cell_at(link)] == USED)
+    link == 0 || (link <= n && is_used(words[cell_at(link)]))
 }
 
 fn read(words: &[u32], n: u32, register: u32) -> Result<u32, u32> {
@@ -67,6 +72,16 @@ fn held(words: &[u32], n: u32, register: u32) -> Result<usize, u32> {
     }
 }
 
+/// The cell in this register, which has to be of this state.
+fn held_of(words: &[u32], n: u32, state: u32, register: u32) -> Result<usize, u32> {
+    let at = held(words, n, register)?;
+    if words[at] == state {
+        Ok(at)
+    } else {
+        Err(KIND)
+    }
+}
+
 fn well_formed(words: &[u32], n: u32) -> Result<(), u32> {
     for &link in &words[REGISTER_0..HEADER] {
         if !valid_link(words, n, link) {
@@ -75,8 +90,8 @@ fn well_formed(words: &[u32], n: u32) -> Result<(), u32> {
     }
     for cell in words[HEADER..].chunks_exact(CELL) {
         let fine = match cell[STATE] {
-            USED => valid_link(words, n, cell[LEFT]) && valid_link(words, n, cell[RIGHT]),
-            FREE => true,
+            PAIR => valid_link(words, n, cell[LEFT]) && valid_link(words, n, cell[RIGHT]),
+            FREE | POINT => true,
             _ => false,
         };
         if !fine {
@@ -87,7 +102,28 @@ fn well_formed(words: &[u32], n: u32) -> Result<(), u32> {
 }
 
 fn unmarked(words: &[u32], link: u32) -> bool {
-    link != 0 && words[cell_at(link)] == USED
+    link != 0 && is_used(words[cell_at(link)])
+}
+
+/// Is a used cell of this state a point, marked or not?
+pub fn is_point(state: u32) -> bool {
+    state == POINT || state == MARKED_POINT
+}
+
+/// Mark a cell that is used; it may be marked already.
+pub fn mark(words: &mut [u32], link: u32) {
+    let state = &mut words[cell_at(link)];
+    *state = if is_point(*state) { MARKED_POINT } else { MARKED };
+}
+
+/// Left and right of a cell that is used, marked or not: a point is a cell with two nil links.
+pub fn links(words: &[u32], link: u32) -> (u32, u32) {
+    let at = cell_at(link);
+    if is_point(words[at]) {
+        (0, 0)
+    } else {
+        (words[at + LEFT], words[at + RIGHT])
+    }
 }
 
 /// The cell in hand p, its predecessor q, and the words of p: its mark m and what stands in its links l and r.
@@ -115,12 +151,13 @@ impl Hand {
             1 => Case::PassLeft,
             2 if unmarked(words, self.l) => Case::FollowRight,
             2 => Case::PassRight,
+            MARKED_POINT => Case::Point,
             _ => Case::Retreat,
         }
     }
 
-    /// What a case does: in 1, 2 and 4 p, l, r, q become l, r, q, p; in 3 and 5 l, r, q become r, q, l. Where another cell comes
-    /// in hand, m, l and r are still those of the one that was.
+    /// What a case does: in 1, 2 and 4 p, l, r, q become l, r, q, p; in 3 and 5 l, r, q become r, q, l; at a point p, q become q,
+    /// p. Where another cell comes in hand, m, l and r are still those of the one that was.
     #[inline]
     fn exchange(self, case: Case) -> Hand {
         let Hand { p, q, m, l, r } = self;
@@ -135,10 +172,13 @@ impl Hand {
             Case::FollowRight => Hand { p: l, l: r, r: q, q: p, m },
             // 5. The right link is marked or nil: the cell stays in hand.
             Case::PassRight => Hand { p, l: r, r: q, q: l, m },
+            // A point: back to the predecessor, and its numbers stay.
+            Case::Point => Hand { p: q, q: p, l, r, m },
         }
     }
 
-    /// One visit. The mark is written before the next link is looked at, which may lead to the cell itself.
+    /// One visit: the mark of a pair goes from 0 to 3, that of a point from 5 to 6. It is written before the next link is looked
+    /// at, which may lead to the cell itself.
     #[inline]
     fn visit(mut self, words: &mut [u32]) -> (Case, Hand) {
         self.m += 1;
@@ -148,7 +188,7 @@ impl Hand {
     }
 }
 
-/// Mark by link reversal from every register; answers the visits. A cell is visited again while it stays in hand, so that
+/// Mark by link reversal from every register; answers the visits. A pair is visited again while it stays in hand, so that
 /// its links are read and written once for up to three visits.
 fn mark_by_reversal(words: &mut [u32]) -> u32 {
     let mut visits = 0;
@@ -181,8 +221,7 @@ fn mark_by_reversal(words: &mut [u32]) -> u32 {
 /// different links are unmarked, and 0 where both are marked or nil.
 fn walk(words: &mut [u32], mut node: u32) -> u32 {
     loop {
-        let at = cell_at(node);
-        let (l, r) = (words[at + LEFT], words[at + RIGHT]);
+        let (l, r) = links(words, node);
         if unmarked(words, l) {
             if r != l && unmarked(words, r) {
                 return node;
@@ -193,7 +232,7 @@ fn walk(words: &mut [u32], mut node: u32) -> u32 {
         } else {
             return 0;
         }
-        words[cell_at(node)] = MARKED;
+        mark(words, node);
     }
 }
 
@@ -220,21 +259,20 @@ fn mark_with_stack<const CHECKED: bool>(words: &mut [u32], stack: &mut [u32]) ->
         if !unmarked(words, node) {
             continue;
         }
-        words[cell_at(node)] = MARKED;
+        mark(words, node);
         let mut height = 0;
         loop {
-            let at = cell_at(node);
-            let (l, r) = (words[at + LEFT], words[at + RIGHT]);
+            let (l, r) = links(words, node);
             if unmarked(words, l) {
                 // Two equal unmarked links are one.
                 if r != l && unmarked(words, r) {
-                    words[cell_at(r)] = MARKED;
+                    mark(words, r);
                     if height == stack.len() {
                         if !CHECKED {
                             return (false, 0);
                         }
                         // A check finds both links marked.
-                        words[cell_at(l)] = MARKED;
+                        mark(words, l);
                         checks += 1;
                         height = check(words, stack);
                         if height == stack.len() {
@@ -254,7 +292,7 @@ fn mark_with_stack<const CHECKED: bool>(words: &mut [u32], stack: &mut [u32]) ->
             } else {
                 break;
             }
-            words[cell_at(node)] = MARKED;
+            mark(words, node);
         }
     }
     (true, checks)
@@ -267,8 +305,10 @@ fn collect_with_stack<const CHECKED: bool>(words: &mut [u32], stack: &mut [u32])
     let (enough, checks) = mark_with_stack::<CHECKED>(words, stack);
     if !enough {
         for cell in words[HEADER..].chunks_exact_mut(CELL) {
-            if cell[STATE] == MARKED {
-                cell[STATE] = USED;
+            match cell[STATE] {
+                MARKED => cell[STATE] = PAIR,
+                MARKED_POINT => cell[STATE] = POINT,
+                _ => {}
             }
         }
         mark_by_reversal(words);
@@ -277,18 +317,20 @@ fn collect_with_stack<const CHECKED: bool>(words: &mut [u32], stack: &mut [u32])
     Ok((sweep(words, n), u32::from(enough), checks))
 }
 
-/// The recursive procedure of source document 000; the depth left falls at each call.
-fn mark_recursively(words: &mut [u32], link: u32, depth: u32) {
+/// The recursive procedure of source document 000; the depth left falls at each call. Answers the visits, three of a pair and one
+/// of a point.
+fn mark_recursively(words: &mut [u32], link: u32, depth: u32) -> u32 {
     assert!(depth > 0, "a chain of at most N cells has depth N");
-    let at = cell_at(link);
-    words[at] = MARKED;
-    let (l, r) = (words[at + LEFT], words[at + RIGHT]);
+    mark(words, link);
+    let (l, r) = links(words, link);
+    let mut visits = if is_point(words[cell_at(link)]) { 1 } else { 3 };
     if unmarked(words, l) {
-        mark_recursively(words, l, depth - 1);
+        visits += mark_recursively(words, l, depth - 1);
     }
     if unmarked(words, r) {
-        mark_recursively(words, r, depth - 1);
+        visits += mark_recursively(words, r, depth - 1);
     }
+    visits
 }
 
 /// Free every unmarked cell and rebuild the ascending chain; answers the kept cells.
@@ -296,12 +338,19 @@ pub fn sweep(words: &mut [u32], n: u32) -> u32 {
     let (mut kept, mut next) = (0, 0);
     for i in (1..=n).rev() {
         let at = cell_at(i);
-        if words[at] == MARKED {
-            words[at] = USED;
-            kept += 1;
-        } else {
-            words[at..at + CELL].copy_from_slice(&[FREE, next, 0, 0]);
-            next = i;
+        match words[at] {
+            MARKED => {
+                words[at] = PAIR;
+                kept += 1;
+            }
+            MARKED_POINT => {
+                words[at] = POINT;
+                kept += 1;
+            }
+            _ => {
+                words[at..at + CELL].copy_from_slice(&[FREE, next, 0, 0]);
+                next = i;
+            }
         }
     }
     words[HEAD] = next;
@@ -316,7 +365,7 @@ fn collect_well_formed(words: &mut [u32], n: u32) -> (u32, u32) {
 fn follow(words: &mut [u32], r: u32, a: u32, side: usize) -> Result<(), u32> {
     let n = size(words)?;
     registers_valid(r.max(a))?;
-    let link = words[held(words, n, a)? + side];
+    let link = words[held_of(words, n, PAIR, a)? + side];
     if !valid_link(words, n, link) {
         return Err(MALFORMED);
     }
@@ -328,9 +377,39 @@ fn relink(words: &mut [u32], a: u32, b: u32, side: usize) -> Result<(), u32> {
     let n = size(words)?;
     registers_valid(a.max(b))?;
     let link = read(words, n, b)?;
-    let at = held(words, n, a)?;
+    let at = held_of(words, n, PAIR, a)?;
     words[at + side] = link;
     Ok(())
+}
+
+fn coordinate(words: &[u32], a: u32, side: usize) -> Result<u32, u32> {
+    let n = size(words)?;
+    registers_valid(a)?;
+    Ok(words[held_of(words, n, POINT, a)? + side])
+}
+
+/// Register r gets the head cell with this content, where the registers that were to be read are sound; answers the visits.
+fn allocate(words: &mut [u32], n: u32, r: u32, content: [u32; CELL]) -> Result<u32, u32> {
+    let mut visits = 0;
+    if words[HEAD] == 0 {
+        well_formed(words, n)?;
+        visits = collect_well_formed(words, n).1;
+        if words[HEAD] == 0 {
+            return Err(FULL);
+        }
+    }
+    let head = words[HEAD];
+    if head > n {
+        return Err(MALFORMED);
+    }
+    let at = cell_at(head);
+    if words[at] != FREE || words[at + LEFT] > n {
+        return Err(MALFORMED);
+    }
+    words[HEAD] = words[at + LEFT];
+    words[at..at + CELL].copy_from_slice(&content);
+    words[REGISTER_0 + r as usize] = head;
+    Ok(visits)
 }
 
 /// A reader laid over an image.
@@ -380,8 +459,17 @@ fn validate(bytes: &[u8], n: u32) -> Result<usize, u32> {
         reader.link(k)?;
     }
     for _ in 0..k {
-        reader.link(k)?;
-        reader.link(k)?;
+        match reader.number()? {
+            0 => {
+                reader.link(k)?;
+                reader.link(k)?;
+            }
+            1 => {
+                reader.number()?;
+                reader.number()?;
+            }
+            _ => return Err(KIND_NUMBER),
+        }
         reader.number()?;
     }
     Ok(reader.at)
@@ -411,10 +499,12 @@ fn write_image(words: &[u32], numbers: &[u32], order: &[u32], mut out: Option<&m
         write(&mut out, &mut at, renumber(link));
     }
     for &i in order {
-        let cell = cell_at(i);
-        write(&mut out, &mut at, renumber(words[cell + LEFT]));
-        write(&mut out, &mut at, renumber(words[cell + RIGHT]));
-        write(&mut out, &mut at, words[cell + VALUE]);
+        let cell = &words[cell_at(i)..][..CELL];
+        let numbers = match cell[STATE] {
+            POINT => [1, cell[LEFT], cell[RIGHT], cell[VALUE]],
+            _ => [0, renumber(cell[LEFT]), renumber(cell[RIGHT]), cell[VALUE]],
+        };
+        numbers.into_iter().for_each(|number| write(&mut out, &mut at, number));
     }
     at
 }
@@ -431,9 +521,9 @@ fn number_cells(words: &[u32], numbers: &mut [u32], order: &mut [u32]) -> usize 
                 numbers[current as usize - 1] = count as u32;
                 pending -= 1;
                 order[pending] = current;
-                current = words[cell_at(current) + LEFT];
+                (current, _) = links(words, current);
             } else if pending < order.len() {
-                current = words[cell_at(order[pending]) + RIGHT];
+                (_, current) = links(words, order[pending]);
                 pending += 1;
             } else {
                 break;
@@ -512,26 +602,13 @@ impl Interface for PlainRust {
         registers_valid(r.max(a).max(b))?;
         let left = read(words, n, a)?;
         let right = read(words, n, b)?;
-        let mut visits = 0;
-        if words[HEAD] == 0 {
-            well_formed(words, n)?;
-            visits = collect_well_formed(words, n).1;
-            if words[HEAD] == 0 {
-                return Err(FULL);
-            }
-        }
-        let head = words[HEAD];
-        if head > n {
-            return Err(MALFORMED);
-        }
-        let at = cell_at(head);
-        if words[at] != FREE || words[at + LEFT] > n {
-            return Err(MALFORMED);
-        }
-        words[HEAD] = words[at + LEFT];
-        words[at..at + CELL].copy_from_slice(&[USED, left, right, v]);
-        words[REGISTER_0 + r as usize] = head;
-        Ok(visits)
+        allocate(words, n, r, [PAIR, left, right, v])
+    }
+
+    fn point(&self, words: &mut [u32], r: u32, v: u32, x: u32, y: u32) -> Result<u32, u32> {
+        let n = size(words)?;
+        registers_valid(r)?;
+        allocate(words, n, r, [POINT, x, y, v])
     }
 
     fn left(&self, words: &mut [u32], r: u32, a: u32) -> Result<(), u32> {
@@ -562,6 +639,14 @@ impl Interface for PlainRust {
         let n = size(words)?;
         registers_valid(a)?;
         Ok(words[held(words, n, a)? + VALUE])
+    }
+
+    fn east(&self, words: &mut [u32], a: u32) -> Result<u32, u32> {
+        coordinate(words, a, LEFT)
+    }
+
+    fn north(&self, words: &mut [u32], a: u32) -> Result<u32, u32> {
+        coordinate(words, a, RIGHT)
     }
 
     fn same(&self, words: &mut [u32], a: u32, b: u32) -> Result<u32, u32> {
@@ -610,13 +695,13 @@ impl Interface for PlainRust {
             return Err(TOO_LARGE);
         }
         well_formed(words, n)?;
+        let mut visits = 0;
         for register in REGISTER_0..HEADER {
             if unmarked(words, words[register]) {
-                mark_recursively(words, words[register], n);
+                visits += mark_recursively(words, words[register], n);
             }
         }
-        let kept = sweep(words, n);
-        Ok((kept, 3 * kept))
+        Ok((sweep(words, n), visits))
     }
 
     fn save(&self, words: &mut [u32], scratch: &mut [u32], out: &mut [u8]) -> Result<usize, u32> {
@@ -657,8 +742,9 @@ impl Interface for PlainRust {
         }
         for i in 1..=n {
             let at = cell_at(i);
-            words[at] = if i <= k { MARKED } else { FREE };
+            words[at] = FREE;
             if i <= k {
+                words[at] = if next() == 0 { MARKED } else { MARKED_POINT };
                 words[at + LEFT] = next();
                 words[at + RIGHT] = next();
                 words[at + VALUE] = next();

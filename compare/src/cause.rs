@@ -10,7 +10,7 @@ pub enum Name {
     B,
 }
 
-/// Why a link is not valid: it is above N, or that cell is not used.
+/// Why a link is not valid: it is above N, or that cell is not used, neither a pair nor a point.
 #[derive(Clone, Copy, Debug, PartialEq, Eq, PartialOrd, Ord)]
 pub enum Link {
     AboveN,
@@ -22,9 +22,13 @@ pub enum Link {
 pub enum Place {
     K,
     Register,
+    Kind,
     Left,
     Right,
-    Value,
+    PairValue,
+    X,
+    Y,
+    PointValue,
 }
 
 #[derive(Clone, Copy, Debug, PartialEq, Eq, PartialOrd, Ord)]
@@ -65,6 +69,8 @@ pub enum Cause {
     LeftOfHead,
     /// The register is nil where a cell is needed.
     Nil,
+    /// The cell is of the other kind than the call needs.
+    OtherKind,
     /// The link that is read is not valid.
     LinkRead(Link),
     /// No cell is free.
@@ -79,6 +85,8 @@ pub enum Cause {
     Padded(Place),
     /// The image has more cells than the pool.
     MoreThanN,
+    /// The kind is neither that of a pair nor that of a point.
+    KindNumber,
     /// The register or link is above the number of the image's cells.
     AboveK(Place),
     /// The output is too short.
@@ -97,11 +105,13 @@ impl From<Cause> for u32 {
             Read(..) | State | Register(_) | Left(_) | Right(_) | Several => MALFORMED,
             HeadAboveN | HeadNotFree | LeftOfHead | LinkRead(_) => MALFORMED,
             Nil => NIL,
+            OtherKind => KIND,
             Full => FULL,
             Truncated(_) => TRUNCATED,
             Wide(_) | Long(_) => OUT_OF_RANGE,
             Padded(_) => PADDED,
             MoreThanN => TOO_MANY_CELLS,
+            KindNumber => KIND_NUMBER,
             AboveK(_) => LINK_RANGE,
         }
     }

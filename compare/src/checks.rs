@@ -1,13 +1,13 @@
 //! The comparisons. Each runs an implementation on many inputs and answers the first difference as text.
 
-use crate::generate::{self, Shape, SHAPES};
+use crate::generate::{self, Comb, Shape, SHAPES};
 use crate::model::{groups, Cell, Model, Pool};
 use crate::random::{self, Random};
 use crate::reference::Reference;
 use crate::refusal::PADDED;
 use crate::visit::Marking;
 use crate::{
-    apply, cell_at, words_for, Answer, Call, Interface, Tally, CELL, FREE, HEADER, MOST_CELLS, REGISTERS, USED,
+    apply, cell_at, words_for, Answer, Call, Interface, Tally, CELL, FREE, HEADER, MOST_CELLS, PAIR, POINT, REGISTERS,
 };
 use std::collections::BTreeSet;
 use std::fmt::Debug;
@@ -50,6 +50,7 @@ pub const ROUND_TRIPS: Comparison = Comparison { stream: 16, rounds: 10_000, run
 pub const WORST_CASES: Comparison = Comparison { stream: 17, rounds: 0, run: worst_cases };
 pub const CHECKED_POOLS: Comparison = Comparison { stream: 18, rounds: 0, run: checked_pools };
 pub const LEFTOVERS: Comparison = Comparison { stream: 19, rounds: 1_000, run: leftovers };
+pub const FORMER_IMAGES: Comparison = Comparison { stream: 20, rounds: 0, run: former_images };
 
 fn equal<T: PartialEq + Debug>(what: impl Fn() -> String, found: T, expected: T) -> Outcome {
     if found == expected {
@@ -121,7 +122,7 @@ fn any_words(pool: &dyn Interface, random: &mut Random, rounds: usize) -> Outcom
     Ok(())
 }
 
-/// The pool from fresh words beside the reference model. Their answers are the same up to the first `new` that finds a live
+/// The pool from fresh words beside the reference model. Their answers are the same up to the first `new` or `point` that finds a live
 /// count between the lesser and the greater of N and L, and differ there.
 pub fn against_reference(pool: &dyn Interface, random: &mut Random, rounds: usize) -> Outcome {
     for round in 0..rounds {
@@ -162,15 +163,22 @@ fn reference_list(pool: &dyn Interface, n: usize, mut words: Vec<u32>, limit: u6
 /// The largest pool filled, and used again after everything was dropped.
 fn largest_pool_filled(pool: &dyn Interface, random: &mut Random, _: usize) -> Outcome {
     let n = MOST_CELLS;
-    let fill = |v: usize| Call::New { r: 0, a: 0, b: 1, v: v as u32 };
-    let mut list: Vec<Call> = (0..n + 2).map(fill).collect();
-    list.extend([Call::Collect, Call::Right { r: 1, a: 0 }, Call::Left { r: 0, a: 0 }, Call::Collect]);
-    list.extend((0..3).map(fill));
-    list.extend([Call::Clear { r: 0 }, Call::Clear { r: 1 }]);
-    list.extend((0..100).map(fill));
-    list.push(Call::Collect);
-    for limit in [n - 1, n, n + 1] {
-        reference_list(pool, n, generate::blank(random, n), limit as u64, &list)?;
+    let pair = |v: usize| vec![Call::New { r: 0, a: 0, b: 1, v: v as u32 }];
+    // A pair whose right cell is a point.
+    let both = |v: usize| {
+        let (x, y) = (v as u32, 1);
+        vec![Call::Point { r: 1, v: x, x, y }, Call::New { r: 0, a: 0, b: 1, v: x }, Call::Clear { r: 1 }]
+    };
+    for (fill, times) in [(&pair as &dyn Fn(usize) -> Vec<Call>, n + 2), (&both, n / 2 + 1)] {
+        let mut list: Vec<Call> = (0..times).flat_map(fill).collect();
+        list.extend([Call::Collect, Call::Right { r: 1, a: 0 }, Call::Left { r: 0, a: 0 }, Call::Collect]);
+        list.extend((0..3).flat_map(fill));
+        list.extend([Call::Clear { r: 0 }, Call::Clear { r: 1 }]);
+        list.extend((0..100).flat_map(fill));
+        list.push(Call::Collect);
+        for limit in [n - 1, n, n + 1] {
+            reference_list(pool, n, generate::blank(random, n), limit as u64, &list)?;
+        }
     }
     Ok(())
 }
@@ -185,28 +193,54 @@ fn digits(mut code: usize, bases: &[usize]) -> Vec<u32> {
     bases.iter().map(digit).collect()
 }
 
+/// The contents of a cell that are tried in every pool of few cells: each of these states with two links each, from a few of them,
+/// and one point with any two numbers, since a point's words are not looked at.
+struct Contents<'a> {
+    states: &'a [u32],
+    links: usize,
+}
+
+impl Contents<'_> {
+    fn count(&self) -> usize {
+        self.states.len() * self.links * self.links + 1
+    }
+
+    /// Put them into the cells by their numbers.
+    fn put(&self, words: &mut [u32], numbers: &[u32], random: &mut Random) {
+        let n = numbers.len();
+        for (cell, &number) in words[HEADER..].chunks_exact_mut(CELL).zip(numbers) {
+            let places = digits(number as usize, &[self.links, self.links, self.states.len() + 1]);
+            let content = match self.states.get(places[2] as usize) {
+                Some(&state) => [state, places[0], places[1]],
+                None => generate::point(random, n),
+            };
+            cell[..3].copy_from_slice(&content);
+            cell[3] = 7;
+        }
+    }
+}
+
 /// Every pool of one or two cells with small numbers, and every well-formed pool of three used cells, and of four from register 0,
 /// which need one stack word at most.
 fn small_pools(pool: &dyn Interface, random: &mut Random, _: usize) -> Outcome {
-    let states = [USED, FREE, 3];
     for n in [1, 2] {
-        // The head, register 0, and state, left and right of each cell.
+        // The head, register 0, and each cell.
+        let contents = Contents { states: &[PAIR, FREE, 3], links: n + 2 };
         let mut bases = vec![n + 2; 2];
-        bases.extend([states.len(), n + 2, n + 2].repeat(n));
+        bases.extend(vec![contents.count(); n]);
         for code in 0..bases.iter().product() {
             let small = digits(code, &bases);
             let mut words = generate::blank(random, n);
             words[0] = n as u32;
             words[1] = small[0];
             words[2] = small[1];
-            for (cell, content) in words[HEADER..].chunks_exact_mut(CELL).zip(small[2..].chunks(3)) {
-                cell.copy_from_slice(&[states[content[0] as usize], content[1], content[2], 7]);
-            }
+            contents.put(&mut words, &small[2..], random);
             for call in [
                 Call::Copy { r: 1, a: 0 },
                 Call::Clear { r: 0 },
                 Call::New { r: 0, a: 0, b: 1, v: 5 },
                 Call::New { r: 1, a: 1, b: 0, v: 5 },
+                Call::Point { r: 0, v: 5, x: 1, y: 2 },
                 Call::Left { r: 1, a: 0 },
                 Call::Right { r: 0, a: 0 },
                 Call::SetLeft { a: 0, b: 1 },
@@ -214,6 +248,8 @@ fn small_pools(pool: &dyn Interface, random: &mut Random, _: usize) -> Outcome {
                 Call::SetRight { a: 0, b: 0 },
                 Call::SetValue { a: 0, v: 8 },
                 Call::Value { a: 0 },
+                Call::East { a: 0 },
+                Call::North { a: 0 },
                 Call::Same { a: 0, b: 1 },
                 Call::Collect,
             ] {
@@ -222,31 +258,29 @@ fn small_pools(pool: &dyn Interface, random: &mut Random, _: usize) -> Outcome {
             for length in 0..3 {
                 stack_collect(pool, &words, length, random)?;
             }
-            save(pool, &words, 2 * n, 40, random)?;
+            save(pool, &words, 2 * n, 60, random)?;
         }
     }
-    let n = 3;
-    for code in 0..usize::pow(n as usize + 1, 8) {
-        let links = digits(code, &[n as usize + 1; 8]);
-        let mut words = generate::blank(random, n as usize);
-        words[0] = n;
-        words[2..4].copy_from_slice(&links[..2]);
-        for (cell, links) in words[HEADER..].chunks_exact_mut(CELL).zip(links[2..].chunks(2)) {
-            cell.copy_from_slice(&[USED, links[0], links[1], 7]);
-        }
+    let contents = Contents { states: &[PAIR], links: 4 };
+    let bases = [[4; 2].as_slice(), &[contents.count(); 3]].concat();
+    for code in 0..bases.iter().product() {
+        let small = digits(code, &bases);
+        let mut words = generate::blank(random, 3);
+        words[0] = 3;
+        words[2..4].copy_from_slice(&small[..2]);
+        contents.put(&mut words, &small[2..], random);
         one_call(pool, &mut words.clone(), Call::Collect)?;
         one_call(pool, &mut words.clone(), Call::New { r: 0, a: 1, b: 0, v: 5 })?;
         for length in 0..3 {
             stack_collect(pool, &words, length, random)?;
         }
-        save(pool, &words, 6, 26, random)?;
+        save(pool, &words, 6, 29, random)?;
     }
-    for code in 0..usize::pow(5, 8) {
+    let contents = Contents { states: &[PAIR], links: 5 };
+    for code in 0..contents.count().pow(4) {
         let mut words = generate::blank(random, 4);
         (words[0], words[2]) = (4, 1);
-        for (cell, links) in words[HEADER..].chunks_exact_mut(CELL).zip(digits(code, &[5; 8]).chunks(2)) {
-            cell.copy_from_slice(&[USED, links[0], links[1], 7]);
-        }
+        contents.put(&mut words, &digits(code, &[contents.count(); 4]), random);
         for length in 0..3 {
             stack_collect(pool, &words, length, random)?;
         }
@@ -257,12 +291,12 @@ fn small_pools(pool: &dyn Interface, random: &mut Random, _: usize) -> Outcome {
 /// Every pool of so many cells that the stack marker with one, two or three words can tell from the others, where the first cells
 /// in hand lead to two new ones each, until a check is made. The links of a cell are chosen when it is looked at, in hand or in a
 /// check, and no longer once all cells are marked. Which marked cell a link leads to, or to nil, makes no difference: one of them
-/// is taken. Neither does the number of a new cell.
+/// is taken; and where both links are such, now and then the cell is a point. Neither does the number of a new cell.
 fn checked_pools(pool: &dyn Interface, random: &mut Random, _: usize) -> Outcome {
     for (length, most) in [(1, 9), (2, 11), (3, 12)] {
         let pushed = 2 * length as u32 + 3;
         for n in pushed..=most {
-            let cell = Cell { state: USED, left: 0, right: 0, value: 7 };
+            let cell = Cell { state: PAIR, left: 0, right: 0, value: 7 };
             let mut graph = Pool { head: 0, registers: [0; REGISTERS], cells: vec![cell; n as usize] };
             graph.registers[0] = 1;
             // Cell 1 leads to 2 and 3, 2 to 4 and 5, 4 to 6 and 7, and so on.
@@ -316,6 +350,9 @@ fn every_choice(
             _ => link,
         };
         graph.cells[place] = Cell { left: taken(left), right: taken(right), ..before };
+        if (left, right) == (0, 0) && random.once_in(3) {
+            graph.cells[place].state = POINT;
+        }
         every_choice(graph, chosen, named.max(left).max(right), length, random, show)?;
     }
     chosen.pop();
@@ -333,17 +370,16 @@ pub fn cases(pool: &dyn Interface, marker: &Marker, random: &mut Random, rounds:
         one_marking(pool, marker, &words)?;
     }
     for n in 1..=3 {
-        // Two registers, and state, left and right of each cell.
+        // Two registers, and each cell.
+        let contents = Contents { states: &[PAIR, FREE], links: n + 1 };
         let mut bases = vec![n + 1; 2];
-        bases.extend([2, n + 1, n + 1].repeat(n));
+        bases.extend(vec![contents.count(); n]);
         for code in 0..bases.iter().product() {
             let small = digits(code, &bases);
             let mut words = generate::blank(random, n);
             words[0] = n as u32;
             words[2..4].copy_from_slice(&small[..2]);
-            for (cell, content) in words[HEADER..].chunks_exact_mut(CELL).zip(small[2..].chunks(3)) {
-                cell.copy_from_slice(&[[USED, FREE][content[0] as usize], content[1], content[2], 7]);
-            }
+            contents.put(&mut words, &small[2..], random);
             if decoded(&words).is_some() {
                 one_marking(pool, marker, &words)?;
             }
@@ -353,12 +389,14 @@ pub fn cases(pool: &dyn Interface, marker: &Marker, random: &mut Random, rounds:
 }
 
 /// The marker on the words of a well-formed pool: what it tells is what the model finds without reversing a link, and what the
-/// numbers of kept cells and of runs say; cells that are reached end with mark 3, and every other word stays.
+/// numbers of kept pairs and points and of runs say; pairs that are reached end with mark 3, points with 6, and every other word
+/// stays.
 fn one_marking(pool: &dyn Interface, marker: &Marker, words: &[u32]) -> Outcome {
     let what = || format!("marking by cases on {words:?}");
     let graph = decoded(words).expect("the pool is well-formed");
     let (reached, mut expected, mut found) = (graph.reached(), words.to_vec(), words.to_vec());
-    reached.iter().for_each(|&i| expected[cell_at(i)] = 3);
+    let points = reached.iter().filter(|&&i| graph.cell(i).state == POINT).count() as u32;
+    reached.iter().for_each(|&i| expected[cell_at(i)] = if graph.cell(i).state == POINT { 6 } else { 3 });
     let told = marker(&mut found).map_err(|refusal| format!("{}: refused {refusal}", what()))?;
     equal(what, &told, &graph.marking())?;
     equal_words(what, &found, &expected)?;
@@ -374,19 +412,21 @@ fn one_marking(pool: &dyn Interface, marker: &Marker, words: &[u32]) -> Outcome 
         }
     }
     let (kept, runs) = (reached.len() as u32, begun.len() as u32);
-    let [retreat, follow_left, pass_left, follow_right, pass_right] = told.times;
+    let pairs = kept - points;
+    let [retreat, follow_left, pass_left, follow_right, pass_right, point] = told.times;
     equal(what, told.runs, runs)?;
-    // Each kept cell has a first visit, a second and a third.
-    equal(what, (follow_left + pass_left, follow_right + pass_right, retreat), (kept, kept, kept))?;
+    // Each kept pair has a first visit, a second and a third, and each kept point has one.
+    equal(what, (follow_left + pass_left, follow_right + pass_right, retreat), (pairs, pairs, pairs))?;
+    equal(what, point, points)?;
     // Cases 2 and 4 go to each kept cell at which no run begins, once, in the order of the first visits.
     equal(what, follow_left + follow_right, kept - runs)?;
     let mut others = graph.depth_first();
     others.retain(|i| !begun.contains(i));
     equal(what, &told.entered, &others)?;
-    // The four-way exchanges: for one run over n cells 2 * n - 1.
-    equal(what, retreat + follow_left + follow_right, 2 * kept - runs)?;
+    // The four-way exchanges, with those of p and q alone at points: for one run over n cells 2 * n - 1.
+    equal(what, retreat + point + follow_left + follow_right, 2 * kept - runs)?;
     let visits = told.times.iter().sum();
-    equal(what, (visits, told.cases.len()), (3 * kept, 3 * reached.len()))?;
+    equal(what, (visits, told.cases.len() as u32), (3 * pairs + points, 3 * pairs + points))?;
     equal(what, pool.collect(&mut words.to_vec()), Ok((kept, visits)))
 }
 
@@ -512,7 +552,8 @@ fn every_stack_length(pool: &dyn Interface, random: &mut Random, _: usize) -> Ou
         let n = if random.once_in(2) { used } else { random.between(used, MOST_CELLS) };
         let (most, most_forks, any) = ((used - 1) / 2, used.saturating_sub(3) / 2, random.below(n + 4));
         let comb = |random: &mut Random, entries: usize, forks: usize| {
-            let words = generate::comb_and_chain(random, entries, forks, used, n);
+            let points = generate::share_of_points(random);
+            let words = generate::comb_and_chain(random, Comb { entries, forks, points, used }, n);
             generate::with_leftover(random, words)
         };
         let words = comb(random, 0, 0);
@@ -569,7 +610,9 @@ fn every_word_kept(
     let n = room(words);
     let mut found = words.to_vec();
     let what = || format!("collect of {used} cells of {n}");
-    equal(what, pool.collect(&mut found), Ok((used as u32, 3 * used as u32)))?;
+    let points = words[HEADER..].chunks_exact(CELL).filter(|cell| cell[0] == POINT).count();
+    let visits = 3 * (used - points) + points;
+    equal(what, pool.collect(&mut found), Ok((used as u32, visits as u32)))?;
     equal_words(what, &found, words)?;
     for &length in lengths {
         let (mut found, mut stack) = (words.to_vec(), filled(random, length).collect::<Vec<u32>>());
@@ -589,13 +632,14 @@ fn graphs(pool: &dyn Interface, random: &mut Random, _: usize) -> Outcome {
             let words = shape.words(n, random);
             let words = generate::with_leftover(random, words);
             every_collect(pool, &words, random).map_err(|text| format!("{}, {n}: {text}", shape.name()))?;
-            let mut without_root = words.clone();
-            without_root[2] = 1 + random.below(n) as u32;
-            every_collect(pool, &without_root, random).map_err(|text| format!("{}, {n}: {text}", shape.name()))?;
+            let mut with_points = generate::with_points(random, words.clone());
+            with_points[2] = 1 + random.below(n) as u32;
+            every_collect(pool, &with_points, random).map_err(|text| format!("{}, {n}: {text}", shape.name()))?;
             every_save(pool, &words, random).map_err(|text| format!("{}, {n}: {text}", shape.name()))?;
         }
     }
     let words = Shape::Random.words(MOST_CELLS, random);
+    let words = generate::with_points(random, words);
     let mut words = generate::with_leftover(random, words);
     for call in generate::calls(random, 100) {
         one_call(pool, &mut words, call)?;
@@ -724,7 +768,10 @@ fn round_trips(pool: &dyn Interface, random: &mut Random, rounds: usize) -> Outc
     for _ in 0..rounds {
         let n = generate::cells(random);
         let graph = match random.below(3) {
-            0 => random.pick(&SHAPES).words(n, random),
+            0 => {
+                let words = random.pick(&SHAPES).words(n, random);
+                generate::with_points(random, words)
+            }
             1 => generate::built_by_calls(random, n),
             _ => generate::well_formed(random, n),
         };
@@ -753,33 +800,57 @@ fn round_trips(pool: &dyn Interface, random: &mut Random, rounds: usize) -> Outc
     Ok(())
 }
 
-/// Every sequence of up to two bytes, and of three to six with bytes at the limits, as each kind of number of an image.
+/// Every sequence of up to two bytes, and of three to five with bytes at the limits, as each kind of number of an image; and of six
+/// such bytes, as one of them in turn.
 fn numbers(pool: &dyn Interface, _: &mut Random, _: usize) -> Outcome {
     let mut sequences: Vec<Vec<u8>> = vec![vec![]];
-    for first in 0..=255u8 {
-        sequences.push(vec![first]);
-        sequences.extend((0..=255u8).map(|second| vec![first, second]));
-    }
-    for length in 3..=6 {
-        let limits = [0x00, 0x01, 0x0F, 0x10, 0x7F, 0x80, 0x8F, 0xFF];
+    sequences.extend((0..=255u8).map(|only| vec![only]));
+    // Those of five bytes come early: they show the most faults.
+    for length in [5, 4, 3, 6] {
+        let limits = [0xFF, 0x8F, 0x80, 0x00, 0x7F, 0x10, 0x0F, 0x01];
         for code in 0..limits.len().pow(length) {
             let byte = |place: u32| limits[code / limits.len().pow(place) % limits.len()];
             sequences.push((0..length).map(byte).collect());
         }
+        if length == 3 {
+            sequences.extend((0..=255u8).flat_map(|first| (0..=255u8).map(move |second| vec![first, second])));
+        }
     }
-    for bytes in sequences {
+    for (turn, bytes) in sequences.into_iter().enumerate() {
         for n in [1, 4000] {
             check(pool, &bytes, n)?;
         }
-        // The same bytes in an image of one cell, all else nil: as K, the first register, the left, the right and the value.
-        for place in [0, 1, REGISTERS + 1, REGISTERS + 2, REGISTERS + 3] {
-            let mut numbers = [&[0x00][..]; 1 + REGISTERS + 3];
+        // The same bytes in an image of one cell, all else 0: as K, the first register, the kind, and the left, the right and the
+        // value of a pair and of a point.
+        const CELL_0: usize = 1 + REGISTERS;
+        let pair = [0, 1, CELL_0, CELL_0 + 1, CELL_0 + 2, CELL_0 + 3].map(|place| (place, [0x00]));
+        let point = [CELL_0 + 1, CELL_0 + 2, CELL_0 + 3].map(|place| (place, [0x01]));
+        let places = [pair.as_slice(), &point].concat();
+        let one = turn % places.len();
+        for &(place, kind) in if bytes.len() < 6 { &places[..] } else { &places[one..=one] } {
+            let mut numbers = [&[0x00][..]; CELL_0 + CELL];
             numbers[0] = &[0x01];
+            numbers[CELL_0] = &kind;
             numbers[place] = &bytes;
             let image = numbers.concat();
             check(pool, &image, 1)?;
             load(pool, &[9; 25][..22 + bytes.len() % CELL], &image)?;
         }
+    }
+    Ok(())
+}
+
+/// Images of every number of cells in the form before 02, S-8, with no byte behind them: every one is refused, whatever the pool.
+fn former_images(pool: &dyn Interface, random: &mut Random, _: usize) -> Outcome {
+    for k in (1..=40).flat_map(|k| [k; 50]).chain(41..=MOST_CELLS) {
+        let bytes = generate::former_image(random, k);
+        let (larger, any) = (random.between(k, MOST_CELLS), random.between(1, MOST_CELLS));
+        let n = random.pick(&[k, k, larger, any]);
+        let mut words = generate::noise(random, n);
+        load(pool, &words, &bytes)?;
+        let what = || format!("{bytes:02X?} for {n} cells");
+        equal(what, pool.load(&mut words, &bytes).0.is_err(), true)?;
+        equal(what, pool.check_image(&bytes, n as u32).is_err(), true)?;
     }
     Ok(())
 }
@@ -791,12 +862,15 @@ fn every_function(pool: &dyn Interface, words: &[u32], random: &mut Random) -> O
         Call::Copy { r: 1, a: 0 },
         Call::Clear { r: 0 },
         Call::New { r: 1, a: 0, b: 1, v },
+        Call::Point { r: 1, v, x: v, y: 1 },
         Call::Left { r: 1, a: 0 },
         Call::Right { r: 1, a: 0 },
         Call::SetLeft { a: 0, b: 1 },
         Call::SetRight { a: 0, b: 1 },
         Call::SetValue { a: 0, v },
         Call::Value { a: 0 },
+        Call::East { a: 0 },
+        Call::North { a: 0 },
         Call::Same { a: 0, b: 1 },
         Call::Collect,
     ] {
@@ -811,12 +885,18 @@ fn every_function(pool: &dyn Interface, words: &[u32], random: &mut Random) -> O
     exact_saves(pool, words, random)
 }
 
+/// The bytes that hold every image of `n` cells: numbers of at most two bytes for K and the registers, and for a cell its kind and
+/// three numbers of five.
+fn most_bytes(n: usize) -> usize {
+    2 * (1 + REGISTERS) + 16 * n
+}
+
 /// A small pool with a stack, a scratch, an output and bytes of every length up to beyond what the largest pool needs.
 fn every_lent_length(pool: &dyn Interface, random: &mut Random, _: usize) -> Outcome {
     let words = Shape::LeftComb.words(3, random);
     let words = generate::with_leftover(random, words);
     let mut image = image(&words, random);
-    let (bytes, longest) = (image.len(), 5 * (1 + REGISTERS + 3 * MOST_CELLS) + 10);
+    let (bytes, longest) = (image.len(), most_bytes(MOST_CELLS) + 10);
     image.resize(longest, random.word() as u8);
     for length in 0..=2 * MOST_CELLS + 10 {
         stack_collect(pool, &words, length, random)?;
@@ -825,15 +905,13 @@ fn every_lent_length(pool: &dyn Interface, random: &mut Random, _: usize) -> Out
     for length in 0..=longest {
         load(pool, &words, &image[..length])?;
         check(pool, &image[..length], 3)?;
-        if length <= 34 + 9 * MOST_CELLS + 10 {
-            save(pool, &words, 6, length, random)?;
-        }
+        save(pool, &words, 6, length, random)?;
     }
     Ok(())
 }
 
-/// Every function on a pool of every size, up to beyond the largest. The last cell is read by calls, taken by `new`, found
-/// malformed, and the last cell of an image.
+/// Every function on a pool of every size, up to beyond the largest. The last cell is read by calls, taken by `new` and `point`,
+/// found malformed, and the last cell of an image, a pair and a point.
 fn every_size(pool: &dyn Interface, random: &mut Random, _: usize) -> Outcome {
     for n in 0..=MOST_CELLS + 3 {
         let words = generate::last_held(random, n);
@@ -841,7 +919,11 @@ fn every_size(pool: &dyn Interface, random: &mut Random, _: usize) -> Outcome {
         let last = n as u32;
         for k in [last, last + 1] {
             let mut image = groups(k);
-            image.resize(image.len() + REGISTERS + 3 * k as usize, 0);
+            image.resize(image.len() + REGISTERS + 4 * k as usize, 0);
+            if k > 0 && random.once_in(2) {
+                let kind = image.len() - 4;
+                image[kind..].copy_from_slice(&[1, 0x7F, 0x7E, 0x7D]);
+            }
             load(pool, &words, &image)?;
             check(pool, &image, last)?;
         }
@@ -851,7 +933,7 @@ fn every_size(pool: &dyn Interface, random: &mut Random, _: usize) -> Outcome {
         let mut changed = words.clone();
         changed[0] = random.pick(&[last - 1, last + 1]);
         one_call(pool, &mut changed, Call::Clear { r: 0 })?;
-        // At fault is one link of the last cell, or its state alone, where nothing leads to it.
+        // At fault is one link of the last cell, where it is a pair, or its state alone, where nothing leads to it.
         let cell = cell_at(last);
         for link in [cell + 1, cell + 2] {
             let mut changed = words.clone();
@@ -864,16 +946,18 @@ fn every_size(pool: &dyn Interface, random: &mut Random, _: usize) -> Outcome {
                 *word = 0;
             }
         }
-        changed[cell] = random.pick(&[1, 2, 3, 5]);
+        changed[cell] = random.pick(&[1, 2, 3, 6]);
         one_call(pool, &mut changed.clone(), Call::Collect)?;
-        // The last cell is the head, or there is none.
+        // The last cell is the head, or there is none: one is taken by `new` and the other by `point`, in turn.
         let v = generate::value(random);
+        let mut calls = [Call::New { r: 1, a: 0, b: 0, v }, Call::Point { r: 1, v, x: last, y: v }];
+        calls.rotate_left(n % 2);
         changed[1] = last;
         changed[cell..cell + CELL].copy_from_slice(&[FREE, random.below(n + 1) as u32, 5, 6]);
-        one_call(pool, &mut changed, Call::New { r: 1, a: 0, b: 1, v })?;
+        one_call(pool, &mut changed, calls[0])?;
         let mut changed = words;
         changed[1] = 0;
-        one_call(pool, &mut changed, Call::New { r: 1, a: 0, b: 0, v })?;
+        one_call(pool, &mut changed, calls[1])?;
     }
     Ok(())
 }
@@ -930,7 +1014,7 @@ fn every_outcome(pool: &dyn Interface, words: &[u32], random: &mut Random) -> Ve
         let answer = format!("{call:?}: {:?}", apply(pool, &mut words, call));
         list.push(("call", answer, words, vec![], vec![]));
     }
-    let (stack, bytes) = (random.below(n + 2), random.below(17 + 9 * n));
+    let (stack, bytes) = (random.below(n + 2), random.below(most_bytes(n)));
     let image = decoded(words).map_or_else(|| generate::image(random, n), |pool| pool.image());
     let mut keep = |name: &'static str, call: Told| {
         let (mut words, mut lent, mut out) = (words.to_vec(), Vec::new(), Vec::new());
@@ -951,7 +1035,7 @@ fn every_outcome(pool: &dyn Interface, words: &[u32], random: &mut Random) -> Ve
             format!("{:?}", pool.collect_stack(words, lent))
         });
     }
-    for (scratch, bytes) in [(2 * n, 34 + 9 * n), (2 * n - 1, 34 + 9 * n), (2 * n, bytes)] {
+    for (scratch, bytes) in [(2 * n, most_bytes(n)), (2 * n - 1, most_bytes(n)), (2 * n, bytes)] {
         keep("save", &|words, lent, out| {
             lent.resize(scratch, 9);
             out.resize(bytes, 0x55);

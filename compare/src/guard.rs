@@ -118,6 +118,10 @@ impl Interface for Guarded {
         self.on(words, |pool, words| pool.new_cell(words, r, a, b, v))
     }
 
+    fn point(&self, words: &mut [u32], r: u32, v: u32, x: u32, y: u32) -> Result<u32, u32> {
+        self.on(words, |pool, words| pool.point(words, r, v, x, y))
+    }
+
     fn left(&self, words: &mut [u32], r: u32, a: u32) -> Result<(), u32> {
         self.on(words, |pool, words| pool.left(words, r, a))
     }
@@ -140,6 +144,14 @@ impl Interface for Guarded {
 
     fn value(&self, words: &mut [u32], a: u32) -> Result<u32, u32> {
         self.on(words, |pool, words| pool.value(words, a))
+    }
+
+    fn east(&self, words: &mut [u32], a: u32) -> Result<u32, u32> {
+        self.on(words, |pool, words| pool.east(words, a))
+    }
+
+    fn north(&self, words: &mut [u32], a: u32) -> Result<u32, u32> {
+        self.on(words, |pool, words| pool.north(words, a))
     }
 
     fn same(&self, words: &mut [u32], a: u32, b: u32) -> Result<u32, u32> {

@@ -6,7 +6,7 @@
 //! * `baseline` is a second implementation with the algorithms of the source documents, and the benchmark's baseline.
 //! * `pool` (feature `archive`) is the library under test behind safe functions.
 //! * `script` says what the program `runscript` prints.
-//! * `visit` names the five cases of a visit in marking by reversal.
+//! * `visit` names the cases of a visit in marking by reversal: the five of a pair, and that of a point.
 //! * `picture` draws the tables of docs/PERFORMANCE.md.
 //! * `checks` are the comparisons; the tests run them on every implementation.
 
@@ -50,18 +50,29 @@ pub mod refusal {
     pub const TOO_LARGE: u32 = 11;
     /// A number of the image is padded: its last group is 0, and it is not the single byte 00.
     pub const PADDED: u32 = 12;
+    /// The cell is of the other kind: a point where a pair is needed, or a pair where a point is.
+    pub const KIND: u32 = 13;
+    /// A kind of the image is neither 0 nor 1.
+    pub const KIND_NUMBER: u32 = 14;
 }
 
 pub const REGISTERS: usize = 16;
 /// Words before the first cell.
 pub const HEADER: usize = 18;
-/// Words of one cell: state, left, right, value.
+/// Words of one cell: state, left, right, value. The left of a point is its x, the right its y.
 pub const CELL: usize = 4;
 pub const MOST_CELLS: usize = 4000;
 /// Most cells for the recursive marker.
 pub const MOST_RECURSIVE: usize = 64;
-pub const USED: u32 = 0;
+/// States. A used cell is a pair, of two links, or a point, of two numbers.
+pub const PAIR: u32 = 0;
 pub const FREE: u32 = 4;
+pub const POINT: u32 = 5;
+
+/// Is a cell of this state used?
+pub fn is_used(state: u32) -> bool {
+    state == PAIR || state == POINT
+}
 
 /// The fewest words of a pool of `n` cells: up to three more are left over.
 pub fn words_for(n: usize) -> usize {
@@ -88,12 +99,18 @@ pub trait Interface<R = u32> {
     fn clear(&self, words: &mut [u32], r: u32) -> Result<(), R>;
     /// Answers visits.
     fn new_cell(&self, words: &mut [u32], r: u32, a: u32, b: u32, v: u32) -> Result<u32, R>;
+    /// Answers visits.
+    fn point(&self, words: &mut [u32], r: u32, v: u32, x: u32, y: u32) -> Result<u32, R>;
     fn left(&self, words: &mut [u32], r: u32, a: u32) -> Result<(), R>;
     fn right(&self, words: &mut [u32], r: u32, a: u32) -> Result<(), R>;
     fn setleft(&self, words: &mut [u32], a: u32, b: u32) -> Result<(), R>;
     fn setright(&self, words: &mut [u32], a: u32, b: u32) -> Result<(), R>;
     fn setvalue(&self, words: &mut [u32], a: u32, v: u32) -> Result<(), R>;
     fn value(&self, words: &mut [u32], a: u32) -> Result<u32, R>;
+    /// Answers x.
+    fn east(&self, words: &mut [u32], a: u32) -> Result<u32, R>;
+    /// Answers y.
+    fn north(&self, words: &mut [u32], a: u32) -> Result<u32, R>;
     fn same(&self, words: &mut [u32], a: u32, b: u32) -> Result<u32, R>;
     /// Answers kept and visits.
     fn collect(&self, words: &mut [u32]) -> Result<(u32, u32), R>;
@@ -114,23 +131,26 @@ pub trait Interface<R = u32> {
     fn occupancy(&self, kept: u32, n: u32) -> Result<u32, R>;
 }
 
-/// One of the eleven calls.
+/// One of the fourteen calls.
 #[derive(Clone, Copy, Debug, PartialEq, Eq)]
 pub enum Call {
     Copy { r: u32, a: u32 },
     Clear { r: u32 },
     New { r: u32, a: u32, b: u32, v: u32 },
+    Point { r: u32, v: u32, x: u32, y: u32 },
     Left { r: u32, a: u32 },
     Right { r: u32, a: u32 },
     SetLeft { a: u32, b: u32 },
     SetRight { a: u32, b: u32 },
     SetValue { a: u32, v: u32 },
     Value { a: u32 },
+    East { a: u32 },
+    North { a: u32 },
     Same { a: u32, b: u32 },
     Collect,
 }
 
-/// An answer as the reference model gives it: the visits of `new` are left out.
+/// An answer as the reference model gives it: the visits of `new` and `point` are left out.
 #[derive(Clone, Copy, Debug, PartialEq, Eq)]
 pub enum Answer {
     Done,
@@ -139,7 +159,7 @@ pub enum Answer {
     Refused(u32),
 }
 
-/// Make one call; the second part is the visits that an accepted `new` reports.
+/// Make one call; the second part is the visits that an accepted `new` or `point` reports.
 pub fn apply(pool: &dyn Interface, words: &mut [u32], call: Call) -> (Answer, Option<u32>) {
     let done = |answer: Result<(), u32>| match answer {
         Ok(()) => Answer::Done,
@@ -149,21 +169,23 @@ pub fn apply(pool: &dyn Interface, words: &mut [u32], call: Call) -> (Answer, Op
         Ok(number) => Answer::Number(number),
         Err(refusal) => Answer::Refused(refusal),
     };
+    let made = |answer: Result<u32, u32>| match answer {
+        Ok(visits) => (Answer::Done, Some(visits)),
+        Err(refusal) => (Answer::Refused(refusal), None),
+    };
     let answer = match call {
         Call::Copy { r, a } => done(pool.copy(words, r, a)),
         Call::Clear { r } => done(pool.clear(words, r)),
-        Call::New { r, a, b, v } => {
-            return match pool.new_cell(words, r, a, b, v) {
-                Ok(visits) => (Answer::Done, Some(visits)),
-                Err(refusal) => (Answer::Refused(refusal), None),
-            }
-        }
+        Call::New { r, a, b, v } => return made(pool.new_cell(words, r, a, b, v)),
+        Call::Point { r, v, x, y } => return made(pool.point(words, r, v, x, y)),
         Call::Left { r, a } => done(pool.left(words, r, a)),
         Call::Right { r, a } => done(pool.right(words, r, a)),
         Call::SetLeft { a, b } => done(pool.setleft(words, a, b)),
         Call::SetRight { a, b } => done(pool.setright(words, a, b)),
         Call::SetValue { a, v } => done(pool.setvalue(words, a, v)),
         Call::Value { a } => number(pool.value(words, a)),
+        Call::East { a } => number(pool.east(words, a)),
+        Call::North { a } => number(pool.north(words, a)),
         Call::Same { a, b } => number(pool.same(words, a, b)),
         Call::Collect => match pool.collect(words) {
             Ok((kept, visits)) => Answer::Pair(kept, visits),

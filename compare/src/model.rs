@@ -2,26 +2,39 @@
 //!
 //! The words are decoded into a structure, changed there, and encoded again only where the call is accepted: so a
 //! refusal changes nothing by construction. The marker goes by breadth with a set; visits are three for each kept
-//! cell, and the cases of the visits are those of the recursive procedure of source document 000; the stack marker is
+//! pair and one for each kept point, and the cases of the visits are those of the recursive procedure of source document
+//! 000, with one more for a point; the stack marker is
 //! Algorithm 2 of source document 003, where two equal unmarked links are one: on a list without limit, and on one with a
 //! limit, where a full list is checked; the percent is found by trying every whole one. A refusal comes from its cause,
 //! and the model answers with either.
 
 use crate::cause::{Cause, Link, Name, Place};
 use crate::visit::{Case, Marking, CASES};
-use crate::{Interface, Tally, CELL, FREE, HEADER, MOST_CELLS, MOST_RECURSIVE, REGISTERS, USED};
+use crate::{is_used, Interface, Tally, CELL, FREE, HEADER, MOST_CELLS, MOST_RECURSIVE, PAIR, POINT, REGISTERS};
 use std::collections::{BTreeSet, VecDeque};
 
 /// The model of the library.
 #[derive(Clone, Copy, Debug, Default)]
 pub struct Model;
 
+/// The left of a point is its x, the right its y.
 #[derive(Clone, Copy, Debug, PartialEq, Eq)]
 pub struct Cell {
     pub state: u32,
     pub left: u32,
     pub right: u32,
     pub value: u32,
+}
+
+impl Cell {
+    /// Left and right in the graph: a point is a cell with two nil links.
+    pub fn links(&self) -> (u32, u32) {
+        if self.state == POINT {
+            (0, 0)
+        } else {
+            (self.left, self.right)
+        }
+    }
 }
 
 /// The decoded words of a pool; cell 1 is the first of `cells`.
@@ -104,7 +117,7 @@ pub struct Visit<'a> {
     /// The cells that the procedure has entered and not left, the visited one last: the path of source document 000.
     pub path: &'a [u32],
     pub case: Case,
-    /// The link that was looked at; none at the third visit.
+    /// The link that was looked at; none at the third visit, and at that of a point.
     pub next: Option<u32>,
 }
 
@@ -166,12 +179,20 @@ impl Pool {
         &mut self.cells[i as usize - 1]
     }
 
+    /// The word of a cell on this side.
+    fn side(&self, i: u32, side: Side) -> u32 {
+        match side {
+            Side::Left => self.cell(i).left,
+            Side::Right => self.cell(i).right,
+        }
+    }
+
     /// Why the link is not valid, where it is not.
     fn invalid(&self, link: u32) -> Option<Link> {
         match link {
             0 => None,
             _ if link > self.n() => Some(Link::AboveN),
-            _ if self.cell(link).state != USED => Some(Link::NotUsed),
+            _ if !is_used(self.cell(link).state) => Some(Link::NotUsed),
             _ => None,
         }
     }
@@ -183,11 +204,14 @@ impl Pool {
             faults.extend(self.invalid(link).map(Cause::Register));
         }
         for cell in &self.cells {
-            if cell.state == USED {
-                faults.extend(self.invalid(cell.left).map(Cause::Left));
-                faults.extend(self.invalid(cell.right).map(Cause::Right));
-            } else if cell.state != FREE {
-                faults.insert(Cause::State);
+            match cell.state {
+                PAIR => {
+                    faults.extend(self.invalid(cell.left).map(Cause::Left));
+                    faults.extend(self.invalid(cell.right).map(Cause::Right));
+                }
+                // "plain numbers and no links" (02, S-8); the words of a free cell are not judged either.
+                POINT | FREE => {}
+                _ => _ = faults.insert(Cause::State),
             }
         }
         faults
@@ -223,18 +247,34 @@ impl Pool {
         }
     }
 
-    /// Cells reached from the registers, by breadth.
+    /// The cell in register a, which has to be of this state.
+    fn held_of(&self, state: u32, a: u32) -> Result<u32, Cause> {
+        let cell = self.held(a)?;
+        if self.cell(cell).state == state {
+            Ok(cell)
+        } else {
+            Err(Cause::OtherKind)
+        }
+    }
+
+    /// Cells reached from the registers.
     pub fn reached(&self) -> BTreeSet<u32> {
+        let found = self.found();
+        (1..=self.n()).filter(|&i| found.contains(i)).collect()
+    }
+
+    /// The same, by breadth.
+    fn found(&self) -> Set {
         let mut found = Set::new(self.n());
         let mut queue: VecDeque<u32> = self.registers.into_iter().collect();
         while let Some(link) = queue.pop_front() {
             if link != 0 && found.insert(link) {
-                let cell = self.cell(link);
-                queue.push_back(cell.left);
-                queue.push_back(cell.right);
+                let (left, right) = self.cell(link).links();
+                queue.push_back(left);
+                queue.push_back(right);
             }
         }
-        (1..=self.n()).filter(|&i| found.contains(i)).collect()
+        found
     }
 
     /// Cells reached from the registers, by the recursive procedure of source document 000.
@@ -243,8 +283,9 @@ impl Pool {
             if link == 0 || !found.insert(link) {
                 return;
             }
-            mark(pool, pool.cell(link).left, found);
-            mark(pool, pool.cell(link).right, found);
+            let (left, right) = pool.cell(link).links();
+            mark(pool, left, found);
+            mark(pool, right, found);
         }
         let mut found = BTreeSet::new();
         for link in self.registers {
@@ -253,8 +294,8 @@ impl Pool {
         found
     }
 
-    /// The recursive procedure of source document 000, which visits a cell three times: the case of a visit is told by whether
-    /// it calls itself for the link. Each visit is shown; no link is reversed.
+    /// The recursive procedure of source document 000, which visits a pair three times, and a point once: the case of a visit of
+    /// a pair is told by whether it calls itself for the link. Each visit is shown; no link is reversed.
     pub fn mark_recursively(&self, mut show: impl FnMut(Visit)) {
         struct Walk<'a> {
             pool: &'a Pool,
@@ -269,9 +310,14 @@ impl Pool {
             }
 
             fn mark(&mut self, p: u32) {
-                let Cell { left, right, .. } = *self.pool.cell(p);
+                let Cell { state, left, right, .. } = *self.pool.cell(p);
                 self.marked.insert(p);
                 self.path.push(p);
+                if state == POINT {
+                    self.visit(Case::Point, None);
+                    self.path.pop();
+                    return;
+                }
                 if self.marked.contains(left) {
                     self.visit(Case::PassLeft, Some(left));
                 } else {
@@ -323,8 +369,9 @@ impl Pool {
             while let Some(link) = pending.pop() {
                 if link != 0 && seen.insert(link) {
                     order.push(link);
-                    pending.push(self.cell(link).right);
-                    pending.push(self.cell(link).left);
+                    let (left, right) = self.cell(link).links();
+                    pending.push(right);
+                    pending.push(left);
                 }
             }
         }
@@ -341,17 +388,19 @@ impl Pool {
         }
     }
 
-    /// Keep exactly the reached cells; answers how many.
-    fn retain(&mut self) -> u32 {
-        let kept = self.reached();
-        for cell in &mut self.cells {
-            cell.state = FREE;
-        }
-        for &i in &kept {
-            self.cell_mut(i).state = USED;
+    /// Keep exactly the reached cells; answers how many, and the visits: "3 * pairs + points" (02, S-8).
+    fn retain(&mut self) -> (u32, u32) {
+        let kept = self.found();
+        let (mut pairs, mut points) = (0, 0);
+        for i in 1..=self.n() {
+            match self.cell(i).state {
+                _ if !kept.contains(i) => self.cell_mut(i).state = FREE,
+                POINT => points += 1,
+                _ => pairs += 1,
+            }
         }
         self.chain();
-        kept.len() as u32
+        (pairs + points, 3 * pairs + points)
     }
 
     /// Algorithm 2 of source document 003 without a limit, where two equal unmarked links are one. Each cell in hand is shown.
@@ -365,7 +414,7 @@ impl Pool {
             let mut entries = Vec::new();
             let mut next = Some(link);
             while let Some(cell) = next {
-                let Cell { left, right, .. } = *self.cell(cell);
+                let (left, right) = self.cell(cell).links();
                 let unmarked = (!marked.contains(left), !marked.contains(right));
                 show(InHand { register, cell, unmarked, entries: &entries });
                 marked.insert(left);
@@ -394,7 +443,8 @@ impl Pool {
 
     /// The different links of a cell that are unmarked, the left one first.
     fn open(&self, marked: &Set, cell: u32) -> Vec<u32> {
-        let mut links = vec![self.cell(cell).left, self.cell(cell).right];
+        let (left, right) = self.cell(cell).links();
+        let mut links = vec![left, right];
         links.dedup();
         links.retain(|&link| !marked.contains(link));
         links
@@ -486,7 +536,10 @@ impl Pool {
         numbers.extend(self.registers.iter().map(|&link| number[link as usize]));
         for &i in &order {
             let cell = self.cell(i);
-            numbers.extend([number[cell.left as usize], number[cell.right as usize], cell.value]);
+            numbers.extend(match cell.state {
+                POINT => [1, cell.left, cell.right, cell.value],
+                _ => [0, number[cell.left as usize], number[cell.right as usize], cell.value],
+            });
         }
         numbers.into_iter().flat_map(groups).collect()
     }
@@ -534,6 +587,7 @@ pub fn parse(bytes: &[u8], n: usize) -> Result<(Pool, usize), Cause> {
         match (number > most, place) {
             (false, _) => Ok(number),
             (true, Place::K) => Err(Cause::MoreThanN),
+            (true, Place::Kind) => Err(Cause::KindNumber),
             (true, _) => Err(Cause::AboveK(place)),
         }
     };
@@ -544,10 +598,15 @@ pub fn parse(bytes: &[u8], n: usize) -> Result<(Pool, usize), Cause> {
     }
     let mut cells = Vec::new();
     for _ in 0..k {
-        let left = next(Place::Left, k)?;
-        let right = next(Place::Right, k)?;
-        let value = next(Place::Value, u32::MAX)?;
-        cells.push(Cell { state: USED, left, right, value });
+        // A kind is 0 or 1. The numbers of a point are any.
+        let (state, places, most) = match next(Place::Kind, 1)? {
+            0 => (PAIR, [Place::Left, Place::Right, Place::PairValue], k),
+            _ => (POINT, [Place::X, Place::Y, Place::PointValue], u32::MAX),
+        };
+        let left = next(places[0], most)?;
+        let right = next(places[1], most)?;
+        let value = next(places[2], u32::MAX)?;
+        cells.push(Cell { state, left, right, value });
     }
     cells.resize(n, Cell { state: FREE, left: 0, right: 0, value: 0 });
     let mut pool = Pool { head: 0, registers, cells };
@@ -562,7 +621,7 @@ fn require_registers(numbers: &[(Name, u32)]) -> Result<(), Cause> {
     }
 }
 
-/// Which link of a cell a call works on.
+/// Which link of a pair, or number of a point, a call works on.
 #[derive(Clone, Copy)]
 enum Side {
     Left,
@@ -573,11 +632,7 @@ impl Model {
     fn follow(&self, words: &mut [u32], r: u32, a: u32, side: Side) -> Result<(), Cause> {
         let mut pool = Pool::decode(words)?;
         require_registers(&[(Name::R, r), (Name::A, a)])?;
-        let cell = pool.held(a)?;
-        let link = match side {
-            Side::Left => pool.cell(cell).left,
-            Side::Right => pool.cell(cell).right,
-        };
+        let link = pool.side(pool.held_of(PAIR, a)?, side);
         if let Some(why) = pool.invalid(link) {
             return Err(Cause::LinkRead(why));
         }
@@ -591,7 +646,7 @@ impl Model {
         require_registers(&[(Name::A, a), (Name::B, b)])?;
         pool.read(Name::A, a)?;
         let link = pool.read(Name::B, b)?;
-        let cell = pool.held(a)?;
+        let cell = pool.held_of(PAIR, a)?;
         match side {
             Side::Left => pool.cell_mut(cell).left = link,
             Side::Right => pool.cell_mut(cell).right = link,
@@ -600,13 +655,43 @@ impl Model {
         Ok(())
     }
 
-    /// Answers kept.
-    fn collected(&self, words: &mut [u32]) -> Result<u32, Cause> {
+    fn coordinate(&self, words: &[u32], a: u32, side: Side) -> Result<u32, Cause> {
+        let pool = Pool::decode(words)?;
+        require_registers(&[(Name::A, a)])?;
+        Ok(pool.side(pool.held_of(POINT, a)?, side))
+    }
+
+    /// Register r gets a new cell with this content; answers the visits.
+    fn allocate(&self, mut pool: Pool, words: &mut [u32], r: u32, made: Cell) -> Result<u32, Cause> {
+        let mut visits = 0;
+        if pool.head == 0 {
+            pool.require_well_formed()?;
+            (_, visits) = pool.retain();
+            if pool.head == 0 {
+                return Err(Cause::Full);
+            }
+        } else if pool.head > pool.n() {
+            return Err(Cause::HeadAboveN);
+        } else if pool.cell(pool.head).state != FREE {
+            return Err(Cause::HeadNotFree);
+        } else if pool.cell(pool.head).left > pool.n() {
+            return Err(Cause::LeftOfHead);
+        }
+        let taken = pool.head;
+        pool.head = pool.cell(taken).left;
+        *pool.cell_mut(taken) = made;
+        pool.registers[r as usize] = taken;
+        pool.encode(words);
+        Ok(visits)
+    }
+
+    /// Answers kept and visits.
+    fn collected(&self, words: &mut [u32]) -> Result<(u32, u32), Cause> {
         let mut pool = Pool::decode(words)?;
         pool.require_well_formed()?;
-        let kept = pool.retain();
+        let answer = pool.retain();
         pool.encode(words);
-        Ok(kept)
+        Ok(answer)
     }
 }
 
@@ -638,30 +723,17 @@ impl<R: From<Cause>> Interface<R> for Model {
     }
 
     fn new_cell(&self, words: &mut [u32], r: u32, a: u32, b: u32, v: u32) -> Result<u32, R> {
-        let mut pool = Pool::decode(words)?;
+        let pool = Pool::decode(words)?;
         require_registers(&[(Name::R, r), (Name::A, a), (Name::B, b)])?;
         let left = pool.read(Name::A, a)?;
         let right = pool.read(Name::B, b)?;
-        let mut visits = 0;
-        if pool.head == 0 {
-            pool.require_well_formed()?;
-            visits = 3 * pool.retain();
-            if pool.head == 0 {
-                return Err(Cause::Full.into());
-            }
-        } else if pool.head > pool.n() {
-            return Err(Cause::HeadAboveN.into());
-        } else if pool.cell(pool.head).state != FREE {
-            return Err(Cause::HeadNotFree.into());
-        } else if pool.cell(pool.head).left > pool.n() {
-            return Err(Cause::LeftOfHead.into());
-        }
-        let taken = pool.head;
-        pool.head = pool.cell(taken).left;
-        *pool.cell_mut(taken) = Cell { state: USED, left, right, value: v };
-        pool.registers[r as usize] = taken;
-        pool.encode(words);
-        Ok(visits)
+        Ok(self.allocate(pool, words, r, Cell { state: PAIR, left, right, value: v })?)
+    }
+
+    fn point(&self, words: &mut [u32], r: u32, v: u32, x: u32, y: u32) -> Result<u32, R> {
+        let pool = Pool::decode(words)?;
+        require_registers(&[(Name::R, r)])?;
+        Ok(self.allocate(pool, words, r, Cell { state: POINT, left: x, right: y, value: v })?)
     }
 
     fn left(&self, words: &mut [u32], r: u32, a: u32) -> Result<(), R> {
@@ -695,6 +767,14 @@ impl<R: From<Cause>> Interface<R> for Model {
         Ok(pool.cell(pool.held(a)?).value)
     }
 
+    fn east(&self, words: &mut [u32], a: u32) -> Result<u32, R> {
+        Ok(self.coordinate(words, a, Side::Left)?)
+    }
+
+    fn north(&self, words: &mut [u32], a: u32) -> Result<u32, R> {
+        Ok(self.coordinate(words, a, Side::Right)?)
+    }
+
     fn same(&self, words: &mut [u32], a: u32, b: u32) -> Result<u32, R> {
         let pool = Pool::decode(words)?;
         require_registers(&[(Name::A, a), (Name::B, b)])?;
@@ -702,23 +782,22 @@ impl<R: From<Cause>> Interface<R> for Model {
     }
 
     fn collect(&self, words: &mut [u32]) -> Result<(u32, u32), R> {
-        let kept = self.collected(words)?;
-        Ok((kept, 3 * kept))
+        Ok(self.collected(words)?)
     }
 
     fn collect_tally(&self, words: &mut [u32], tally: &mut Tally) -> Result<(u32, u32), R> {
-        let kept = self.collected(words)?;
+        let (kept, visits) = self.collected(words)?;
         let sum = |before: u32, more: u32| (u64::from(before) + u64::from(more)).min(u64::from(u32::MAX)) as u32;
         tally.collections = sum(tally.collections, 1);
-        tally.visits = sum(tally.visits, 3 * kept);
-        Ok((kept, 3 * kept))
+        tally.visits = sum(tally.visits, visits);
+        Ok((kept, visits))
     }
 
     fn collect_stack(&self, words: &mut [u32], stack: &mut [u32]) -> Result<(u32, u32, u32), R> {
         let pool = Pool::decode(words)?;
         pool.require_well_formed()?;
         let Limited { enough, checks, .. } = pool.mark_with_words(stack.len(), |_, _| (), |_| ());
-        let kept = self.collected(words)?;
+        let (kept, _) = self.collected(words)?;
         stack.fill(0);
         Ok((kept, u32::from(enough), checks))
     }
@@ -728,7 +807,7 @@ impl<R: From<Cause>> Interface<R> for Model {
         let link = |to: u32| if to <= n { to } else { 0 };
         let cell = |i: u32| {
             let (left, right) = if i % 2 == 1 { (link(i + 2), link(i + 1)) } else { (0, 0) };
-            Cell { state: USED, left, right, value: 0 }
+            Cell { state: PAIR, left, right, value: 0 }
         };
         let mut pool = Pool { head: 0, registers: [0; REGISTERS], cells: (1..=n).map(cell).collect() };
         pool.registers[0] = 1;

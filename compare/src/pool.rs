@@ -37,15 +37,15 @@ fn results<T: Copy + PartialEq + Debug, const N: usize>(
     Ok(numbers)
 }
 
-/// Declare the functions of one library and give them the common interface.
+/// Declare the functions of one library and give them the common interface. Those of points are there under a condition.
 //
 // SAFETY, for every call below: each pointer comes from a reference or slice that lives through the call, with its
 // length in elements beside it; no two of them overlap; pointers of empty slices are aligned and not null.
 macro_rules! bind {
     (
-        $(#[$about:meta])* $type:ident:
-        $fresh:ident, $copy:ident, $clear:ident, $new:ident, $left:ident, $right:ident, $setleft:ident,
-        $setright:ident, $setvalue:ident, $value:ident, $same:ident, $collect:ident, $collect_tally:ident,
+        $(#[$about:meta])* $type:ident, with points $has_points:meta:
+        $fresh:ident, $copy:ident, $clear:ident, $new:ident, $point:ident, $left:ident, $right:ident, $setleft:ident,
+        $setright:ident, $setvalue:ident, $value:ident, $east:ident, $north:ident, $same:ident, $collect:ident, $collect_tally:ident,
         $collect_stack:ident, $worst_case:ident, $collect_recursive:ident, $save:ident, $load:ident, $check_image:ident,
         $occupancy:ident $(,)?
     ) => {
@@ -54,12 +54,18 @@ macro_rules! bind {
             fn $copy(words: *mut u32, len: usize, r: u32, a: u32) -> u32;
             fn $clear(words: *mut u32, len: usize, r: u32) -> u32;
             fn $new(words: *mut u32, len: usize, r: u32, a: u32, b: u32, v: u32, visits: *mut u32) -> u32;
+            #[cfg($has_points)]
+            fn $point(words: *mut u32, len: usize, r: u32, v: u32, x: u32, y: u32, visits: *mut u32) -> u32;
             fn $left(words: *mut u32, len: usize, r: u32, a: u32) -> u32;
             fn $right(words: *mut u32, len: usize, r: u32, a: u32) -> u32;
             fn $setleft(words: *mut u32, len: usize, a: u32, b: u32) -> u32;
             fn $setright(words: *mut u32, len: usize, a: u32, b: u32) -> u32;
             fn $setvalue(words: *mut u32, len: usize, a: u32, v: u32) -> u32;
             fn $value(words: *const u32, len: usize, a: u32, value: *mut u32) -> u32;
+            #[cfg($has_points)]
+            fn $east(words: *const u32, len: usize, a: u32, x: *mut u32) -> u32;
+            #[cfg($has_points)]
+            fn $north(words: *const u32, len: usize, a: u32, y: *mut u32) -> u32;
             fn $same(words: *const u32, len: usize, a: u32, b: u32, same: *mut u32) -> u32;
             fn $collect(words: *mut u32, len: usize, kept: *mut u32, visits: *mut u32) -> u32;
             fn $collect_tally(
@@ -118,6 +124,37 @@ macro_rules! bind {
             fn new_cell(&self, words: &mut [u32], r: u32, a: u32, b: u32, v: u32) -> Result<u32, u32> {
                 results(UNSET, |[visits]| unsafe { $new(words.as_mut_ptr(), words.len(), r, a, b, v, visits) })
                     .map(|[visits]| visits)
+            }
+
+            #[cfg($has_points)]
+            fn point(&self, words: &mut [u32], r: u32, v: u32, x: u32, y: u32) -> Result<u32, u32> {
+                results(UNSET, |[visits]| unsafe { $point(words.as_mut_ptr(), words.len(), r, v, x, y, visits) })
+                    .map(|[visits]| visits)
+            }
+
+            #[cfg($has_points)]
+            fn east(&self, words: &mut [u32], a: u32) -> Result<u32, u32> {
+                results(UNSET, |[x]| unsafe { $east(words.as_ptr(), words.len(), a, x) }).map(|[x]| x)
+            }
+
+            #[cfg($has_points)]
+            fn north(&self, words: &mut [u32], a: u32) -> Result<u32, u32> {
+                results(UNSET, |[y]| unsafe { $north(words.as_ptr(), words.len(), a, y) }).map(|[y]| y)
+            }
+
+            #[cfg(not($has_points))]
+            fn point(&self, _: &mut [u32], _: u32, _: u32, _: u32, _: u32) -> Result<u32, u32> {
+                unreachable!("this version has no points")
+            }
+
+            #[cfg(not($has_points))]
+            fn east(&self, _: &mut [u32], _: u32) -> Result<u32, u32> {
+                unreachable!("this version has no points")
+            }
+
+            #[cfg(not($has_points))]
+            fn north(&self, _: &mut [u32], _: u32) -> Result<u32, u32> {
+                unreachable!("this version has no points")
             }
 
             fn left(&self, words: &mut [u32], r: u32, a: u32) -> Result<(), u32> {
@@ -222,9 +259,9 @@ macro_rules! bind {
 
 bind! {
     /// The static library.
-    Archive:
-    cellpool_fresh, cellpool_copy, cellpool_clear, cellpool_new, cellpool_left, cellpool_right,
-    cellpool_setleft, cellpool_setright, cellpool_setvalue, cellpool_value, cellpool_same, cellpool_collect,
+    Archive, with points all():
+    cellpool_fresh, cellpool_copy, cellpool_clear, cellpool_new, cellpool_point, cellpool_left, cellpool_right,
+    cellpool_setleft, cellpool_setright, cellpool_setvalue, cellpool_value, cellpool_east, cellpool_north, cellpool_same, cellpool_collect,
     cellpool_collect_tally, cellpool_collect_stack, cellpool_worst_case, cellpool_collect_recursive, cellpool_save,
     cellpool_load, cellpool_check_image, cellpool_occupancy
 }
@@ -232,20 +269,21 @@ bind! {
 #[cfg(c_baseline)]
 bind! {
     /// The same functions in plain C.
-    PlainC:
-    baseline_fresh, baseline_copy, baseline_clear, baseline_new, baseline_left, baseline_right, baseline_setleft, baseline_setright,
-    baseline_setvalue, baseline_value, baseline_same, baseline_collect, baseline_collect_tally, baseline_collect_stack,
+    PlainC, with points all():
+    baseline_fresh, baseline_copy, baseline_clear, baseline_new, baseline_point, baseline_left, baseline_right, baseline_setleft, baseline_setright,
+    baseline_setvalue, baseline_value, baseline_east, baseline_north, baseline_same, baseline_collect, baseline_collect_tally, baseline_collect_stack,
     baseline_worst_case, baseline_collect_recursive, baseline_save, baseline_load, baseline_check_image, baseline_occupancy
 }
 
 #[cfg(before)]
 bind! {
     /// An earlier version of the library. Before 4.0.0 its collect_stack lacks the last argument, and before 5.0.0 its fresh: do not
-    /// call these. Before 5.0.0 it refuses words left over, and before 6.0.0 it rounds the percent down.
-    Before:
-    before_cellpool_fresh, before_cellpool_copy, before_cellpool_clear, before_cellpool_new, before_cellpool_left,
+    /// call these. Before 5.0.0 it refuses words left over, before 6.0.0 it rounds the percent down, and before 7.0.0 it has no points
+    /// and images of another form.
+    Before, with points before_has_points:
+    before_cellpool_fresh, before_cellpool_copy, before_cellpool_clear, before_cellpool_new, before_cellpool_point, before_cellpool_left,
     before_cellpool_right, before_cellpool_setleft, before_cellpool_setright, before_cellpool_setvalue,
-    before_cellpool_value, before_cellpool_same, before_cellpool_collect, before_cellpool_collect_tally,
+    before_cellpool_value, before_cellpool_east, before_cellpool_north, before_cellpool_same, before_cellpool_collect, before_cellpool_collect_tally,
     before_cellpool_collect_stack, before_cellpool_worst_case, before_cellpool_collect_recursive, before_cellpool_save,
     before_cellpool_load, before_cellpool_check_image, before_cellpool_occupancy
 }
@@ -286,9 +324,9 @@ impl PlainC {
     pub fn mark_by_cases(words: &mut [u32]) -> Result<Marking, u32> {
         // Room for three visits of every cell, and each of them could go to a cell.
         let room = 3 * (words.len() / CELL);
-        let (mut times, mut runs) = ([UNSET; 5], UNSET);
+        let (mut times, mut runs) = ([UNSET; CASES.len()], UNSET);
         let (mut cases, mut entered) = (vec![0u8; room], vec![UNSET; room]);
-        // SAFETY: as above; a well-formed pool has at most a cell for four words, and three visits of each.
+        // SAFETY: as above; a well-formed pool has at most a cell for four words, and three visits of each at most.
         done(unsafe {
             baseline_mark_by_cases(
                 words.as_mut_ptr(),

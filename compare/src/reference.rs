@@ -3,10 +3,15 @@
 use crate::refusal::*;
 use crate::{Answer, Call, REGISTERS};
 
+#[derive(Clone, Copy, Debug)]
+enum Kind {
+    Pair { left: Option<usize>, right: Option<usize> },
+    Point { x: u32, y: u32 },
+}
+
 #[derive(Clone, Debug)]
 struct Cell {
-    left: Option<usize>,
-    right: Option<usize>,
+    kind: Kind,
     value: u32,
 }
 
@@ -25,23 +30,36 @@ impl Reference {
 
     /// The number of cells reached from the registers over left and right.
     pub fn live(&self) -> u64 {
-        let mut found = vec![false; self.cells.len()];
-        let mut live = 0;
-        let mut pending: Vec<usize> = self.registers.iter().flatten().copied().collect();
-        while let Some(place) = pending.pop() {
-            if !std::mem::replace(&mut found[place], true) {
-                live += 1;
-                pending.extend(self.cells[place].left);
-                pending.extend(self.cells[place].right);
-            }
-        }
-        live
+        let (pairs, points) = self.live_by_kind();
+        pairs + points
     }
 
-    /// The live count that this call asks for, before it: only a `new` with valid registers does.
+    /// The pairs among them, and the points.
+    fn live_by_kind(&self) -> (u64, u64) {
+        let mut found = vec![false; self.cells.len()];
+        let (mut pairs, mut points) = (0, 0);
+        let mut pending: Vec<usize> = self.registers.iter().flatten().copied().collect();
+        while let Some(place) = pending.pop() {
+            if std::mem::replace(&mut found[place], true) {
+                continue;
+            }
+            match self.cells[place].kind {
+                Kind::Pair { left, right } => {
+                    pairs += 1;
+                    pending.extend(left);
+                    pending.extend(right);
+                }
+                Kind::Point { .. } => points += 1,
+            }
+        }
+        (pairs, points)
+    }
+
+    /// The live count that this call asks for, before it: only a `new` or a `point` with valid registers does.
     pub fn asked(&self, call: Call) -> Option<u64> {
         match call {
             Call::New { r, a, b, .. } if valid(&[r, a, b]).is_ok() => Some(self.live()),
+            Call::Point { r, .. } if valid(&[r]).is_ok() => Some(self.live()),
             _ => None,
         }
     }
@@ -52,6 +70,33 @@ impl Reference {
 
     fn held(&self, a: u32) -> Result<usize, u32> {
         self.registers[a as usize].ok_or(NIL)
+    }
+
+    /// The links of the pair in register a.
+    fn links(&mut self, a: u32) -> Result<(&mut Option<usize>, &mut Option<usize>), u32> {
+        let place = self.held(a)?;
+        match &mut self.cells[place].kind {
+            Kind::Pair { left, right } => Ok((left, right)),
+            Kind::Point { .. } => Err(KIND),
+        }
+    }
+
+    /// The numbers of the point in register a.
+    fn coordinates(&self, a: u32) -> Result<(u32, u32), u32> {
+        match self.cells[self.held(a)?].kind {
+            Kind::Point { x, y } => Ok((x, y)),
+            Kind::Pair { .. } => Err(KIND),
+        }
+    }
+
+    /// A new cell, and register r gets its place.
+    fn append(&mut self, r: u32, cell: Cell) -> Result<(), u32> {
+        if self.live() >= self.limit {
+            return Err(FULL);
+        }
+        self.cells.push(cell);
+        self.registers[r as usize] = Some(self.cells.len() - 1);
+        Ok(())
     }
 
     fn attempt(&mut self, call: Call) -> Result<Answer, u32> {
@@ -66,30 +111,30 @@ impl Reference {
             }
             Call::New { r, a, b, v } => {
                 valid(&[r, a, b])?;
-                if self.live() >= self.limit {
-                    return Err(FULL);
-                }
                 let (left, right) = (self.registers[a as usize], self.registers[b as usize]);
-                self.cells.push(Cell { left, right, value: v });
-                self.registers[r as usize] = Some(self.cells.len() - 1);
+                self.append(r, Cell { kind: Kind::Pair { left, right }, value: v })?;
+            }
+            Call::Point { r, v, x, y } => {
+                valid(&[r])?;
+                self.append(r, Cell { kind: Kind::Point { x, y }, value: v })?;
             }
             Call::Left { r, a } => {
                 valid(&[r, a])?;
-                self.registers[r as usize] = self.cells[self.held(a)?].left;
+                self.registers[r as usize] = *self.links(a)?.0;
             }
             Call::Right { r, a } => {
                 valid(&[r, a])?;
-                self.registers[r as usize] = self.cells[self.held(a)?].right;
+                self.registers[r as usize] = *self.links(a)?.1;
             }
             Call::SetLeft { a, b } => {
                 valid(&[a, b])?;
-                let place = self.held(a)?;
-                self.cells[place].left = self.registers[b as usize];
+                let link = self.registers[b as usize];
+                *self.links(a)?.0 = link;
             }
             Call::SetRight { a, b } => {
                 valid(&[a, b])?;
-                let place = self.held(a)?;
-                self.cells[place].right = self.registers[b as usize];
+                let link = self.registers[b as usize];
+                *self.links(a)?.1 = link;
             }
             Call::SetValue { a, v } => {
                 valid(&[a])?;
@@ -100,14 +145,22 @@ impl Reference {
                 valid(&[a])?;
                 return Ok(Answer::Number(self.cells[self.held(a)?].value));
             }
+            Call::East { a } => {
+                valid(&[a])?;
+                return Ok(Answer::Number(self.coordinates(a)?.0));
+            }
+            Call::North { a } => {
+                valid(&[a])?;
+                return Ok(Answer::Number(self.coordinates(a)?.1));
+            }
             Call::Same { a, b } => {
                 valid(&[a, b])?;
                 let same = self.registers[a as usize] == self.registers[b as usize];
                 return Ok(Answer::Number(u32::from(same)));
             }
             Call::Collect => {
-                let live = self.live() as u32;
-                return Ok(Answer::Pair(live, 3 * live));
+                let (pairs, points) = self.live_by_kind();
+                return Ok(Answer::Pair((pairs + points) as u32, (3 * pairs + points) as u32));
             }
         }
         Ok(Answer::Done)

@@ -30,6 +30,7 @@ fn parse(line: &[u8]) -> Option<Line> {
     let call = match (letter, numbers.as_slice()) {
         (b"f", &[n]) => return Some(Line::Fresh(n)),
         (b"n", &[r, a, b, v]) => Call::New { r, a, b, v },
+        (b"p", &[r, v, x, y]) => Call::Point { r, v, x, y },
         (b"c", &[r, a]) => Call::Copy { r, a },
         (b"z", &[r]) => Call::Clear { r },
         (b"l", &[r, a]) => Call::Left { r, a },
@@ -37,6 +38,8 @@ fn parse(line: &[u8]) -> Option<Line> {
         (b"L", &[a, b]) => Call::SetLeft { a, b },
         (b"R", &[a, b]) => Call::SetRight { a, b },
         (b"v", &[a]) => Call::Value { a },
+        (b"e", &[a]) => Call::East { a },
+        (b"o", &[a]) => Call::North { a },
         (b"V", &[a, v]) => Call::SetValue { a, v },
         (b"s", &[a, b]) => Call::Same { a, b },
         (b"g", &[]) => Call::Collect,
@@ -49,6 +52,7 @@ fn parse(line: &[u8]) -> Option<Line> {
 pub fn line(call: Call) -> String {
     match call {
         Call::New { r, a, b, v } => format!("n {r} {a} {b} {v}"),
+        Call::Point { r, v, x, y } => format!("p {r} {v} {x} {y}"),
         Call::Copy { r, a } => format!("c {r} {a}"),
         Call::Clear { r } => format!("z {r}"),
         Call::Left { r, a } => format!("l {r} {a}"),
@@ -56,6 +60,8 @@ pub fn line(call: Call) -> String {
         Call::SetLeft { a, b } => format!("L {a} {b}"),
         Call::SetRight { a, b } => format!("R {a} {b}"),
         Call::Value { a } => format!("v {a}"),
+        Call::East { a } => format!("e {a}"),
+        Call::North { a } => format!("o {a}"),
         Call::SetValue { a, v } => format!("V {a} {v}"),
         Call::Same { a, b } => format!("s {a} {b}"),
         Call::Collect => "g".into(),

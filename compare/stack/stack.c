@@ -5,8 +5,9 @@
  * Each call is made on a block of its own, which is painted before with one byte and then with another; the lowest byte that
  * has changed tells how far the call went. Inputs are chosen so that every function takes its longest way: all cells used
  * and reached, a stack that is enough, one that its checks make enough and one that is not, a chain of 64 cells for the
- * recursive marker, images of every length of number, percents rounded each way, and refused calls, also at the last
- * number of an image. A line is printed for each function, its name and the most bytes of its calls.
+ * recursive marker, points among the cells and in images, images of every length of number, percents rounded each way,
+ * and refused calls, also at the last number of an image. A line is printed for each function, its name and the most
+ * bytes of its calls.
  *
  * x86-64 with the System V calling convention, as the library is.
  */
@@ -19,7 +20,7 @@
 enum { N = 4000, SMALL = 64, LEN = CELLPOOL_WORDS(N), SMALL_LEN = CELLPOOL_WORDS(SMALL), ROOM = 1 << 16, TOO_SHORT = 21 };
 
 static uint32_t words[LEN], before[LEN], small[SMALL_LEN], scratch[CELLPOOL_SCRATCH(N)], stack[N], numbers[4];
-static uint8_t image[CELLPOOL_IMAGE_BYTES(N)], padded[CELLPOOL_IMAGE_BYTES(N) + 1];
+static uint8_t image[CELLPOOL_IMAGE_BYTES(N)], padded[CELLPOOL_IMAGE_BYTES(N) + 1], unknown[CELLPOOL_IMAGE_BYTES(N)];
 static size_t sizes[1], image_len;
 static unsigned char block[ROOM] __attribute__((aligned(16)));
 
@@ -103,6 +104,21 @@ static void comb(uint32_t *pool, uint32_t n, int forks) {
     }
 }
 
+/* Every cell without links becomes a point, with numbers of every length. */
+static void leaves_as_points(uint32_t *pool, uint32_t n) {
+    uint32_t i;
+    for (i = 1; i <= n; i++) {
+        uint32_t *cell = pool + CELLPOOL_WORDS(i - 1);
+        if (cell[1] == 0 && cell[2] == 0) cell[0] = 5, cell[1] = i << (i % 31), cell[2] = UINT32_MAX >> (i % 32);
+    }
+}
+
+/* All cells used as a tree, with points for leaves. */
+static void tree_of_points(uint32_t *pool, uint32_t n) {
+    all_used(pool, n, 1);
+    leaves_as_points(pool, n);
+}
+
 static void all_free(void) {
     memset(before, 0, sizeof before);
     before[0] = N;
@@ -111,6 +127,13 @@ static void all_free(void) {
         before[CELLPOOL_WORDS(i - 1)] = 4;
         before[CELLPOOL_WORDS(i - 1) + 1] = i < N ? i + 1 : 0;
     }
+}
+
+/* The bytes of the last cell of the image: its last four numbers, each with one byte without the top bit, at its end. */
+static size_t last_cell_bytes(void) {
+    size_t ends = 0, bytes = 0;
+    while (ends < 5) ends += image[image_len - ++bytes] < 0x80;
+    return bytes - 1;
 }
 
 int main(void) {
@@ -129,20 +152,40 @@ int main(void) {
         before[2] = N + 1;
         TRY(3, new, w, LEN, 1, 1, 1, 7, r0);
     }
+    tree_of_points(before, N);
+    TRY(5, new, w, LEN, 0, 0, 0, 7, r0);
+    before[2] = 2;
+    TRY(0, new, w, LEN, 0, 0, 0, 7, r0);
     all_free();
     TRY(0, new, w, LEN, 0, 0, 0, 7, r0), TOLD(new);
-    all_used(before, N, 1);
-    TRY(0, left, w, LEN, 1, 0), TRY(4, left, w, LEN, 0, 1), TOLD(left);
-    TRY(0, right, w, LEN, 1, 0), TRY(4, right, w, LEN, 0, 1), TOLD(right);
-    TRY(0, setleft, w, LEN, 0, 1), TRY(4, setleft, w, LEN, 1, 0), TOLD(setleft);
-    TRY(0, setright, w, LEN, 0, 1), TRY(4, setright, w, LEN, 1, 0), TOLD(setright);
-    TRY(0, setvalue, w, LEN, 0, 1), TRY(4, setvalue, w, LEN, 1, 0), TOLD(setvalue);
-    TRY(0, value, w, LEN, 0, r0), TRY(4, value, w, LEN, 1, r0), TOLD(value);
+    TRY(0, point, w, LEN, 0, 7, 8, 9, r0);
+    for (tree = 0; tree < 3; tree++) {
+        if (tree < 2) all_used(before, N, tree);
+        else tree_of_points(before, N);
+        TRY(5, point, w, LEN, 0, 7, 8, 9, r0);
+        before[2] = 2;
+        TRY(0, point, w, LEN, 0, 7, 8, 9, r0);
+        before[2] = N + 1;
+        TRY(3, point, w, LEN, 1, 7, 8, 9, r0);
+    }
+    TRY(2, point, w, LEN, 16, 7, 8, 9, r0), TOLD(point);
+    /* Register 0 holds a pair, register 2 a point, register 1 is nil. */
+    tree_of_points(before, N);
+    before[4] = N;
+    TRY(0, left, w, LEN, 1, 0), TRY(4, left, w, LEN, 0, 1), TRY(13, left, w, LEN, 0, 2), TOLD(left);
+    TRY(0, right, w, LEN, 1, 0), TRY(4, right, w, LEN, 0, 1), TRY(13, right, w, LEN, 0, 2), TOLD(right);
+    TRY(0, setleft, w, LEN, 0, 1), TRY(4, setleft, w, LEN, 1, 0), TRY(13, setleft, w, LEN, 2, 0), TOLD(setleft);
+    TRY(0, setright, w, LEN, 0, 1), TRY(4, setright, w, LEN, 1, 0), TRY(13, setright, w, LEN, 2, 0), TOLD(setright);
+    TRY(0, setvalue, w, LEN, 0, 1), TRY(4, setvalue, w, LEN, 1, 0), TRY(0, setvalue, w, LEN, 2, 1), TOLD(setvalue);
+    TRY(0, value, w, LEN, 0, r0), TRY(4, value, w, LEN, 1, r0), TRY(0, value, w, LEN, 2, r0), TOLD(value);
+    TRY(0, east, w, LEN, 2, r0), TRY(4, east, w, LEN, 1, r0), TRY(13, east, w, LEN, 0, r0), TOLD(east);
+    TRY(0, north, w, LEN, 2, r0), TRY(4, north, w, LEN, 1, r0), TRY(13, north, w, LEN, 0, r0), TOLD(north);
     TRY(0, same, w, LEN, 0, 1, r0), TRY(2, same, w, LEN, 1, 16, r0), TOLD(same);
 #define EVERY_WAY(name, ...)                                                                                           \
     do {                                                                                                               \
-        for (tree = 0; tree < 2; tree++) {                                                                             \
-            all_used(before, N, tree);                                                                                 \
+        for (tree = 0; tree < 3; tree++) {                                                                             \
+            if (tree < 2) all_used(before, N, tree);                                                                   \
+            else tree_of_points(before, N);                                                                            \
             TRY(0, name, __VA_ARGS__);                                                                                 \
             before[5] = N + 1;                                                                                         \
             TRY(3, name, __VA_ARGS__);                                                                                 \
@@ -167,10 +210,12 @@ int main(void) {
     TRY(0, collect_recursive, AT(small), SMALL_LEN, r0, r1);
     all_used(small, SMALL, 1);
     TRY(0, collect_recursive, AT(small), SMALL_LEN, r0, r1);
+    tree_of_points(small, SMALL);
+    TRY(0, collect_recursive, AT(small), SMALL_LEN, r0, r1);
     TRY(11, collect_recursive, w, LEN, r0, r1);
     TOLD(collect_recursive);
     EVERY_WAY(save, w, LEN, AT(scratch), CELLPOOL_SCRATCH(N), AT(image), sizeof image, AT(sizes));
-    all_used(before, N, 1);
+    tree_of_points(before, N);
     TRY(10, save, w, LEN, AT(scratch), CELLPOOL_SCRATCH(N), AT(image), 100, AT(sizes));
     TRY(0, save, w, LEN, AT(scratch), CELLPOOL_SCRATCH(N), AT(image), sizeof image, AT(sizes));
     image_len = sizes[0];
@@ -178,14 +223,18 @@ int main(void) {
     /* The last value has fewer than five groups, and gets one of 0 behind its own. */
     memcpy(padded, image, image_len);
     padded[image_len - 1] |= 0x80;
+    memcpy(unknown, image, image_len);
+    unknown[image_len - last_cell_bytes()] = 2;
     TRY(0, load, w, LEN, AT(image), image_len, AT(sizes));
     TRY(6, load, w, LEN, AT(image), image_len - 1, AT(sizes));
     TRY(12, load, w, LEN, AT(padded), image_len + 1, AT(sizes));
+    TRY(14, load, w, LEN, AT(unknown), image_len, AT(sizes));
     TOLD(load);
     TRY(0, check_image, AT(image), image_len, N);
     TRY(6, check_image, AT(image), image_len - 1, N);
     TRY(9, check_image, AT(image), image_len, N - 1);
     TRY(12, check_image, AT(padded), image_len + 1, N);
+    TRY(14, check_image, AT(unknown), image_len, N);
     TOLD(check_image);
     TRY(0, occupancy, 1, 3, r0), TRY(0, occupancy, 2, 3, r0), TRY(0, occupancy, 3, 3, r0), TRY(1, occupancy, 3, 1, r0);
     TRY(0, occupancy, 20, N, r0), TRY(0, occupancy, 60, N, r0), TRY(1, occupancy, 1, N + 1, r0), TOLD(occupancy);

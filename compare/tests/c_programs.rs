@@ -67,7 +67,7 @@ fn no_function_takes_more_stack_than_the_header_states() {
         .map(|(name, bytes)| (name.to_string(), bytes.parse().expect("a number")))
         .collect();
     let stated = stated_stack();
-    assert_eq!(measured.len(), 20);
+    assert_eq!(measured.len(), 23);
     assert!(measured.keys().eq(stated.keys()), "{measured:?} {stated:?}");
     for (name, bytes) in measured {
         assert!(bytes >= 8 && bytes <= stated[&name], "{name} takes {bytes}, stated are {}", stated[&name]);
@@ -97,7 +97,7 @@ fn the_archive_has_the_instructions_that_the_header_states() {
             below.insert(function);
         }
     }
-    assert_eq!(sse, ["cellpool_collect_stack", "cellpool_worst_case"].into());
+    assert_eq!(sse, ["cellpool_worst_case"].into());
     assert_eq!(below, [].into());
     let needed = std::process::Command::new("nm").arg("-u").arg(archive()).output().expect("nm is beside ar");
     let needed = String::from_utf8_lossy(&needed.stdout).into_owned();
@@ -122,17 +122,19 @@ fn every_answer_has_a_text_of_its_own() {
         #include <stdio.h>\n\
         int main(void) {\n\
             uint32_t answer;\n\
-            for (answer = 0; answer <= CELLPOOL_REFUSED_PADDED + 1; answer++) puts(cellpool_refusal_text(answer));\n\
+            for (answer = 0; answer <= CELLPOOL_REFUSED_KIND_NUMBER + 1; answer++) puts(cellpool_refusal_text(answer));\n\
             return 0;\n\
         }\n";
     std::fs::write(made("texts.c"), text).expect("the source is written");
     let told = run(&compile("texts", &cc(), &["-std=c99", "-O2"], &[made("texts.c")]), &[]);
     let texts: Vec<&str> = told.lines().collect();
-    assert_eq!(texts.len(), 14);
+    assert_eq!(texts.len(), 16);
     assert_eq!((texts[0], texts[refusal::FULL as usize]), ("done", "no cell is free"));
     assert_eq!(texts[refusal::PADDED as usize], "a number of the image is padded");
-    assert_eq!(texts[13], "no answer of this library");
-    assert_eq!(texts.iter().collect::<std::collections::BTreeSet<_>>().len(), 14, "{told}");
+    assert_eq!(texts[refusal::KIND as usize], "the cell is of the other kind");
+    assert_eq!(texts[refusal::KIND_NUMBER as usize], "a kind of the image is unknown");
+    assert_eq!(texts[15], "no answer of this library");
+    assert_eq!(texts.iter().collect::<std::collections::BTreeSet<_>>().len(), 16, "{told}");
     assert!(texts.iter().all(|text| (4..=50).contains(&text.len())), "{told}");
 }
 

@@ -1,5 +1,5 @@
-//! Marking by reversal by the five cases of source document 000: what plain Rust and plain C tell of their visits, against the
-//! model, which reverses no link, and against what was computed by hand.
+//! Marking by reversal by the five cases of source document 000 and that of a point: what plain Rust and plain C tell of their
+//! visits, against the model, which reverses no link, and against what was computed by hand.
 
 mod common;
 
@@ -11,7 +11,7 @@ use cellpool_compare::model::Pool;
 use cellpool_compare::random::{rounds, seed, Random};
 use cellpool_compare::refusal::{MALFORMED, SIZE};
 use cellpool_compare::visit::{Case, Marking, CASES};
-use cellpool_compare::{cell_at, Interface, HEADER};
+use cellpool_compare::{cell_at, is_used, Interface, HEADER, POINT};
 use common::implementations;
 use std::collections::BTreeMap;
 
@@ -39,129 +39,209 @@ fn the_markers_tell_the_cases_of_the_model() {
     }
 }
 
-/// The document's visit, by its two exchanges and without cases: whether each visit was the four-way one, in order.
-fn mark_by_two_exchanges(words: &mut [u32]) -> Vec<bool> {
+/// The document's visit, by its two exchanges and without cases, and a point's, where p and q change places: how many words change
+/// places at each visit, in order.
+fn mark_by_exchanges(words: &mut [u32]) -> Vec<usize> {
     const ROOT: u32 = u32::MAX;
-    let mut four_way = Vec::new();
+    let mut exchanges = Vec::new();
     for register in 2..HEADER {
         let (mut p, mut q) = (words[register], ROOT);
-        if p == 0 || words[cell_at(p)] != 0 {
+        if p == 0 || !is_used(words[cell_at(p)]) {
             continue;
         }
         while p != ROOT {
             let at = cell_at(p);
             words[at] += 1;
             let (m, l) = (words[at], words[at + 1]);
+            if m == POINT + 1 {
+                (p, q) = (q, p);
+                exchanges.push(2);
+                continue;
+            }
             (words[at + 1], words[at + 2]) = (words[at + 2], q);
-            if m == 3 || (l != 0 && words[cell_at(l)] == 0) {
+            if m == 3 || (l != 0 && is_used(words[cell_at(l)])) {
                 (p, q) = (l, p);
-                four_way.push(true);
+                exchanges.push(4);
             } else {
                 q = l;
-                four_way.push(false);
+                exchanges.push(3);
             }
         }
     }
-    four_way
+    exchanges
 }
 
 #[test]
-fn the_cases_are_the_two_exchanges() {
-    let mut seen = [0, 0];
+fn the_cases_are_the_exchanges() {
+    let mut seen = [0; 5];
     for words in generate::well_formed_pools(&mut random(), rounds(2_000)) {
         let mut expected = words.clone();
-        let four_way = mark_by_two_exchanges(&mut expected);
+        let exchanges = mark_by_exchanges(&mut expected);
         for (name, marker) in markers() {
             let mut found = words.clone();
             let cases = marker(&mut found).expect("the pool is well-formed").cases;
-            let stays = |case: &Case| matches!(case, Case::PassLeft | Case::PassRight);
-            assert!(cases.iter().map(|case| !stays(case)).eq(four_way.iter().copied()), "{name}: {words:?}");
+            let exchanged = |case: &Case| match case {
+                Case::Retreat | Case::FollowLeft | Case::FollowRight => 4,
+                Case::PassLeft | Case::PassRight => 3,
+                Case::Point => 2,
+            };
+            assert!(cases.iter().map(exchanged).eq(exchanges.iter().copied()), "{name}: {words:?}");
             assert!(found == expected, "{name}: {words:?}");
         }
-        four_way.iter().for_each(|&moves| seen[usize::from(moves)] += 1);
+        exchanges.iter().for_each(|&count| seen[count] += 1);
     }
-    assert!(seen.iter().all(|&times| times > 10_000), "{seen:?}");
+    assert!(seen[2..].iter().all(|&times| times > 2_000), "{seen:?}");
 }
 
-/// A pool by hand: the first registers (the others nil), left and right of each cell (all are used); the runs, each with the cell
-/// at which it begins and the numbers of its cases in order; how often each case comes; the cells that cases 2 and 4 go to.
+/// A pool by hand: the first registers (the others nil), left and right of each cell (all are used), and which of them are points;
+/// the runs, each with the cell at which it begins and the numbers of its cases in order, 6 that of a point; how often each case
+/// comes; the cells that cases 2 and 4 go to.
 struct ByHand {
     registers: &'static [u32],
     links: &'static [[u32; 2]],
+    points: &'static [u32],
     runs: &'static [(u32, &'static [u8])],
-    times: [u32; 5],
+    times: [u32; 6],
     entered: &'static [u32],
 }
 
-const BY_HAND: [ByHand; 11] = [
+const BY_HAND: [ByHand; 16] = [
     // All registers are nil: the cell is not reached.
-    ByHand { registers: &[], links: &[[1, 1]], runs: &[], times: [0, 0, 0, 0, 0], entered: &[] },
+    ByHand { registers: &[], links: &[[1, 1]], points: &[], runs: &[], times: [0, 0, 0, 0, 0, 0], entered: &[] },
     // A cell without links: left nil, right nil, back.
-    ByHand { registers: &[1], links: &[[0, 0]], runs: &[(1, &[3, 5, 1])], times: [1, 0, 1, 0, 1], entered: &[] },
+    ByHand {
+        registers: &[1],
+        links: &[[0, 0]],
+        points: &[],
+        runs: &[(1, &[3, 5, 1])],
+        times: [1, 0, 1, 0, 1, 0],
+        entered: &[],
+    },
     // A cell whose links lead to itself, which is marked at its first visit.
-    ByHand { registers: &[0, 1], links: &[[1, 1]], runs: &[(1, &[3, 5, 1])], times: [1, 0, 1, 0, 1], entered: &[] },
+    ByHand {
+        registers: &[0, 1],
+        links: &[[1, 1]],
+        points: &[],
+        runs: &[(1, &[3, 5, 1])],
+        times: [1, 0, 1, 0, 1, 0],
+        entered: &[],
+    },
     // Two registers hold one cell: one run. Cell 1 is not reached.
     ByHand {
         registers: &[2, 0, 0, 2],
         links: &[[2, 2], [0, 2]],
+        points: &[],
         runs: &[(2, &[3, 5, 1])],
-        times: [1, 0, 1, 0, 1],
+        times: [1, 0, 1, 0, 1, 0],
         entered: &[],
     },
     // A balanced tree: to the left leaf, its three visits, to the right leaf, its three, and the end at the root.
     ByHand {
         registers: &[1],
         links: &[[2, 3], [0, 0], [0, 0]],
+        points: &[],
         runs: &[(1, &[2, 3, 5, 1, 4, 3, 5, 1, 1])],
-        times: [3, 1, 2, 1, 2],
+        times: [3, 1, 2, 1, 2, 0],
         entered: &[2, 3],
     },
     // Equal links: the cell is marked when the right one is looked at.
     ByHand {
         registers: &[1],
         links: &[[2, 2], [0, 0]],
+        points: &[],
         runs: &[(1, &[2, 3, 5, 1, 5, 1])],
-        times: [2, 1, 1, 0, 2],
+        times: [2, 1, 1, 0, 2, 0],
         entered: &[2],
     },
     // Two chains of two cells, the first one over left links, the other over right ones.
     ByHand {
         registers: &[1, 3],
         links: &[[2, 0], [0, 0], [0, 4], [0, 0]],
+        points: &[],
         runs: &[(1, &[2, 3, 5, 1, 5, 1]), (3, &[3, 4, 3, 5, 1, 1])],
-        times: [4, 1, 3, 1, 3],
+        times: [4, 1, 3, 1, 3, 0],
         entered: &[2, 4],
     },
     // Chains of three cells: over left links all go down first, over right ones too.
     ByHand {
         registers: &[0, 1, 6],
         links: &[[2, 0], [3, 0], [0, 0], [0, 0], [0, 4], [0, 5]],
+        points: &[],
         runs: &[(1, &[2, 2, 3, 5, 1, 5, 1, 5, 1]), (6, &[3, 4, 3, 4, 3, 5, 1, 1, 1])],
-        times: [6, 2, 4, 2, 4],
+        times: [6, 2, 4, 2, 4, 0],
         entered: &[2, 3, 5, 4],
     },
     // The second run meets cells of the first: cell 1 finds 2 marked and goes to 3, which finds 2 and 1 marked.
     ByHand {
         registers: &[2, 1],
         links: &[[2, 3], [0, 0], [2, 1]],
+        points: &[],
         runs: &[(2, &[3, 5, 1]), (1, &[3, 4, 3, 5, 1, 1])],
-        times: [3, 0, 3, 1, 2],
+        times: [3, 0, 3, 1, 2, 0],
         entered: &[3],
     },
     // Register 1 holds a cell that the run of register 0 goes to: no run begins there.
     ByHand {
         registers: &[1, 2],
         links: &[[0, 2], [0, 0]],
+        points: &[],
         runs: &[(1, &[3, 4, 3, 5, 1, 1])],
-        times: [2, 0, 2, 1, 1],
+        times: [2, 0, 2, 1, 1, 0],
         entered: &[2],
     },
     // A cycle: cell 1 goes left to 2; 2 finds 1 on the path and goes right to 3; 3 finds nil and 1 on the path.
     ByHand {
         registers: &[1],
         links: &[[2, 0], [1, 3], [0, 1]],
+        points: &[],
         runs: &[(1, &[2, 3, 4, 3, 5, 1, 1, 5, 1])],
-        times: [3, 1, 2, 1, 2],
+        times: [3, 1, 2, 1, 2, 0],
+        entered: &[2, 3],
+    },
+    // A point whose numbers are those of itself: one visit, which ends the run.
+    ByHand {
+        registers: &[1],
+        links: &[[1, 1]],
+        points: &[1],
+        runs: &[(1, &[6])],
+        times: [0, 0, 0, 0, 0, 1],
+        entered: &[],
+    },
+    // A pair with a point on each side, whose numbers are those of the other cells: to the left one and back, to the right one and
+    // back, and the end.
+    ByHand {
+        registers: &[1],
+        links: &[[2, 3], [3, 1], [1, 2]],
+        points: &[2, 3],
+        runs: &[(1, &[2, 6, 4, 6, 1])],
+        times: [1, 1, 0, 1, 0, 2],
+        entered: &[2, 3],
+    },
+    // Both links to one point: it is marked when the right one is looked at.
+    ByHand {
+        registers: &[1],
+        links: &[[2, 2], [1, 1]],
+        points: &[2],
+        runs: &[(1, &[2, 6, 5, 1])],
+        times: [1, 1, 0, 0, 1, 1],
+        entered: &[2],
+    },
+    // The first run is that of a point. In the second one cell 1 finds it marked and goes to 3, which finds nil and the point.
+    ByHand {
+        registers: &[2, 1],
+        links: &[[2, 3], [9, 9], [0, 2]],
+        points: &[2],
+        runs: &[(2, &[6]), (1, &[3, 4, 3, 5, 1, 1])],
+        times: [2, 0, 2, 1, 1, 1],
+        entered: &[3],
+    },
+    // A chain over right links with a point at its end, where the way back begins.
+    ByHand {
+        registers: &[1],
+        links: &[[0, 2], [0, 3], [1, 2]],
+        points: &[3],
+        runs: &[(1, &[3, 4, 3, 4, 6, 1, 1])],
+        times: [2, 0, 2, 2, 0, 1],
         entered: &[2, 3],
     },
 ];
@@ -172,7 +252,8 @@ fn cases_by_hand() {
         let mut words = vec![hand.links.len() as u32, 0];
         words.extend(hand.registers);
         words.resize(18, 0);
-        words.extend(hand.links.iter().flat_map(|&[left, right]| [0, left, right, 7]));
+        let state = |i: u32| if hand.points.contains(&i) { 5 } else { 0 };
+        words.extend(hand.links.iter().zip(1..).flat_map(|(&[left, right], i)| [state(i), left, right, 7]));
         let numbers: Vec<u8> = hand.runs.iter().flat_map(|(_, cases)| *cases).copied().collect();
         let told = Marking {
             times: hand.times,
@@ -182,7 +263,7 @@ fn cases_by_hand() {
         };
         let mut marked = words.clone();
         for &i in hand.runs.iter().map(|(begin, _)| begin).chain(hand.entered) {
-            marked[cell_at(i)] = 3;
+            marked[cell_at(i)] = if hand.points.contains(&i) { 6 } else { 3 };
         }
         assert_eq!(Pool::decode(&words).expect("the size is right").marking(), told, "model: {words:?}");
         for (name, marker) in markers() {
@@ -234,7 +315,10 @@ fn the_random_pools_reach_every_case_and_several_runs() {
             run_of[cell as usize] = Some(visit.register);
             let why = match (visit.case, visit.next) {
                 (Case::PassLeft | Case::PassRight, Some(link)) => why_passed(link, visit.path, visit.register, &run_of),
+                (Case::FollowLeft | Case::FollowRight, Some(link)) if pool.cell(link).state == POINT => "to a point",
+                (Case::FollowLeft | Case::FollowRight, _) => "to a pair",
                 (Case::Retreat, _) if visit.path.len() == 1 => "the end of a run",
+                (Case::Point, _) if visit.path.len() == 1 => "a run of its own",
                 _ => "",
             };
             count(&format!("{:?}", visit.case), why);
@@ -258,10 +342,11 @@ fn the_random_pools_reach_every_case_and_several_runs() {
     ];
     let expected = [
         ("Retreat", &["", "the end of a run"][..]),
-        ("FollowLeft", &[""]),
+        ("FollowLeft", &["to a pair", "to a point"]),
         ("PassLeft", &passes),
-        ("FollowRight", &[""]),
+        ("FollowRight", &["to a pair", "to a point"]),
         ("PassRight", &passes),
+        ("Point", &["", "a run of its own"]),
         ("runs", &["none", "one", "two", "three or more"]),
         ("registers", &["equal ones", "no equal ones", "one whose cell an earlier run goes to"]),
         ("cells", &["some not reached", "all reached"]),

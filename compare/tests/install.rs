@@ -8,7 +8,7 @@ use cellpool_compare::baseline::PlainRust;
 use cellpool_compare::generate;
 use cellpool_compare::model::{groups, parse, Pool};
 use cellpool_compare::random::{rounds, Random};
-use cellpool_compare::{script, MOST_CELLS};
+use cellpool_compare::{is_used, script, MOST_CELLS, POINT};
 use common::c::{archive, cc, file, made};
 use std::fs::{self, File};
 use std::io::Write;
@@ -163,6 +163,11 @@ fn graph(pool: &Pool, kept: u32) -> String {
     }
     for i in 1..=kept {
         let cell = pool.cell(i);
+        if cell.state == POINT {
+            let fields = format!("{{cell {i}|{}|{{{}|{}}}}}", cell.value, cell.left, cell.right);
+            all += &format!("  c{i} [shape=Mrecord, label=\"{fields}\"];\n");
+            continue;
+        }
         let field = |link: u32| if link == 0 { "/" } else { "" };
         let (left, right) = (field(cell.left), field(cell.right));
         all += &format!("  c{i} [label=\"{{cell {i}|{}|{{<l>{left}|<r>{right}}}}}\"];\n", cell.value);
@@ -175,33 +180,27 @@ fn graph(pool: &Pool, kept: u32) -> String {
     all + "}\n"
 }
 
-/// The pool that examples/survey.txt leaves, worked out by hand.
+/// What examples/survey.txt is replied, worked out by hand: two strips with their turns, 3 + 3 + 1 + 1 visits; a strip is no point,
+/// and a point has no left link; at the end three strips with a turn each, 9 + 3 visits.
+const REPLIES: &str = "ok\nok\nok\nok 1200\nok 3400\nok 150\nok\nok\nok 4 8\nok\nok 1\nno 13\nno 13\n\
+    ok\nok\nok\nok\nok\nok\nok\nok\nok\nok\nok\nok\nok 6 12\n";
+
+/// The pool that it leaves: the strips 920, 910 and 900 in a chain over right links, each with its turn on its left.
 const SURVEY: &str = r#"digraph pool {
   node [shape=record, fontname="sans-serif", fontsize=11];
-  r2 [shape=plaintext];
-  r2 -> c1;
-  r3 [shape=plaintext];
-  r3 -> c3;
   r5 [shape=plaintext];
-  r5 -> c2;
-  r6 [shape=plaintext];
-  r6 -> c4;
-  r7 [shape=plaintext];
-  r7 -> c5;
-  r8 [shape=plaintext];
-  r8 -> c6;
-  c1 [label="{cell 1|150|{<l>/|<r>}}"];
-  c1:r -> c2 [style=dashed];
-  c2 [label="{cell 2|165|{<l>/|<r>/}}"];
-  c3 [label="{cell 3|900|{<l>|<r>}}"];
-  c3:l -> c1;
-  c3:r -> c1 [style=dashed];
-  c4 [label="{cell 4|180|{<l>/|<r>}}"];
-  c4:r -> c2 [style=dashed];
-  c5 [label="{cell 5|910|{<l>|<r>}}"];
-  c5:l -> c4;
-  c5:r -> c3 [style=dashed];
-  c6 [label="{cell 6|195|{<l>/|<r>/}}"];
+  r5 -> c1;
+  c1 [label="{cell 1|920|{<l>|<r>}}"];
+  c1:l -> c2;
+  c1:r -> c3 [style=dashed];
+  c2 [shape=Mrecord, label="{cell 2|170|{1400|3800}}"];
+  c3 [label="{cell 3|910|{<l>|<r>}}"];
+  c3:l -> c4;
+  c3:r -> c5 [style=dashed];
+  c4 [shape=Mrecord, label="{cell 4|160|{1400|3600}}"];
+  c5 [label="{cell 5|900|{<l>|<r>/}}"];
+  c5:l -> c6;
+  c6 [shape=Mrecord, label="{cell 6|150|{1200|3400}}"];
 }
 "#;
 
@@ -263,7 +262,7 @@ fn draws(program: &Path, count: usize) {
         let output = fed(program, &image);
         match parse(&image, MOST_CELLS) {
             Ok((pool, rest)) => {
-                let kept = pool.cells.iter().take_while(|cell| cell.state == cellpool_compare::USED).count();
+                let kept = pool.cells.iter().take_while(|cell| is_used(cell.state)).count();
                 assert_eq!(text(&output.stdout), graph(&pool, kept as u32));
                 assert_eq!(output.stderr.is_empty(), rest == image.len());
                 assert_eq!(output.status.code(), Some(0));
@@ -301,7 +300,9 @@ fn installed_into_an_empty_folder_the_examples_build_and_run() {
     let flags = flags(&prefix);
     let folder = prefix.join("share/doc/cellpool/examples");
     let survey = fs::read(folder.join("survey.txt")).expect("the script is there");
-    let image = Pool::decode(&script::run(&PlainRust, &survey, &[]).1).expect("the script makes a pool").image();
+    let (replies, words) = script::run(&PlainRust, &survey, &[]);
+    assert_eq!(replies, REPLIES);
+    let image = Pool::decode(&words).expect("the script makes a pool").image();
     let mut built = 0;
     for compiler in compilers() {
         for standard in compiler.2 {
@@ -328,26 +329,36 @@ fn installed_into_an_empty_folder_the_examples_build_and_run() {
         assert_eq!((text(&output.stdout).as_str(), output.status.code()), (told, Some(0)));
     }
     draws(&folder.join("draw.out"), rounds(40));
-    // The longest image: as many cells as there can be, K, registers and links of two bytes, values of five.
+    // The longest image: as many points as there can be, K and registers of two bytes, numbers of five; and the longest of pairs,
+    // with links of two.
     let all = MOST_CELLS as u32;
-    let registers = (0..16).map(|_| 128);
-    let numbers = [all].into_iter().chain(registers).chain((1..=all).flat_map(|i| [all - i / 2, all, u32::MAX - i]));
-    let mut longest: Vec<u8> = numbers.flat_map(groups).collect();
-    assert_eq!(longest.len(), 34 + 9 * MOST_CELLS);
+    let longest_of = |cell: fn(u32) -> [u32; 4]| -> Vec<u8> {
+        let numbers = [all].into_iter().chain([128; 16]).chain((1..=all).flat_map(cell));
+        numbers.flat_map(groups).collect()
+    };
+    let pairs = longest_of(|i| [0, MOST_CELLS as u32 - i / 2, MOST_CELLS as u32, u32::MAX - i]);
+    assert_eq!(pairs.len(), 34 + 10 * MOST_CELLS);
+    let output = fed(&folder.join("draw.out"), &pairs);
+    let (pool, _) = parse(&pairs, MOST_CELLS).expect("the model reads it");
+    assert_eq!((text(&output.stdout), output.stderr.len()), (graph(&pool, all), 0));
+    let mut longest = longest_of(|i| [1, u32::MAX, u32::MAX - i, 1 << 28]);
+    assert_eq!(longest.len(), 34 + 16 * MOST_CELLS);
     let output = fed(&folder.join("draw.out"), &longest);
     let (pool, _) = parse(&longest, MOST_CELLS).expect("the model reads it");
     assert_eq!(text(&output.stdout), graph(&pool, all));
     assert!(output.stderr.is_empty() && output.status.success());
     for behind in [1, 100_000] {
-        longest.resize(34 + 9 * MOST_CELLS + behind, 0);
+        longest.resize(34 + 16 * MOST_CELLS + behind, 0);
         let output = fed(&folder.join("draw.out"), &longest);
         assert_eq!(text(&output.stdout), graph(&pool, all));
         assert_eq!(text(&output.stderr), "draw: there are bytes behind the image\n");
         assert!(output.status.success());
     }
-    let refused: [(&[u8], &str); 2] = [
+    let kind = [[1].as_slice(), &[0; 16], &[2]].concat();
+    let refused: [(&[u8], &str); 3] = [
         (&[], "draw: refused with 6: the image is cut off\n"),
         (&[0x85, 0x00], "draw: refused with 12: a number of the image is padded\n"),
+        (&kind, "draw: refused with 14: a kind of the image is unknown\n"),
     ];
     for (bytes, told) in refused {
         let output = fed(&folder.join("draw.out"), bytes);

@@ -5,7 +5,7 @@ use cellpool_compare::checks::{self, Comparison};
 use cellpool_compare::generate::{self, Shape};
 use cellpool_compare::model::{groups, parse, Cell, Limited, Model, Pool};
 use cellpool_compare::random::{rounds, seed, Random};
-use cellpool_compare::{Interface, Tally, MOST_CELLS, USED};
+use cellpool_compare::{is_used, Call, Interface, Tally, CELL, HEADER, MOST_CELLS, PAIR, POINT};
 use std::cell::RefCell;
 use std::cmp::Ordering::{Equal, Greater, Less};
 use std::collections::{BTreeMap, BTreeSet};
@@ -69,8 +69,9 @@ fn the_depth_first_order_is_that_of_the_recursive_procedure() {
     fn visit(pool: &Pool, link: u32, order: &mut Vec<u32>) {
         if link != 0 && !order.contains(&link) {
             order.push(link);
-            visit(pool, pool.cell(link).left, order);
-            visit(pool, pool.cell(link).right, order);
+            let (left, right) = pool.cell(link).links();
+            visit(pool, left, order);
+            visit(pool, right, order);
         }
     }
     for pool in well_formed_pools(&mut random(2), rounds(5_000)) {
@@ -88,8 +89,8 @@ fn told_apart(pool: &Pool) -> Pool {
     let mut pool = pool.clone();
     for place in 0..pool.cells.len() {
         let Cell { state, left, right, .. } = pool.cells[place];
-        if state == USED && left == right && left != 0 {
-            pool.cells.push(Cell { state: USED, left: 0, right: 0, value: 0 });
+        if state == PAIR && left == right && left != 0 {
+            pool.cells.push(Cell { state: PAIR, left: 0, right: 0, value: 0 });
             pool.cells[place].right = pool.n();
         }
     }
@@ -133,7 +134,7 @@ fn the_worst_case_has_the_links_that_are_named() {
         assert!(pool.well_formed());
         assert_eq!((pool.cells.len(), pool.head, pool.registers[0]), (n, 0, 1));
         assert_eq!(pool.registers[1..], [0; 15]);
-        assert!(pool.cells.iter().all(|cell| (cell.state, cell.value) == (USED, 0)));
+        assert!(pool.cells.iter().all(|cell| (cell.state, cell.value) == (PAIR, 0)));
         // A link leads to each cell but the first, and no other link leads to a cell: to an even one the right link of the cell
         // before it, to an odd one the left link of the odd cell before it.
         for i in 2..=n as u32 {
@@ -179,7 +180,7 @@ fn every_graph(pool: &mut Pool, chosen: &mut Vec<u32>, show: &mut impl FnMut(&Po
 
 /// A pool of `n` used cells without links, with these registers.
 fn without_links(n: u32, registers: &[u32]) -> Pool {
-    let cell = Cell { state: USED, left: 0, right: 0, value: 0 };
+    let cell = Cell { state: PAIR, left: 0, right: 0, value: 0 };
     let mut pool = Pool { head: 0, registers: [0; 16], cells: vec![cell; n as usize] };
     pool.registers[..registers.len()].copy_from_slice(registers);
     pool
@@ -274,8 +275,8 @@ fn a_saved_image_loads_as_the_pool_that_saves_the_same_image() {
 #[test]
 fn a_number_is_read_in_the_one_form_in_which_it_is_written() {
     let mut random = random(6);
-    // An image of one cell, up to its value.
-    let front = [[1].as_slice(), &[0; 18]].concat();
+    // An image of one pair, up to its value.
+    let front = [[1].as_slice(), &[0; 19]].concat();
     let value = |written: &[u8]| match parse(&[&front, written].concat(), 1) {
         Ok((pool, end)) if end == front.len() + written.len() => Some(pool.cell(1).value),
         _ => None,
@@ -308,7 +309,7 @@ fn an_image_is_saved_as_it_was_read_exactly_if_its_cells_are_in_the_order_of_the
         let n = random.between(1, 3);
         let bytes = generate::image(&mut random, n);
         let Ok((pool, end)) = parse(&bytes, n) else { continue };
-        let k = pool.cells.iter().filter(|cell| cell.state == USED).count() as u32;
+        let k = pool.cells.iter().filter(|cell| is_used(cell.state)).count() as u32;
         let in_order = pool.depth_first() == (1..=k).collect::<Vec<u32>>();
         assert_eq!(pool.image() == bytes[..end], in_order, "{bytes:02X?}");
         *(if in_order { &mut same } else { &mut other }) += 1;
@@ -340,6 +341,59 @@ fn the_percent_is_the_nearest_and_a_half_goes_to_the_even_one() {
 #[test]
 fn the_model_answers_as_the_reference_model() {
     checks::against_reference(&Model, &mut random(5), rounds(10_000)).unwrap();
+}
+
+/// Points come at every rate, from none to all: how many of ten cells of a pool, a list of calls, a script or an image, where it has
+/// at least twenty.
+#[test]
+fn points_come_at_every_rate() {
+    let mut random = random(10);
+    let in_words = |words: &[u32]| {
+        let states = || words.get(HEADER..).unwrap_or_default().chunks_exact(CELL).map(|cell| cell[0]);
+        (states().filter(|&state| state == PAIR).count(), states().filter(|&state| state == POINT).count())
+    };
+    let in_image = |image: &[u8]| {
+        let pool = parse(image, MOST_CELLS).map(|(pool, _)| pool.cells).unwrap_or_default();
+        let count = |state: u32| pool.iter().filter(|cell| cell.state == state).count();
+        (count(PAIR), count(POINT))
+    };
+    type Source<'a> = (&'a str, &'a dyn Fn(&mut Random) -> (usize, usize));
+    let sources: [Source; 6] = [
+        ("well-formed pools", &|random| in_words(&generate::well_formed(random, 60))),
+        ("branches", &|random| in_words(&generate::branches(random, 80))),
+        ("damaged pools", &|random| {
+            let mut words = generate::well_formed(random, 60);
+            generate::damage(random, &mut words);
+            in_words(&words)
+        }),
+        ("lists of calls", &|random| {
+            let calls = generate::calls(random, 120);
+            let pairs = calls.iter().filter(|call| matches!(call, Call::New { .. })).count();
+            (pairs, calls.iter().filter(|call| matches!(call, Call::Point { .. })).count())
+        }),
+        ("scripts", &|random| {
+            let script = String::from_utf8_lossy(&generate::script(random, 120)).into_owned();
+            let count = |letter: &str| script.lines().filter(|line| line.starts_with(letter)).count();
+            (count("n "), count("p "))
+        }),
+        ("images", &|random| in_image(&generate::image(random, 60))),
+    ];
+    for (name, source) in sources {
+        // None, more than that up to each tenth, and all.
+        let mut rates = [0; 12];
+        for _ in 0..rounds(3_000) {
+            let (pairs, points) = source(&mut random);
+            match (pairs, points) {
+                _ if pairs + points < 20 => {}
+                (_, 0) => rates[0] += 1,
+                (0, _) => rates[11] += 1,
+                _ => rates[1 + 10 * points / (pairs + points)] += 1,
+            }
+        }
+        // In branches, only the leaves are points.
+        let most = if name == "branches" { 5 } else { 12 };
+        assert!(rates[..most].iter().all(|&count| count >= 10), "{name}: {rates:?}");
+    }
 }
 
 /// The name of a function, and the kind of an accepted answer or the cause of a refusal.
@@ -379,6 +433,32 @@ impl Counting {
     }
 }
 
+/// The kinds of the used cells of a pool. They are those that are kept, where it has just been collected.
+const KINDS: [&str; 4] = ["no cell", "pairs", "points", "pairs and points"];
+
+fn kinds(words: &[u32]) -> &'static str {
+    let states = || words[HEADER..].chunks_exact(CELL).map(|cell| cell[0]);
+    let (pairs, points) = (states().any(|state| state == PAIR), states().any(|state| state == POINT));
+    KINDS[usize::from(pairs) + 2 * usize::from(points)]
+}
+
+/// The kind of the cell that a register holds, before a call that may change it.
+const HELD: [&str; 3] = ["nil", "a pair", "a point"];
+
+fn held(words: &[u32], register: u32) -> &'static str {
+    let link = words.get(2 + register.min(15) as usize).copied().unwrap_or(0) as usize;
+    let at = HEADER + CELL * link.saturating_sub(1);
+    match words.get(at) {
+        Some(&POINT) if link > 0 => HELD[2],
+        Some(_) if link > 0 => HELD[1],
+        _ => HELD[0],
+    }
+}
+
+/// What the stack marker meets at a point, in hand or in a check: whether its numbers are those of unmarked cells, which it would
+/// mark if it took them for links.
+const POINTS: [&str; 3] = ["x that of an unmarked cell", "y that of an unmarked cell", "neither"];
+
 /// What may become of entries in checks, and what these may come to. The first three need several registers, or no word: the pools of
 /// few cells do not meet them.
 const CHECKS: [&str; 17] = [
@@ -401,13 +481,22 @@ const CHECKS: [&str; 17] = [
     "a check in vain after others",
 ];
 
-/// What becomes of entries in the checks of the stack marker with so many words, and what the checks come to.
-fn checked(pool: &Pool, words: usize) -> BTreeSet<&'static str> {
-    let mut met = BTreeSet::new();
+/// What becomes of entries in the checks of the stack marker with so many words, and what the checks come to; and what the marker
+/// meets at points.
+fn checked(pool: &Pool, words: usize) -> (BTreeSet<&'static str>, BTreeSet<&'static str>) {
+    let (mut met, mut at_points) = (BTreeSet::new(), BTreeSet::new());
     let mut registers = BTreeSet::new();
     let Limited { enough, checks, .. } = pool.mark_with_words(
         words,
-        |_, _| (),
+        |cell, marked| {
+            let Cell { state, left, right, .. } = *pool.cell(cell);
+            if state == POINT {
+                let unmarked = |number: u32| number <= pool.n() && !marked(number) && is_used(pool.cell(number).state);
+                at_points.extend(unmarked(left).then_some(POINTS[0]));
+                at_points.extend(unmarked(right).then_some(POINTS[1]));
+                at_points.extend((!unmarked(left) && !unmarked(right)).then_some(POINTS[2]));
+            }
+        },
         |check| {
             registers.insert(check.register);
             for walk in &check.walks {
@@ -449,7 +538,7 @@ fn checked(pool: &Pool, words: usize) -> BTreeSet<&'static str> {
     if registers.len() > 1 {
         met.insert(if enough { "checks from several registers" } else { "the last register's check in vain" });
     }
-    met
+    (met, at_points)
 }
 
 /// The links that the stack marker meets without a limit, up to where it holds more entries than so many words, and whether they
@@ -465,7 +554,7 @@ fn met(pool: &Pool, words: usize) -> BTreeSet<&'static str> {
             return;
         }
         from[hand.cell as usize] = Some(hand.register);
-        let Cell { left, right, .. } = *pool.cell(hand.cell);
+        let (left, right) = pool.cell(hand.cell).links();
         met.insert(match hand.unmarked {
             (true, true) if left != right => "two unmarked links",
             (true, true) if hand.entries.len() < words => "equal unmarked links, words left",
@@ -499,7 +588,8 @@ impl Interface for Counting {
         self.count_on("fresh", words.len(), Model.fresh(words), done)
     }
     fn copy(&self, words: &mut [u32], r: u32, a: u32) -> Result<(), u32> {
-        self.count_on("copy", words.len(), Model.copy(words, r, a), done)
+        let copied = held(words, a);
+        self.count_on("copy", words.len(), Model.copy(words, r, a), |_| copied)
     }
     fn clear(&self, words: &mut [u32], r: u32) -> Result<(), u32> {
         self.count_on("clear", words.len(), Model.clear(words, r), done)
@@ -508,23 +598,39 @@ impl Interface for Counting {
         let kind = |visits: &u32| if *visits > 0 { "collected" } else { "done" };
         self.count_on("new", words.len(), Model.new_cell(words, r, a, b, v), kind)
     }
+    fn point(&self, words: &mut [u32], r: u32, v: u32, x: u32, y: u32) -> Result<u32, u32> {
+        let kind = |visits: &u32| if *visits > 0 { "collected" } else { "done" };
+        self.count_on("point", words.len(), Model.point(words, r, v, x, y), kind)
+    }
     fn left(&self, words: &mut [u32], r: u32, a: u32) -> Result<(), u32> {
-        self.count_on("left", words.len(), Model.left(words, r, a), done)
+        let answer = Model.left(words, r, a);
+        self.count_on("left", words.len(), answer, |_| held(words, r))
     }
     fn right(&self, words: &mut [u32], r: u32, a: u32) -> Result<(), u32> {
-        self.count_on("right", words.len(), Model.right(words, r, a), done)
+        let answer = Model.right(words, r, a);
+        self.count_on("right", words.len(), answer, |_| held(words, r))
     }
     fn setleft(&self, words: &mut [u32], a: u32, b: u32) -> Result<(), u32> {
-        self.count_on("setleft", words.len(), Model.setleft(words, a, b), done)
+        let to = held(words, b);
+        self.count_on("setleft", words.len(), Model.setleft(words, a, b), |_| to)
     }
     fn setright(&self, words: &mut [u32], a: u32, b: u32) -> Result<(), u32> {
-        self.count_on("setright", words.len(), Model.setright(words, a, b), done)
+        let to = held(words, b);
+        self.count_on("setright", words.len(), Model.setright(words, a, b), |_| to)
     }
     fn setvalue(&self, words: &mut [u32], a: u32, v: u32) -> Result<(), u32> {
-        self.count_on("setvalue", words.len(), Model.setvalue(words, a, v), done)
+        let of = held(words, a);
+        self.count_on("setvalue", words.len(), Model.setvalue(words, a, v), |_| of)
     }
     fn value(&self, words: &mut [u32], a: u32) -> Result<u32, u32> {
-        self.count_on("value", words.len(), Model.value(words, a), done)
+        let of = held(words, a);
+        self.count_on("value", words.len(), Model.value(words, a), |_| of)
+    }
+    fn east(&self, words: &mut [u32], a: u32) -> Result<u32, u32> {
+        self.count_on("east", words.len(), Model.east(words, a), done)
+    }
+    fn north(&self, words: &mut [u32], a: u32) -> Result<u32, u32> {
+        self.count_on("north", words.len(), Model.north(words, a), done)
     }
     fn same(&self, words: &mut [u32], a: u32, b: u32) -> Result<u32, u32> {
         let held = words.get(2 + a as usize).copied();
@@ -537,7 +643,8 @@ impl Interface for Counting {
         self.count_on("same", words.len(), Model.same(words, a, b), kind)
     }
     fn collect(&self, words: &mut [u32]) -> Result<(u32, u32), u32> {
-        self.count_on("collect", words.len(), Model.collect(words), done)
+        let answer = Model.collect(words);
+        self.count_on("collect", words.len(), answer, |_| kinds(words))
     }
     fn collect_tally(&self, words: &mut [u32], tally: &mut Tally) -> Result<(u32, u32), u32> {
         let before = *tally;
@@ -556,8 +663,12 @@ impl Interface for Counting {
             for kind in met(&pool, stack.len()) {
                 *self.reached.borrow_mut().entry(("stack marker", Ok(kind))).or_default() += 1;
             }
-            for kind in checked(&pool, stack.len()) {
+            let (checks, points) = checked(&pool, stack.len());
+            for kind in checks {
                 *self.reached.borrow_mut().entry(("stack check", Ok(kind))).or_default() += 1;
+            }
+            for kind in points {
+                *self.reached.borrow_mut().entry(("stack marker at a point", Ok(kind))).or_default() += 1;
             }
         }
         let answer = Model.collect_stack(words, stack);
@@ -576,14 +687,18 @@ impl Interface for Counting {
         self.count_on("worst case", words.len(), answer, kind)
     }
     fn collect_recursive(&self, words: &mut [u32]) -> Result<(u32, u32), u32> {
-        self.count_on("recursive", words.len(), Model.collect_recursive(words), done)
+        let answer = Model.collect_recursive(words);
+        self.count_on("recursive", words.len(), answer, |_| kinds(words))
     }
     fn save(&self, words: &mut [u32], scratch: &mut [u32], out: &mut [u8]) -> Result<usize, u32> {
-        self.count_on("save", words.len(), Model.save(words, scratch, out), done)
+        // The kinds of the cells in the image, which are those that are reached.
+        let mut collected = words.to_vec();
+        let _: Result<_, u32> = Model.collect(&mut collected);
+        self.count_on("save", words.len(), Model.save(words, scratch, out), |_| kinds(&collected))
     }
     fn load(&self, words: &mut [u32], bytes: &[u8]) -> (Result<(), u32>, usize) {
         let (answer, rest) = Model.load(words, bytes);
-        let kind = |_: &()| if rest < bytes.len() { "bytes behind" } else { "done" };
+        let kind = |_: &()| if rest < bytes.len() { "bytes behind" } else { kinds(words) };
         (self.count_on("load", words.len(), answer, kind), rest)
     }
     fn check_image(&self, bytes: &[u8], n: u32) -> Result<(), u32> {
@@ -620,43 +735,47 @@ fn answers() -> Vec<(&'static str, Vec<&'static str>, Vec<Cause>)> {
         links.chain([State, Several]).collect::<Vec<_>>()
     };
     let collect = || [size(), not_well_formed()].concat();
-    let follow = || [size(), numbers(&[R, A]), read(&[A]), vec![Nil], LINKS.map(LinkRead).to_vec()].concat();
-    let relink = || [size(), numbers(&[A, B]), read(&[A, B]), vec![Nil]].concat();
+    let follow = || [size(), numbers(&[R, A]), read(&[A]), vec![Nil, OtherKind], LINKS.map(LinkRead).to_vec()].concat();
+    let relink = || [size(), numbers(&[A, B]), read(&[A, B]), vec![Nil, OtherKind]].concat();
     let held = || [size(), numbers(&[A]), read(&[A]), vec![Nil]].concat();
+    let coordinate = || [held(), vec![OtherKind]].concat();
+    let allocate = || [not_well_formed(), vec![HeadAboveN, HeadNotFree, LeftOfHead, Full]].concat();
     let image = || {
-        let places = [Place::K, Place::Register, Place::Left, Place::Right, Place::Value];
+        let places = [
+            Place::K,
+            Place::Register,
+            Place::Kind,
+            Place::Left,
+            Place::Right,
+            Place::PairValue,
+            Place::X,
+            Place::Y,
+            Place::PointValue,
+        ];
         let ends = places.into_iter().flat_map(|place| [Truncated(place), Wide(place), Long(place), Padded(place)]);
         let links = [Place::Register, Place::Left, Place::Right].map(AboveK);
-        ends.chain([MoreThanN]).chain(links).collect::<Vec<_>>()
+        ends.chain([MoreThanN, KindNumber]).chain(links).collect::<Vec<_>>()
     };
     vec![
         ("fresh", vec!["done"], length()),
-        ("copy", vec!["done"], [size(), numbers(&[R, A]), read(&[A])].concat()),
+        ("copy", HELD.to_vec(), [size(), numbers(&[R, A]), read(&[A])].concat()),
         ("clear", vec!["done"], [size(), numbers(&[R])].concat()),
-        (
-            "new",
-            vec!["done", "collected"],
-            [
-                size(),
-                numbers(&[R, A, B]),
-                read(&[A, B]),
-                not_well_formed(),
-                vec![HeadAboveN, HeadNotFree, LeftOfHead, Full],
-            ]
-            .concat(),
-        ),
-        ("left", vec!["done"], follow()),
-        ("right", vec!["done"], follow()),
-        ("setleft", vec!["done"], relink()),
-        ("setright", vec!["done"], relink()),
-        ("setvalue", vec!["done"], held()),
-        ("value", vec!["done"], held()),
+        ("new", vec!["done", "collected"], [size(), numbers(&[R, A, B]), read(&[A, B]), allocate()].concat()),
+        ("point", vec!["done", "collected"], [size(), numbers(&[R]), allocate()].concat()),
+        ("left", HELD.to_vec(), follow()),
+        ("right", HELD.to_vec(), follow()),
+        ("setleft", HELD.to_vec(), relink()),
+        ("setright", HELD.to_vec(), relink()),
+        ("setvalue", HELD[1..].to_vec(), held()),
+        ("value", HELD[1..].to_vec(), held()),
+        ("east", vec!["done"], coordinate()),
+        ("north", vec!["done"], coordinate()),
         (
             "same",
             vec!["different", "both nil", "one register", "one cell"],
             [size(), numbers(&[A, B]), read(&[A, B])].concat(),
         ),
-        ("collect", vec!["done"], collect()),
+        ("collect", KINDS.to_vec(), collect()),
         ("tally", vec!["done", "collections stop", "visits stop", "both stop"], collect()),
         ("stack", vec!["done", "enough for many cells", "enough with checks", "too short"], collect()),
         (
@@ -677,10 +796,11 @@ fn answers() -> Vec<(&'static str, Vec<&'static str>, Vec<Cause>)> {
             vec![],
         ),
         ("stack check", CHECKS.to_vec(), vec![]),
+        ("stack marker at a point", POINTS.to_vec(), vec![]),
         ("worst case", vec!["done", "word 0 was another number"], length()),
-        ("recursive", vec!["done"], [collect(), vec![TooLarge]].concat()),
-        ("save", vec!["done"], [collect(), vec![Scratch, Output]].concat()),
-        ("load", vec!["done", "bytes behind"], [length(), image()].concat()),
+        ("recursive", KINDS.to_vec(), [collect(), vec![TooLarge]].concat()),
+        ("save", KINDS.to_vec(), [collect(), vec![Scratch, Output]].concat()),
+        ("load", [KINDS.as_slice(), &["bytes behind"]].concat(), [length(), image()].concat()),
         ("check", vec!["done"], [vec![NoCells, ManyCells], image()].concat()),
         (
             "occupancy",
@@ -701,7 +821,8 @@ fn the_random_inputs_reach_every_answer_and_every_cause_of_every_function() {
     }
     for function in answers().iter().map(|(name, ..)| *name) {
         let counts = [0, 1, 2, 3].map(|left| counting.left_over.borrow().get(&(function, left)).copied().unwrap_or(0));
-        let takes_words = !["stack marker", "stack check", "check", "occupancy"].contains(&function);
+        let takes_words =
+            !["stack marker", "stack check", "stack marker at a point", "check", "occupancy"].contains(&function);
         assert!(counts.iter().all(|&count| (count >= 6) == takes_words), "{function}: {counts:?} by words left over");
     }
     let mut counts = counting.reached.into_inner();

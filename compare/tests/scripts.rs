@@ -24,14 +24,14 @@ const DOCUMENT: (&str, &str) = (
 );
 
 /// Scripts and replies by hand, line ends written as `/`.
-const BY_HAND: [(&[u8], &str); 38] = [
+const BY_HAND: [(&[u8], &str); 47] = [
     (b"", ""),
     (b"/", "bad/"),
     (b"//f 1//g//", "bad/bad/ok/bad/ok 0 0/bad/"),
     // Before an accepted f.
     (
-        b"g/v 0/n 0 0 0 0/z 99/c 0 0/l 0 0/r 0 0/L 0 0/R 0 0/V 0 0/s 0 0/",
-        "no 1/no 1/no 1/no 1/no 1/no 1/no 1/no 1/no 1/no 1/no 1/",
+        b"g/v 0/n 0 0 0 0/z 99/c 0 0/l 0 0/r 0 0/L 0 0/R 0 0/V 0 0/s 0 0/p 99 0 0 0/e 0/o 0/",
+        "no 1/no 1/no 1/no 1/no 1/no 1/no 1/no 1/no 1/no 1/no 1/no 1/no 1/no 1/",
     ),
     (b"q/g /f 0/f 4001/f 4294967295/f 4294967296/g/f 4000/g", "bad/bad/no 1/no 1/no 1/bad/no 1/ok/ok 0 0/"),
     // A refused f keeps the pool, an accepted one does not.
@@ -56,14 +56,16 @@ const BY_HAND: [(&[u8], &str); 38] = [
     (b"f 1/v +0/v -0/v 0x0/v 0./v a/v 0a/v :/v 0:/V 0 1,0", "ok/bad/bad/bad/bad/bad/bad/bad/bad/bad/"),
     // Letters.
     (
-        b"f 1/F 1/G/N 0 0 0 1/Z 0/C 0 0/S 0 0/gg/g g/vv 0/0/0 0/a 0/e 0 0",
-        "ok/bad/bad/bad/bad/bad/bad/bad/bad/bad/bad/bad/bad/bad/",
+        b"f 1/F 1/G/N 0 0 0 1/Z 0/C 0 0/S 0 0/gg/g g/vv 0/0/0 0/a 0/x 0/y 0",
+        "ok/bad/bad/bad/bad/bad/bad/bad/bad/bad/bad/bad/bad/bad/bad/",
     ),
+    (b"f 1/P 0 1 2 3/E 0/O 0/pp 0 1 2 3/p 0 1 2 3/e 0/o 0/v 0", "ok/bad/bad/bad/bad/ok/ok 2/ok 3/ok 1/"),
     // How many numbers.
     (b"f 1/f/f 1 1/g 0/v/v 0 0/z/z 0 0", "ok/bad/bad/bad/bad/bad/bad/bad/"),
     (b"f 1/c/c 0/c 0 0 0/l 0/l 0 0 0/r 0/r 0 0 0/s 0/s 0 0 0", "ok/bad/bad/bad/bad/bad/bad/bad/bad/bad/"),
     (b"f 1/L 0/L 0 0 0/R 0/R 0 0 0/V 0/V 0 0 0", "ok/bad/bad/bad/bad/bad/bad/"),
     (b"f 1/n/n 0/n 0 0/n 0 0 0/n 0 0 0 1 0/n 0 0 0 1 0 0/g", "ok/bad/bad/bad/bad/bad/bad/ok 0 0/"),
+    (b"f 1/p/p 0/p 0 0/p 0 0 0/p 0 0 0 0 0/g/e/e 0 0/o/o 0 0", "ok/bad/bad/bad/bad/bad/ok 0 0/bad/bad/bad/bad/"),
     // Register numbers.
     (b"f 1/n 16 0 0 1/n 0 16 0 1/n 0 0 16 1/n 0 0 0 1/v 0", "ok/no 2/no 2/no 2/ok/ok 1/"),
     (b"f 1/c 16 0/c 0 16/z 16/l 16 0/l 0 16/r 16 0/r 0 16/v 16", "ok/no 2/no 2/no 2/no 2/no 2/no 2/no 2/no 2/"),
@@ -71,7 +73,19 @@ const BY_HAND: [(&[u8], &str); 38] = [
         b"f 1/L 16 0/L 0 16/R 16 0/R 0 16/V 16 0/s 16 0/s 0 16/z 4294967295",
         "ok/no 2/no 2/no 2/no 2/no 2/no 2/no 2/no 2/",
     ),
+    // Of a point only the first number is that of a register.
+    (
+        b"f 1/p 16 0 0 0/e 16/o 16/p 15 16 17 4294967295/v 15/e 15/o 15",
+        "ok/no 2/no 2/no 2/ok/ok 16/ok 17/ok 4294967295/",
+    ),
+    (b"f 1/p 0 0 0 4294967296/p 0 0 4294967296 0/g", "ok/bad/bad/ok 0 0/"),
     // Nil where a cell is needed.
+    (b"f 1/e 0/o 0/p 0 1 2 3/e 0/o 1/e 1", "ok/no 4/no 4/ok/ok 2/no 4/no 4/"),
+    // A cell of the other kind.
+    (
+        b"f 2/p 0 1 2 3/n 1 0 0 4/l 2 0/r 2 0/L 0 1/R 0 1/e 1/o 1/V 0 5/v 0/l 2 1/s 0 2/g",
+        "ok/ok/ok/no 13/no 13/no 13/no 13/no 13/no 13/ok/ok 5/ok/ok 1/ok 2 4/",
+    ),
     (b"f 1/l 0 0/r 0 0/v 0/L 0 0/R 0 0/V 0 1/s 0 1/c 0 1", "ok/no 4/no 4/no 4/no 4/no 4/no 4/ok 1/ok/"),
     // Every call.
     (b"f 3/n 0 15 15 7/n 1 0 15 8/l 2 1/s 2 0/r 2 1/s 2 15", "ok/ok/ok/ok/ok 1/ok/ok 1/"),
@@ -79,6 +93,14 @@ const BY_HAND: [(&[u8], &str); 38] = [
     (b"f 3/n 0 15 15 7/n 1 15 15 8/L 1 0/l 2 1/v 2/r 2 1/v 2", "ok/ok/ok/ok/ok/ok 7/ok/no 4/"),
     (b"f 3/n 0 15 15 7/n 1 15 15 8/R 1 0/r 2 1/v 2/l 2 1/v 2", "ok/ok/ok/ok/ok/ok 7/ok/no 4/"),
     (b"f 3/n 0 15 15 7/c 9 0/V 9 12/v 0/s 0 9/z 0/s 0 9/v 9", "ok/ok/ok/ok/ok 12/ok 1/ok/ok 0/ok 12/"),
+    // Points: the visits of one that collects are not printed; g counts three for a pair and one for a point.
+    (b"f 2/p 0 7 1 2/p 0 8 3 4/p 0 9 5 6/v 0/e 0/o 0/g/n 1 0 0 1/g", "ok/ok/ok/ok/ok 9/ok 5/ok 6/ok 1 1/ok/ok 2 4/"),
+    (b"f 2/p 0 7 2 2/p 1 8 1 1/p 2 9 0 0/z 0/p 2 9 0 0/g/e 1/o 2", "ok/ok/ok/no 5/ok/ok/ok 2 2/ok 1/ok 0/"),
+    // A strip with a turn point: the cell that register 0 gave up is found through the pair.
+    (
+        b"f 3/p 0 150 1200 3400/n 1 0 15 900/z 0/l 2 1/e 2/o 2/v 2/p 2 160 1 1/L 1 2/g/e 2/z 1/g",
+        "ok/ok/ok/ok/ok/ok 1200/ok 3400/ok 150/ok/ok/ok 2 4/ok 1/ok/ok 1 1/",
+    ),
     // The visits of new are not printed; r may be a or b.
     (b"f 2/n 0 1 1 1/n 0 0 0 2/n 0 0 0 3/z 1/v 0", "ok/ok/ok/no 5/ok/ok 2/"),
     (b"f 2/n 0 1 1 1/n 0 1 1 2/n 0 0 0 3/v 0/l 0 0/v 0/g", "ok/ok/ok/ok/ok 3/ok/ok 2/ok 1 3/"),
@@ -119,7 +141,7 @@ fn random_scripts_reach_every_reply() {
         }
     }
     // The pools of a script are never malformed: no 3.
-    let kinds = ["bad", "no 1", "no 2", "no 4", "no 5", "ok and 0", "ok and 1", "ok and 2"];
+    let kinds = ["bad", "no 1", "no 13", "no 2", "no 4", "no 5", "ok and 0", "ok and 1", "ok and 2"];
     assert_eq!(found.keys().map(String::as_str).collect::<Vec<_>>(), kinds);
     assert!(found.values().all(|&count| count >= 20), "{found:?}");
 }
@@ -214,7 +236,12 @@ mod programs {
     /// A line that stands across the end of a buffer of 65,536 bytes, at each of its places.
     #[test]
     fn on_lines_in_two_reads() {
-        for line in ["n 2 0 1 4294967295\nv 2\n", "g\ng\n", "n 1 0 0 18446744073709551616\nv 0 \nq\n"] {
+        for line in [
+            "n 2 0 1 4294967295\nv 2\n",
+            "p 2 7 4294967295 12\no 2\n",
+            "g\ng\n",
+            "n 1 0 0 18446744073709551616\nv 0 \nq\n",
+        ] {
             for before in 0..=line.len() {
                 let filler = "x".repeat(65_536 - "f 3\nn 0 0 0 12\n".len() - 1 - before);
                 let script = format!("f 3\nn 0 0 0 12\n{filler}\n{line}");
@@ -241,11 +268,17 @@ mod programs {
         let script = format!("f 1000\n{chain}n 0 0 0 0\n{}", "g\n".repeat(20_000));
         let replies = format!("ok\n{}no 5\n{}", "ok\n".repeat(1_000), "ok 1000 3000\n".repeat(20_000));
         compare("replies.txt", script.as_bytes(), &replies);
+        // The same with a point to the right of each cell of a chain: 3 * 500 + 500 visits.
+        let chain = (0..500).map(|v| format!("p 1 {v} 1 2\nn 0 0 1 {v}\n")).collect::<String>();
+        let script = format!("f 1000\n{chain}p 2 0 0 0\n{}", "g\no 1\n".repeat(1_000));
+        let replies = format!("ok\n{}no 5\n{}", "ok\n".repeat(1_000), "ok 1000 2000\nok 2\n".repeat(1_000));
+        compare("points.txt", script.as_bytes(), &replies);
     }
 
     #[test]
     fn on_pools_of_every_size() {
-        let lines = (0..=4_003).map(|n| format!("f {n}\nn 0 1 1 {n}\nn 1 0 0 7\nv 0\nl 2 1\ns 0 2\ng\n"));
+        let lines = (0..=4_003)
+            .map(|n| format!("f {n}\nn 0 1 1 {n}\nn 1 0 0 7\nv 0\nl 2 1\ns 0 2\ng\np 3 {n} 1 2\ne 3\no 3\ng\n"));
         let script = lines.collect::<String>();
         compare("sizes.txt", script.as_bytes(), &replies(&PlainRust, script.as_bytes()));
     }

@@ -2,14 +2,16 @@
 
 use cellpool_compare::model::{Model, Pool};
 use cellpool_compare::refusal::{MALFORMED, TOO_LARGE};
-use cellpool_compare::{cell_at, words_for, Interface, FREE, HEADER, MOST_RECURSIVE, USED};
+use cellpool_compare::{cell_at, words_for, Interface, FREE, HEADER, MOST_RECURSIVE, PAIR, POINT};
 use std::fmt::Write;
 
 const SEEDS: u32 = 2184;
-/// Counters of the numbers for a word of the pool, of those for the damage, and of the one for the words behind the cells.
+/// Counters of the numbers for a word of the pool, of those for the damage, of the one for the words behind the cells, of the one for the rate of points, and of those for the kinds.
 const WORDS: u32 = 4096;
 const DAMAGE: u32 = 9000;
 const LEFTOVER: u32 = 9002;
+const RATE: u32 = 9003;
+const KIND: u32 = 30000;
 
 fn mix(x: u32) -> u32 {
     let y = x.wrapping_mul(0x9E37_79B9);
@@ -40,6 +42,16 @@ impl Generator {
 
     fn is_used(&self, i: u32) -> bool {
         draw(self.seed, i) % 8 >= self.seed / 8 % 4
+    }
+
+    /// Of sixteen used cells none, 1, 2, 4, 8 or all are points.
+    fn is_point(&self, i: u32) -> bool {
+        const RATES: [u32; 8] = [0, 0, 0, 1, 2, 4, 8, 16];
+        draw(self.seed, KIND + i) % 16 < RATES[draw(self.seed, RATE) as usize % 8]
+    }
+
+    fn is_pair(&self, i: u32) -> bool {
+        self.is_used(i) && !self.is_point(i)
     }
 
     fn valid(&self, link: u32) -> u32 {
@@ -91,10 +103,10 @@ impl Generator {
         for i in 1..=self.n {
             let place = cell_at(i);
             let (left, right, value) = (random[place + 1], random[place + 2], random[place + 3]);
-            if self.is_used(i) {
-                words.extend([USED, self.link(i, 1, left), self.link(i, 2, right), value]);
+            if self.is_pair(i) {
+                words.extend([PAIR, self.link(i, 1, left), self.link(i, 2, right), value]);
             } else {
-                words.extend([FREE, left, right, value]);
+                words.extend([if self.is_used(i) { POINT } else { FREE }, left, right, value]);
             }
         }
         words.extend(&random[words.len()..]);
@@ -107,11 +119,11 @@ impl Generator {
         let i = self.cell(draw(self.seed, DAMAGE + 1));
         let (register, part) = (2 + (x / 3 % 16) as usize, (x / 3 % 2) as usize);
         let past = self.n + 5 + x % 1000;
-        match (x % 3, self.is_used(i)) {
-            (0, true) => words[register] = past,
-            (0, false) => words[register] = i,
-            (1, true) => words[cell_at(i) + 1 + part] = past,
-            (1, false) => words[cell_at(i)] = past,
+        match x % 3 {
+            0 if self.is_used(i) => words[register] = past,
+            0 => words[register] = i,
+            1 if self.is_pair(i) => words[cell_at(i) + 1 + part] = past,
+            1 => words[cell_at(i)] = past,
             _ => words[cell_at(i)] = 1 + x / 3 % 3,
         }
         words
@@ -134,7 +146,7 @@ fn answers(words: &[u32], n: usize) -> [Result<(u32, u32, u32), u32>; 5] {
 
 #[test]
 fn the_program_prints_the_totals_of_the_model() {
-    let (mut pools, mut cells, mut kept_cells, mut leftover) = (0, 0, 0, 0);
+    let (mut pools, mut cells, mut kept_cells, mut kept_points, mut leftover) = (0, 0, 0, 0, 0);
     let (mut sums, mut checks) = ([0; 5], [0; 5]);
     for seed in 0..SEEDS {
         let generator = Generator::new(seed);
@@ -145,7 +157,9 @@ fn the_program_prints_the_totals_of_the_model() {
         pools += 1;
         cells += generator.n;
         leftover += generator.leftover();
-        kept_cells += pool.reached().len() as u32;
+        let reached = pool.reached();
+        kept_cells += reached.len() as u32;
+        kept_points += reached.iter().filter(|&&i| words[cell_at(i)] == POINT).count();
         for (marker, answer) in answers(&words, n).into_iter().enumerate() {
             match answer {
                 Ok((_, more, made)) => {
@@ -172,6 +186,7 @@ fn the_program_prints_the_totals_of_the_model() {
         writeln!(text, "checks with {name}: {made}").expect("a string takes it");
     }
     writeln!(text, "words behind the cells: {}", 2 * leftover).expect("a string takes it");
+    writeln!(text, "kept points: {kept_points}").expect("a string takes it");
     let path = concat!(env!("CARGO_MANIFEST_DIR"), "/../crates/trials/stdout");
     assert_eq!(text, std::fs::read_to_string(path).expect("the program's output"));
 }

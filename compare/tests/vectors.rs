@@ -30,7 +30,7 @@ fn fresh(pool: &dyn Interface, n: usize) -> Vec<u32> {
     words
 }
 
-/// K, sixteen registers, and the bytes of the cells.
+/// K, sixteen registers, and the bytes of the cells: kind, left, right and value of each.
 fn image(k: u8, registers: &[u8], cells: &[u8]) -> Vec<u8> {
     let mut bytes = vec![k];
     bytes.extend(registers);
@@ -55,14 +55,16 @@ const VALUES: [(u32, &[u8]); 9] = [
 fn numbers_are_written_in_the_fewest_groups() {
     on_all(|pool| {
         for (value, written) in VALUES {
-            let mut words = pool_words(0, &[1], &[[0, 0, 0, value]]);
-            let mut out = [0x55; 32];
-            let mut cells = vec![0, 0];
-            cells.extend(written);
-            let expected = image(1, &[1], &cells);
-            assert_eq!(pool.save(&mut words, &mut [7; 2], &mut out), Ok(expected.len()));
-            assert_eq!(out[..expected.len()], expected);
-            assert!(out[expected.len()..].iter().all(|&byte| byte == 0x55));
+            // The value of a pair; and x, y and value of a point.
+            let (pair, point) = ([&[0, 0, 0], written].concat(), [&[1], written, written, written].concat());
+            for (cell, bytes) in [([0, 0, 0, value], pair), ([5, value, value, value], point)] {
+                let mut words = pool_words(0, &[1], &[cell]);
+                let mut out = [0x55; 40];
+                let expected = image(1, &[1], &bytes);
+                assert_eq!(pool.save(&mut words, &mut [7; 2], &mut out), Ok(expected.len()));
+                assert_eq!(out[..expected.len()], expected);
+                assert!(out[expected.len()..].iter().all(|&byte| byte == 0x55));
+            }
         }
     });
 }
@@ -71,13 +73,14 @@ fn numbers_are_written_in_the_fewest_groups() {
 fn numbers_are_read_in_up_to_five_groups() {
     on_all(|pool| {
         for (value, written) in VALUES {
-            let mut cells = vec![0, 1];
-            cells.extend(written);
-            let bytes = image(1, &[1, 0, 1], &cells);
-            let mut words = vec![9; 22];
-            assert_eq!(pool.load(&mut words, &bytes), (Ok(()), bytes.len()));
-            assert_eq!(words, pool_words(0, &[1, 0, 1], &[[0, 0, 1, value]]));
-            assert_eq!(pool.check_image(&bytes, 1), Ok(()));
+            let (pair, point) = ([&[0, 0, 1], written].concat(), [&[1], written, written, written].concat());
+            for (cells, cell) in [(pair, [0, 0, 1, value]), (point, [5, value, value, value])] {
+                let bytes = image(1, &[1, 0, 1], &cells);
+                let mut words = vec![9; 22];
+                assert_eq!(pool.load(&mut words, &bytes), (Ok(()), bytes.len()));
+                assert_eq!(words, pool_words(0, &[1, 0, 1], &[cell]));
+                assert_eq!(pool.check_image(&bytes, 1), Ok(()));
+            }
         }
     });
 }
@@ -90,12 +93,14 @@ fn the_single_byte_00_is_the_number_0() {
         assert_eq!(pool.check_image(&[0x00; 17], 2), Ok(()));
         assert_eq!(pool.load(&mut words, &[0x00; 17]), (Ok(()), 17));
         assert_eq!(words, pool_words(1, &[], &[[4, 2, 0, 0], [4, 0, 0, 0]]));
-        // All registers, both links and the value.
-        let bytes = image(1, &[0x00; 16], &[0x00, 0x00, 0x00]);
-        let mut words = vec![9; 26];
-        assert_eq!(pool.check_image(&bytes, 2), Ok(()));
-        assert_eq!(pool.load(&mut words, &bytes), (Ok(()), 20));
-        assert_eq!(words, pool_words(2, &[], &[[0, 0, 0, 0], [4, 0, 0, 0]]));
+        // All registers, the kind, both links and the value; and of a point x, y and the value.
+        for (kind, state) in [(0x00, 0), (0x01, 5)] {
+            let bytes = image(1, &[0x00; 16], &[kind, 0x00, 0x00, 0x00]);
+            let mut words = vec![9; 26];
+            assert_eq!(pool.check_image(&bytes, 2), Ok(()));
+            assert_eq!(pool.load(&mut words, &bytes), (Ok(()), 21));
+            assert_eq!(words, pool_words(2, &[], &[[state, 0, 0, 0], [4, 0, 0, 0]]));
+        }
     });
 }
 
@@ -125,9 +130,10 @@ fn numbers_that_are_refused() {
             (&[0xFF, 0xFF, 0xFF, 0xFF, 0x00], 12),
         ];
         for (written, refusal) in cases {
-            // As K, as a register, as a left link, as a right one, and as a value.
-            let fronts = [vec![], vec![0, 0, 0], image(1, &[], &[]), image(1, &[], &[0]), image(1, &[], &[0, 0])];
-            for front in fronts {
+            // As K, as a register, as a kind, as left, right and value of a pair, and as x, y and value of a point.
+            let cells: [&[u8]; 7] = [&[], &[0], &[0, 0], &[0, 0, 0], &[1], &[1, 0xFF, 1], &[1, 0, 9]];
+            let cells = cells.map(|front| image(1, &[], front));
+            for front in [vec![], vec![0, 0, 0]].into_iter().chain(cells) {
                 let bytes = [&front, written].concat();
                 let mut words = vec![9; 22];
                 assert_eq!(pool.load(&mut words, &bytes), (Err(refusal), bytes.len()), "{bytes:02X?}");
@@ -141,37 +147,45 @@ fn numbers_that_are_refused() {
 #[test]
 fn an_image_with_a_padded_number_is_refused() {
     on_all(|pool| {
-        // Two cells: 1 with the links 2 and nil and the value 5, 2 with the links 1 and 2 and the value 0.
-        let good = image(2, &[1, 0, 2], &[2, 0, 5, 1, 2, 0]);
-        let loaded = pool_words(0, &[1, 0, 2], &[[0, 2, 0, 5], [0, 1, 2, 0]]);
-        let mut words = vec![9; 26];
-        assert_eq!(pool.check_image(&good, 2), Ok(()));
-        assert_eq!(pool.load(&mut words, &good), (Ok(()), 23));
+        // Three cells: 1 a pair with the links 2 and 3 and the value 5, 2 a pair with the links 1 and 2 and the value 0, 3 a point with
+        // x 7, y 0 and the value 6.
+        let good = image(3, &[1, 0, 2], &[0, 2, 3, 5, 0, 1, 2, 0, 1, 7, 0, 6]);
+        let loaded = pool_words(0, &[1, 0, 2], &[[0, 2, 3, 5], [0, 1, 2, 0], [5, 7, 0, 6]]);
+        let mut words = vec![9; 30];
+        assert_eq!(pool.check_image(&good, 3), Ok(()));
+        assert_eq!(pool.load(&mut words, &good), (Ok(()), 29));
         assert_eq!(words, loaded);
         // One of its numbers, all else as it was: its place, and the same number padded.
-        let cases: [(usize, &[u8]); 11] = [
+        let cases: [(usize, &[u8]); 17] = [
             // K.
-            (0, &[0x82, 0x00]),
+            (0, &[0x83, 0x00]),
             // Registers: the first ones, and the last.
             (1, &[0x81, 0x00]),
             (2, &[0x80, 0x00]),
             (3, &[0x82, 0x80, 0x80, 0x80, 0x00]),
             (16, &[0x80, 0x80, 0x00]),
-            // Left, right and value of either cell.
-            (17, &[0x82, 0x00]),
-            (18, &[0x80, 0x00]),
-            (19, &[0x85, 0x00]),
-            (20, &[0x81, 0x80, 0x00]),
-            (21, &[0x82, 0x80, 0x80, 0x00]),
-            (22, &[0x80, 0x80, 0x80, 0x80, 0x00]),
+            // Kind, left, right and value of either pair.
+            (17, &[0x80, 0x00]),
+            (18, &[0x82, 0x00]),
+            (19, &[0x83, 0x00]),
+            (20, &[0x85, 0x00]),
+            (21, &[0x80, 0x80, 0x80, 0x00]),
+            (22, &[0x81, 0x80, 0x00]),
+            (23, &[0x82, 0x80, 0x80, 0x00]),
+            (24, &[0x80, 0x80, 0x80, 0x80, 0x00]),
+            // Kind, x, y and value of the point.
+            (25, &[0x81, 0x00]),
+            (26, &[0x87, 0x00]),
+            (27, &[0x80, 0x80, 0x00]),
+            (28, &[0x86, 0x80, 0x80, 0x80, 0x00]),
         ];
         for (place, written) in cases {
             for behind in [&[][..], &[0x00], &[0xFF; 6]] {
                 let bytes = [&good[..place], written, &good[place + 1..], behind].concat();
-                let mut words = vec![9; 26];
+                let mut words = vec![9; 30];
                 assert_eq!(pool.load(&mut words, &bytes), (Err(12), bytes.len()), "{bytes:02X?}");
-                assert_eq!(words, vec![9; 26]);
-                assert_eq!(pool.check_image(&bytes, 2), Err(12), "{bytes:02X?}");
+                assert_eq!(words, vec![9; 30]);
+                assert_eq!(pool.check_image(&bytes, 3), Err(12), "{bytes:02X?}");
             }
         }
     });
@@ -180,7 +194,7 @@ fn an_image_with_a_padded_number_is_refused() {
 #[test]
 fn the_first_fault_of_an_image_decides() {
     on_all(|pool| {
-        let cases: [(Vec<u8>, u32, u32); 27] = [
+        let cases: [(Vec<u8>, u32, u32); 43] = [
             // K above N, even if nothing follows.
             (vec![2], 1, 9),
             (vec![0xFF, 0xFF, 0xFF, 0xFF, 0x0F], 4000, 9),
@@ -190,17 +204,37 @@ fn the_first_fault_of_an_image_decides() {
             (vec![1, 0, 0x80], 1, 6),
             (image(0, &[0; 16], &[])[..16].to_vec(), 1, 6),
             // Links above K; a value may be anything.
-            (image(1, &[], &[2, 0, 0]), 1, 8),
-            (image(1, &[], &[0, 2, 0]), 1, 8),
-            (image(1, &[], &[0, 2]), 1, 8),
-            (image(1, &[], &[0, 0]), 1, 6),
+            (image(1, &[], &[0, 2, 0, 0]), 1, 8),
+            (image(1, &[], &[0, 0, 2, 0]), 1, 8),
+            (image(1, &[], &[0, 0, 2]), 1, 8),
+            (image(1, &[], &[0, 0, 0]), 1, 6),
+            (image(1, &[], &[0]), 1, 6),
+            (image(1, &[], &[]), 1, 6),
+            // A kind above 1, even if nothing follows; 2 to 127, 128, 2^32 - 1; before the link above K behind it.
+            (image(1, &[], &[2]), 1, 14),
+            (image(1, &[], &[2, 0, 0, 0]), 1, 14),
+            (image(1, &[], &[4, 0, 0, 0]), 1, 14),
+            (image(1, &[], &[5, 2, 2, 0]), 1, 14),
+            (image(1, &[], &[0x7F, 0, 0, 0]), 1, 14),
+            (image(1, &[], &[0x80, 0x01, 0, 0, 0]), 1, 14),
+            (image(1, &[], &[0xFF, 0xFF, 0xFF, 0xFF, 0x0F]), 1, 14),
+            (image(2, &[], &[1, 0x7F, 0x7F, 0, 2, 0, 0, 0]), 2, 14),
+            // A padded kind is not asked whether it is known, and one that is too large or cut is neither.
+            (image(1, &[], &[0x80, 0x00, 0, 0, 0]), 1, 12),
+            (image(1, &[], &[0x82, 0x00, 0, 0, 0]), 1, 12),
+            (image(1, &[], &[0x82, 0x80, 0x80, 0x80, 0x10]), 1, 7),
+            (image(1, &[], &[0x82]), 1, 6),
+            // The first cell's link above K before the second cell's kind.
+            (image(2, &[], &[0, 3, 0, 0, 2]), 2, 8),
+            // A point: x and y above K are not asked about, and the value may be missing.
+            (image(1, &[], &[1, 2, 0x7F]), 1, 6),
             // A padded number is not asked whether it is too large: 5 as K for one cell, 2 with K 1 as a register and as a link.
             (vec![0x05], 1, 9),
             (vec![0x85, 0x00], 1, 12),
             (vec![0x85, 0x00], 5, 12),
             (vec![1, 0, 0x82, 0x00], 1, 12),
-            (image(1, &[], &[0x82, 0x00, 0, 0]), 1, 12),
-            (image(1, &[], &[0, 0x82, 0x00, 0]), 1, 12),
+            (image(1, &[], &[0, 0x82, 0x00, 0, 0]), 1, 12),
+            (image(1, &[], &[0, 0, 0x82, 0x00, 0]), 1, 12),
             // Whether it is below 2^32 is asked before; and it is not padded while bytes of it are missing.
             (vec![0x80, 0x80, 0x80, 0x80, 0x80], 1, 7),
             (vec![0x80, 0x80, 0x80, 0x80, 0x10], 1, 7),
@@ -211,7 +245,7 @@ fn the_first_fault_of_an_image_decides() {
             (vec![2, 0x80, 0x00], 1, 9),
             (vec![1, 2, 0x80, 0x00], 1, 8),
             (vec![1, 0x80, 0x00, 2], 1, 12),
-            (image(2, &[], &[0, 0, 0x80, 0x80, 0x80, 0x80, 0x10, 0x80, 0x00]), 2, 7),
+            (image(2, &[], &[0, 0, 0, 0x80, 0x80, 0x80, 0x80, 0x10, 0x80, 0x00]), 2, 7),
             // N out of its limits, whatever the bytes.
             (vec![], 0, 1),
             (vec![0x85, 0x00], 0, 1),
@@ -242,18 +276,18 @@ fn save_numbers_cells_by_their_first_depth_first_visit() {
         let cells = [[0, 2, 0, 300], [0, 4, 1, 128], [0, 1, 1, 9], [0, 1, 4, 127], [4, 99, 8, 7]];
         let words = pool_words(77, &[0, 2, 1], &cells);
         // The visits: 2, then its left 4, then the left of 4, which is 1.
-        let expected = image(3, &[0, 1, 3], &[2, 3, 0x80, 0x01, 3, 2, 0x7F, 1, 0, 0xAC, 0x02]);
+        let expected = image(3, &[0, 1, 3], &[0, 2, 3, 0x80, 0x01, 0, 3, 2, 0x7F, 0, 1, 0, 0xAC, 0x02]);
         let (mut lent, mut scratch, mut out) = (words.clone(), vec![5; 12], [0x55; 40]);
-        assert_eq!(pool.save(&mut lent, &mut scratch, &mut out), Ok(28));
-        assert_eq!(expected.len(), 28);
-        assert_eq!(out[..28], expected);
-        assert_eq!(out[28..], [0x55; 12]);
+        assert_eq!(pool.save(&mut lent, &mut scratch, &mut out), Ok(31));
+        assert_eq!(expected.len(), 31);
+        assert_eq!(out[..31], expected);
+        assert_eq!(out[31..], [0x55; 9]);
         assert_eq!(scratch, [0; 12]);
         assert_eq!(lent, words);
 
         // Loaded: image cell i is cell i, and the rest is the ascending chain.
         let mut loaded = vec![1; 38];
-        assert_eq!(pool.load(&mut loaded, &out), (Ok(()), 28));
+        assert_eq!(pool.load(&mut loaded, &out), (Ok(()), 31));
         let cells = [[0, 2, 3, 128], [0, 3, 2, 127], [0, 1, 0, 300], [4, 5, 0, 0], [4, 0, 0, 0]];
         assert_eq!(loaded, pool_words(4, &[0, 1, 3], &cells));
     });
@@ -269,10 +303,14 @@ fn save_refusals_and_its_scratch() {
             assert_eq!(lent, words);
             (answer, scratch, out)
         };
-        assert_eq!(run(&words, 1, 20), (Err(10), vec![6; 1], vec![8; 20]));
-        assert_eq!(run(&words, 2, 19), (Err(10), vec![0; 2], vec![8; 19]));
+        assert_eq!(run(&words, 1, 21), (Err(10), vec![6; 1], vec![8; 21]));
+        assert_eq!(run(&words, 2, 20), (Err(10), vec![0; 2], vec![8; 20]));
         assert_eq!(run(&words, 4, 0), (Err(10), vec![0; 4], vec![]));
-        assert_eq!(run(&words, 4, 20), (Ok(20), vec![0; 4], image(1, &[1], &[0, 0, 5])));
+        assert_eq!(run(&words, 4, 21), (Ok(21), vec![0; 4], image(1, &[1], &[0, 0, 0, 5])));
+        // A point, whose x takes two bytes.
+        let point = pool_words(0, &[1], &[[5, 128, 1, 5]]);
+        assert_eq!(run(&point, 2, 21), (Err(10), vec![0; 2], vec![8; 21]));
+        assert_eq!(run(&point, 2, 22), (Ok(22), vec![0; 2], image(1, &[1], &[1, 0x80, 0x01, 1, 5])));
         // The scratch is checked before the pool, and an malformed pool leaves it.
         let mut malformed = words.clone();
         malformed[19] = 2;
@@ -354,9 +392,9 @@ fn lengths_and_words_left_over() {
 #[test]
 fn words_left_over_are_no_cell() {
     on_all(|pool| {
-        // Two cells, and three words that look like a used cell 3, or like a free one.
+        // Two cells, and three words that look like a pair as cell 3, like a free cell, or like a point.
         let cells = [[0, 0, 0, 7], [0, 1, 1, 8]];
-        for behind in [[0, 1, 1], [4, 0, 0], [9, 9, 9]] {
+        for behind in [[0, 1, 1], [4, 0, 0], [5, 9, 9], [9, 9, 9]] {
             let with = |mut words: Vec<u32>| {
                 words.extend(behind);
                 words
@@ -396,15 +434,15 @@ fn words_left_over_are_no_cell() {
             assert_eq!(pool.new_cell(&mut lent, 1, 0, 0, 5), Ok(0));
             assert_eq!(lent, with(pool_words(0, &[1, 2], &[[0, 0, 0, 7], [0, 1, 1, 5]])));
             // Saved with a scratch of four words, as without words left over; loaded, they stay.
-            let (mut lent, mut out) = (words.clone(), [0x55; 24]);
-            assert_eq!(pool.save(&mut lent, &mut [7; 4], &mut out), Ok(23));
-            assert_eq!(out[..23], image(2, &[1], &[2, 2, 8, 0, 0, 7]));
-            assert_eq!((out[23], &lent), (0x55, &words));
-            assert_eq!(pool.load(&mut lent, &out), (Ok(()), 23));
+            let (mut lent, mut out) = (words.clone(), [0x55; 26]);
+            assert_eq!(pool.save(&mut lent, &mut [7; 4], &mut out), Ok(25));
+            assert_eq!(out[..25], image(2, &[1], &[0, 2, 2, 8, 0, 0, 0, 7]));
+            assert_eq!((out[25], &lent), (0x55, &words));
+            assert_eq!(pool.load(&mut lent, &out), (Ok(()), 25));
             assert_eq!(lent, with(pool_words(0, &[1], &[[0, 2, 2, 8], [0, 0, 0, 7]])));
             // An image of three cells does not fit, though words are left over.
             let before = lent.clone();
-            assert_eq!(pool.load(&mut lent, &image(3, &[], &[0; 9])), (Err(9), 26));
+            assert_eq!(pool.load(&mut lent, &image(3, &[], &[0; 12])), (Err(9), 29));
             assert_eq!(lent, before);
         }
         // 64 cells with three words left over are not too many for the recursive marker.
@@ -939,15 +977,301 @@ fn refusals_come_in_the_order_of_the_document() {
 #[test]
 fn states_of_a_collection_make_a_pool_malformed() {
     on_all(|pool| {
-        for state in [1, 2, 3, 5, u32::MAX] {
+        for state in [1, 2, 3, 6, 7, 8, u32::MAX] {
             let words = pool_words(0, &[1], &[[0, 0, 0, 7], [state, 0, 0, 0]]);
             let mut lent = words.clone();
             assert_eq!(pool.collect(&mut lent), Err(3));
             assert_eq!(pool.collect_stack(&mut lent, &mut [1]), Err(3));
             assert_eq!(pool.new_cell(&mut lent, 0, 0, 0, 1), Err(3));
+            assert_eq!(pool.point(&mut lent, 0, 0, 0, 1), Err(3));
             assert_eq!(lent, words);
             assert_eq!(pool.value(&mut lent, 0), Ok(7));
         }
+    });
+}
+
+/// Every form of collect on a pool that it leaves word for word: kept and visits.
+fn every_word_stays(pool: &dyn Interface, words: &[u32], kept: u32, visits: u32) {
+    let mut lent = words.to_vec();
+    assert_eq!(pool.collect(&mut lent), Ok((kept, visits)));
+    assert_eq!(lent, words);
+    assert_eq!(pool.collect_recursive(&mut lent), Ok((kept, visits)));
+    assert_eq!(lent, words);
+    let mut tally = Tally { collections: 4, visits: 10 };
+    assert_eq!(pool.collect_tally(&mut lent, &mut tally), Ok((kept, visits)));
+    assert_eq!((lent.as_slice(), tally), (words, Tally { collections: 5, visits: 10 + visits }));
+    for length in 0..3 {
+        let mut stack = vec![7; length];
+        assert_eq!(pool.collect_stack(&mut lent, &mut stack).map(|(kept, ..)| kept), Ok(kept));
+        assert_eq!((lent.as_slice(), stack), (words, vec![0; length]));
+    }
+}
+
+#[test]
+fn a_point_takes_one_visit_and_stays() {
+    on_all(|pool| {
+        // One point: its x and y look like links to itself, past N, and are the largest number.
+        for (x, y) in [(1, 1), (0, 2), (2, 1), (u32::MAX, u32::MAX)] {
+            every_word_stays(pool, &pool_words(0, &[1], &[[5, x, y, 7]]), 1, 1);
+            // In several registers: it is marked once.
+            every_word_stays(pool, &pool_words(0, &[0, 1, 1], &[[5, x, y, 7]]), 1, 1);
+        }
+        // A pair with a point on each side: 3 + 1 + 1. The points' numbers look like links to all cells.
+        let cells = [[0, 2, 3, 1], [5, 1, 3, 2], [5, 2, 1, 3]];
+        every_word_stays(pool, &pool_words(0, &[1], &cells), 3, 5);
+        // Both sides the same point: 3 + 1. And one that holds a pair and a point: 3 + 3 + 1.
+        every_word_stays(pool, &pool_words(0, &[1], &[[0, 2, 2, 1], [5, 1, 1, 2]]), 2, 4);
+        every_word_stays(pool, &pool_words(0, &[1], &[[0, 2, 3, 1], [5, 3, 3, 2], [0, 1, 2, 3]]), 3, 7);
+        // A run begins at a point in register 0, and one at the pair in register 5, which finds the point marked.
+        every_word_stays(pool, &pool_words(0, &[2, 0, 0, 0, 0, 1], &[[0, 2, 0, 1], [5, 9, 9, 2]]), 2, 4);
+        // A chain of 63 pairs and a point at its end: 190 visits, and a depth of 64.
+        let mut chain: Vec<[u32; 4]> = (1..=64).map(|i| [0, i + 1, 0, i]).collect();
+        chain[63] = [5, 65, 1, 64];
+        every_word_stays(pool, &pool_words(0, &[1], &chain), 64, 190);
+        // Only points, of which register 3 holds one: the others are freed, whatever numbers they have.
+        let cells = [[5, 2, 3, 1], [5, 1, 3, 2], [5, 1, 2, 3], [4, 7, 7, 7]];
+        let mut words = pool_words(0, &[0, 0, 0, 2], &cells);
+        assert_eq!(pool.collect(&mut words), Ok((1, 1)));
+        let after = [[4, 3, 0, 0], [5, 1, 3, 2], [4, 4, 0, 0], [4, 0, 0, 0]];
+        assert_eq!(words, pool_words(1, &[0, 0, 0, 2], &after));
+    });
+}
+
+#[test]
+fn the_numbers_of_a_point_are_not_judged() {
+    on_all(|pool| {
+        // They lead to a free cell, past N, and nowhere: the pool is well-formed. So is it with a register and a link to the point.
+        for (x, y) in [(3, 4), (4, 0), (u32::MAX, 3)] {
+            let words = pool_words(3, &[1, 2], &[[0, 2, 0, 7], [5, x, y, 8], [4, 0, 0, 0]]);
+            let mut lent = words.clone();
+            assert_eq!(pool.collect(&mut lent), Ok((2, 4)));
+            assert_eq!(lent, words);
+            assert_eq!(pool.left(&mut lent, 3, 0), Ok(()));
+            assert_eq!(pool.same(&mut lent, 3, 1), Ok(1));
+            // A point in a register is copied, and its value is read and written.
+            assert_eq!(pool.copy(&mut lent, 4, 3), Ok(()));
+            assert_eq!(pool.value(&mut lent, 4), Ok(8));
+            assert_eq!(pool.setvalue(&mut lent, 4, 9), Ok(()));
+            assert_eq!((pool.east(&mut lent, 4), pool.north(&mut lent, 4)), (Ok(x), Ok(y)));
+            // A link is set to a point, and a new pair gets one.
+            assert_eq!(pool.setright(&mut lent, 0, 1), Ok(()));
+            assert_eq!(pool.new_cell(&mut lent, 5, 1, 3, 6), Ok(0));
+            let cells = [[0, 2, 2, 7], [5, x, y, 9], [0, 2, 2, 6]];
+            assert_eq!(lent, pool_words(0, &[1, 2, 0, 2, 2, 3], &cells));
+        }
+        // What 1, 2, 3 and 6 are inside a collection they are in no pool, where a link leads to such a cell.
+        for state in [1, 2, 3, 4, 6, 7] {
+            let mut words = pool_words(0, &[1, 2], &[[0, 2, 0, 7], [state, 0, 0, 8]]);
+            assert_eq!(pool.copy(&mut words, 2, 1), Err(3));
+            assert_eq!(pool.left(&mut words, 2, 0), Err(3));
+            assert_eq!(pool.east(&mut words, 1), Err(3));
+        }
+    });
+}
+
+#[test]
+fn points_are_made_as_pairs_are() {
+    on_all(|pool| {
+        // From the chain: the head, and no register is read.
+        let mut words = fresh(pool, 2);
+        words[17] = 99;
+        assert_eq!(pool.point(&mut words, 3, 7, 1, 4_294_967_295), Ok(0));
+        let mut expected = pool_words(2, &[0, 0, 0, 1], &[[5, 1, 4_294_967_295, 7], [4, 0, 0, 0]]);
+        expected[17] = 99;
+        assert_eq!(words, expected);
+        // The other cell; then the pool is not well-formed, by register 15, and full when that is cleared.
+        assert_eq!(pool.point(&mut words, 0, 8, 0, 0), Ok(0));
+        assert_eq!(pool.point(&mut words, 0, 8, 0, 0), Err(3));
+        assert_eq!(pool.clear(&mut words, 15), Ok(()));
+        let full = pool_words(0, &[2, 0, 0, 1], &[[5, 1, 4_294_967_295, 7], [5, 0, 0, 8]]);
+        assert_eq!(pool.point(&mut words, 0, 9, 2, 2), Err(5));
+        assert_eq!(words, full);
+        // It collects where no cell is free: 3 for the pair, 1 for the point that it reaches; cell 3 comes back.
+        let mut words = pool_words(0, &[1], &[[0, 2, 0, 7], [5, 3, 3, 8], [5, 1, 1, 9]]);
+        assert_eq!(pool.point(&mut words, 1, 5, 6, 7), Ok(4));
+        assert_eq!(words, pool_words(0, &[1, 3], &[[0, 2, 0, 7], [5, 3, 3, 8], [5, 6, 7, 5]]));
+        // The old content of its register is a root.
+        let mut words = pool_words(0, &[1], &[[5, 1, 1, 7]]);
+        assert_eq!(pool.point(&mut words, 0, 8, 2, 2), Err(5));
+        assert_eq!(words, pool_words(0, &[1], &[[5, 1, 1, 7]]));
+        let mut words = pool_words(0, &[1], &[[5, 1, 1, 7], [5, 2, 2, 6]]);
+        assert_eq!(pool.point(&mut words, 0, 8, 3, 4), Ok(1));
+        assert_eq!(words, pool_words(0, &[2], &[[5, 1, 1, 7], [5, 3, 4, 8]]));
+        // A new pair reports the visits of a collection with points.
+        let mut words = pool_words(0, &[1], &[[5, 1, 1, 7], [5, 2, 2, 6]]);
+        assert_eq!(pool.new_cell(&mut words, 1, 0, 0, 8), Ok(1));
+        assert_eq!(words, pool_words(0, &[1, 2], &[[5, 1, 1, 7], [0, 1, 1, 8]]));
+        // The head has to be free with a left of at most N, and nothing else is asked for.
+        for (head, state, left, answer) in
+            [(1, 0, 0, Err(3)), (3, 4, 0, Err(3)), (2, 5, 0, Err(3)), (2, 4, 3, Err(3)), (2, 4, 2, Ok(0))]
+        {
+            let mut words = pool_words(head, &[9], &[[0, 9, 9, 1], [state, left, 0, 0]]);
+            let before = words.clone();
+            assert_eq!(pool.point(&mut words, 0, 6, 1, 1), answer, "head {head}, state {state}, left {left}");
+            assert_eq!(words == before, answer.is_err());
+        }
+        // Only r is a register number.
+        let mut words = fresh(pool, 1);
+        let before = words.clone();
+        assert_eq!(pool.point(&mut words, 16, 0, 0, 0), Err(2));
+        assert_eq!(words, before);
+        assert_eq!(pool.point(&mut words, 15, 16, 17, 18), Ok(0));
+        assert_eq!(words[17..], [1, 5, 17, 18, 16]);
+    });
+}
+
+#[test]
+fn a_cell_of_the_other_kind_is_refused_after_nil_and_before_the_link() {
+    on_all(|pool| {
+        // Register 0 holds a pair whose links lead to a free cell and past N, register 1 a point with such numbers, register 2 is nil,
+        // register 3 holds a free cell.
+        let words = pool_words(3, &[1, 2, 0, 3], &[[0, 3, 9, 7], [5, 3, 9, 8], [4, 0, 0, 0]]);
+        let code = |answer: Result<(), u32>| answer.err().unwrap_or(0);
+        let number = |answer: Result<u32, u32>| answer.err().unwrap_or(0);
+        type OnRegister<'a> = &'a dyn Fn(&mut [u32], u32) -> u32;
+        // What is answered for the pair, the point, nil and the free cell, and for no register.
+        let cases: [(OnRegister, [u32; 5]); 8] = [
+            (&|words, a| code(pool.left(words, 4, a)), [3, 13, 4, 3, 2]),
+            (&|words, a| code(pool.right(words, 4, a)), [3, 13, 4, 3, 2]),
+            (&|words, a| code(pool.setleft(words, a, 2)), [0, 13, 4, 3, 2]),
+            (&|words, a| code(pool.setright(words, a, 2)), [0, 13, 4, 3, 2]),
+            (&|words, a| number(pool.east(words, a)), [13, 0, 4, 3, 2]),
+            (&|words, a| number(pool.north(words, a)), [13, 0, 4, 3, 2]),
+            (&|words, a| number(pool.value(words, a)), [0, 0, 4, 3, 2]),
+            (&|words, a| code(pool.setvalue(words, a, 5)), [0, 0, 4, 3, 2]),
+        ];
+        for (place, (call, expected)) in cases.into_iter().enumerate() {
+            for (a, expected) in [0, 1, 2, 3, 16].into_iter().zip(expected) {
+                let mut lent = words.clone();
+                assert_eq!(call(&mut lent, a), expected, "call {place}, register {a}");
+                if expected != 0 {
+                    assert_eq!(lent, words);
+                }
+                lent.copy_from_slice(&words);
+                lent[0] = 4;
+                assert_eq!(call(&mut lent, a), 1);
+            }
+        }
+        // b is read before it is asked what a holds: 3 for a free cell in b, also where a holds a point; and 2 before that.
+        let mut lent = words.clone();
+        assert_eq!(pool.setleft(&mut lent, 1, 3), Err(3));
+        assert_eq!(pool.setright(&mut lent, 1, 3), Err(3));
+        assert_eq!(pool.setright(&mut lent, 1, 16), Err(2));
+        assert_eq!(pool.left(&mut lent, 16, 1), Err(2));
+        assert_eq!(lent, words);
+        assert_eq!((pool.east(&mut lent, 1), pool.north(&mut lent, 1)), (Ok(3), Ok(9)));
+    });
+}
+
+#[test]
+fn images_of_pairs_and_points() {
+    on_all(|pool| {
+        // Register 2 holds cell 4, a pair with the points 2 and 1; register 0 the point 1. The numbers of the points look like links, and
+        // stay what they are: 1 and 4 of cell 2, 300 and 2 of cell 1. Cell 3, a point, is garbage.
+        let cells = [[5, 300, 2, 8], [5, 1, 4, 128], [5, 1, 1, 1], [0, 2, 1, 7]];
+        let words = pool_words(9, &[1, 0, 4], &cells);
+        // The visits: 1 from register 0; then 4, its left 2, and its right 1 once more.
+        let bytes = image(3, &[1, 0, 2], &[1, 0xAC, 0x02, 2, 8, 0, 3, 1, 7, 1, 1, 4, 0x80, 0x01]);
+        let (mut lent, mut scratch, mut out) = (words.clone(), vec![5; 8], [0x55; 32]);
+        assert_eq!(pool.save(&mut lent, &mut scratch, &mut out), Ok(31));
+        assert_eq!(out[..31], bytes);
+        assert_eq!((out[31], &lent, scratch), (0x55, &words, vec![0; 8]));
+        assert_eq!(pool.check_image(&bytes, 3), Ok(()));
+        assert_eq!(pool.check_image(&bytes, 2), Err(9));
+        let mut loaded = vec![1; 38];
+        assert_eq!(pool.load(&mut loaded, &out), (Ok(()), 31));
+        let cells = [[5, 300, 2, 8], [0, 3, 1, 7], [5, 1, 4, 128], [4, 5, 0, 0], [4, 0, 0, 0]];
+        assert_eq!(loaded, pool_words(4, &[1, 0, 2], &cells));
+        // Every cut is refused.
+        for length in 0..31 {
+            assert_eq!(pool.check_image(&bytes[..length], 3), Err(6));
+        }
+        // A point that nothing reaches is loaded and not saved.
+        let bytes = image(1, &[], &[1, 9, 9, 9]);
+        let mut loaded = vec![1; 22];
+        assert_eq!(pool.load(&mut loaded, &bytes), (Ok(()), 21));
+        assert_eq!(loaded, pool_words(0, &[], &[[5, 9, 9, 9]]));
+        assert_eq!(pool.save(&mut loaded, &mut [7; 2], &mut out), Ok(17));
+    });
+}
+
+#[test]
+fn images_of_the_form_before_are_refused() {
+    on_all(|pool| {
+        // What 02, S-8 changed: left, right and value of each cell, without kinds. The numbers are those that the new form finds.
+        let cases: [(Vec<u8>, u32); 8] = [
+            // A leaf with value 5: kind 0, left 0, right 5, above K.
+            (image(1, &[1], &[0, 0, 5]), 8),
+            // Value 1: kind 0, left 0, right 1, no value.
+            (image(1, &[1], &[0, 0, 1]), 6),
+            // Linked to itself: kind 1, x 1, y 5, no value.
+            (image(1, &[1], &[1, 1, 5]), 6),
+            // Two cells: kind 2.
+            (image(2, &[1], &[2, 0, 7, 0, 0, 8]), 14),
+            (image(2, &[1], &[2, 2, 0xAC, 0x02, 0, 0, 8]), 14),
+            // Kind 0, left 2, right 1, value 0; then kind 0, left 0 and nothing.
+            (image(2, &[1], &[0, 2, 1, 0, 0, 0]), 6),
+            // Kind 1, x 2, y 9, value 0; then kind 2.
+            (image(2, &[1], &[1, 2, 9, 0, 2, 8]), 14),
+            // Three cells: nine numbers are two cells and a kind.
+            (image(3, &[1], &[0, 0, 0, 0, 0, 0, 0, 0, 0]), 6),
+        ];
+        for (bytes, refusal) in cases {
+            for n in [3, 4, 4_000] {
+                assert_eq!(pool.check_image(&bytes, n), Err(refusal), "{bytes:02X?}");
+                let mut words = vec![9; 18 + 4 * n as usize];
+                assert_eq!(pool.load(&mut words, &bytes), (Err(refusal), bytes.len()));
+                assert_eq!(words, vec![9; 18 + 4 * n as usize]);
+            }
+        }
+        // Without cells the forms are the same.
+        assert_eq!(pool.check_image(&[0; 17], 1), Ok(()));
+    });
+}
+
+#[test]
+fn the_stack_marker_takes_a_point_for_a_leaf() {
+    on_all(|pool| {
+        // The worst case of five cells with points for its leaves 2 and 4, whose numbers look like links to cells that are unmarked
+        // then: two words are held as for leaves, and one word makes one check, which drops 2.
+        let cells = [[0, 3, 2, 1], [5, 4, 5, 2], [0, 5, 4, 3], [5, 5, 3, 4], [0, 0, 0, 5]];
+        stack_collections(pool, &pool_words(0, &[1], &cells), 5, &[(0, 0, 1), (1, 1, 1), (2, 1, 0)]);
+        // A pair with two points takes a word; with the same point twice none.
+        let two = pool_words(0, &[1], &[[0, 2, 3, 1], [5, 3, 3, 2], [5, 2, 2, 3]]);
+        stack_collections(pool, &two, 3, &[(0, 0, 1), (1, 1, 0)]);
+        stack_collections(pool, &pool_words(0, &[1], &[[0, 2, 2, 1], [5, 1, 0, 2]]), 2, &[(0, 1, 0)]);
+        // A check walks from 3 to 6, a point, and drops the entry: the point's numbers do not lead to 7, which 4 reaches.
+        let cells = [[0, 2, 3, 1], [0, 4, 5, 2], [0, 6, 6, 3], [0, 7, 0, 4], [5, 7, 7, 5], [5, 7, 4, 6], [0, 0, 0, 7]];
+        stack_collections(pool, &pool_words(0, &[1], &cells), 7, &[(0, 0, 1), (1, 1, 1), (2, 1, 0)]);
+        // A check in vain: 3 leads to the points 6 and 7, which stay unmarked; reversal then marks all, points too.
+        let cells = [[0, 2, 3, 1], [0, 4, 5, 2], [0, 6, 7, 3], [5, 1, 1, 4], [5, 2, 2, 5], [5, 3, 3, 6], [5, 4, 4, 7]];
+        stack_collections(pool, &pool_words(0, &[1], &cells), 7, &[(0, 0, 1), (1, 0, 1), (2, 1, 0)]);
+    });
+}
+
+#[test]
+fn a_script_with_points() {
+    on_all(|pool| {
+        let mut words = fresh(pool, 3);
+        assert_eq!(pool.point(&mut words, 0, 150, 12, 34), Ok(0));
+        assert_eq!(pool.new_cell(&mut words, 1, 0, 15, 900), Ok(0));
+        assert_eq!(pool.east(&mut words, 0), Ok(12));
+        assert_eq!(pool.north(&mut words, 0), Ok(34));
+        assert_eq!(pool.left(&mut words, 2, 1), Ok(()));
+        assert_eq!(pool.same(&mut words, 0, 2), Ok(1));
+        assert_eq!(pool.left(&mut words, 2, 0), Err(13));
+        assert_eq!(pool.east(&mut words, 1), Err(13));
+        assert_eq!(pool.collect(&mut words), Ok((2, 4)));
+        assert_eq!(words, pool_words(3, &[1, 2, 1], &[[5, 12, 34, 150], [0, 1, 0, 900], [4, 0, 0, 0]]));
+        assert_eq!(pool.point(&mut words, 0, 160, 56, 78), Ok(0));
+        // Full: all three are held; once register 0 is cleared the third is freed, at the cost of 3 + 1 visits.
+        assert_eq!(pool.point(&mut words, 3, 0, 0, 0), Err(5));
+        assert_eq!(pool.clear(&mut words, 0), Ok(()));
+        assert_eq!(pool.point(&mut words, 3, 170, 90, 10), Ok(4));
+        assert_eq!(pool.setleft(&mut words, 1, 3), Ok(()));
+        assert_eq!(pool.clear(&mut words, 2), Ok(()));
+        assert_eq!(pool.collect(&mut words), Ok((2, 4)));
+        assert_eq!(words, pool_words(1, &[0, 2, 0, 3], &[[4, 0, 0, 0], [0, 3, 0, 900], [5, 90, 10, 170]]));
     });
 }
 

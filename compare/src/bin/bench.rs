@@ -6,7 +6,7 @@
 //! sections to run; without any, all are run.
 
 use cellpool_compare::baseline::PlainRust;
-use cellpool_compare::generate::{comb_and_chain, Shape, SHAPES};
+use cellpool_compare::generate::{comb_and_chain, leaves_as_points, Comb, Shape, SHAPES};
 use cellpool_compare::pool::Archive;
 use cellpool_compare::random::Random;
 use cellpool_compare::{words_for, Interface};
@@ -117,6 +117,20 @@ impl Bench {
         Bench { pools, samples: self.samples }
     }
 
+    /// Without an earlier version that has no points.
+    fn with_points(&self) -> Bench {
+        if cfg!(before_has_points) {
+            Bench { pools: self.pools.clone(), samples: self.samples }
+        } else {
+            self.without_before()
+        }
+    }
+
+    /// The cells of a table's row for these figures, of fewer implementations maybe.
+    fn ratios(&self, figures: &Figures) -> String {
+        figures.ratios() + &" |".repeat(self.pools.len() - 1 - figures.ratios.len())
+    }
+
     fn others(&self) -> String {
         self.pools[1..].iter().map(|(name, _)| format!(" library / {name} |")).collect()
     }
@@ -163,10 +177,8 @@ impl Bench {
 
     /// A collection leaves the words of a collected pool as they are.
     fn collect(&self, graphs: &mut [Vec<u32>]) -> Figures {
-        self.repeat(graphs, |pool, words| {
-            let answer = pool.collect(black_box(words));
-            assert!(answer.is_ok_and(|(kept, visits)| visits == 3 * kept));
-        })
+        let mut items: Vec<_> = graphs.iter_mut().map(|words| (PlainRust.collect(&mut words.clone()), words)).collect();
+        self.repeat(&mut items, |pool, (expected, words)| assert_eq!(pool.collect(black_box(words)), *expected))
     }
 
     fn stack(&self, graphs: &mut [Vec<u32>], length: usize) -> (Figures, Outcome) {
@@ -178,27 +190,41 @@ impl Bench {
         (figures, outcome)
     }
 
-    fn save(&self, graphs: &mut [Vec<u32>]) -> (Figures, Vec<Vec<u8>>) {
+    /// The figures of save, and the images of each implementation: an earlier version may have another form.
+    fn save(&self, graphs: &mut [Vec<u32>]) -> (Figures, Vec<Vec<Vec<u8>>>) {
         let n = graphs[0][0] as usize;
-        let (mut scratch, mut out) = (vec![0; 2 * n], vec![0; 34 + 9 * n]);
+        let (mut scratch, mut out) = (vec![0; 2 * n], vec![0; 34 + 16 * n]);
         let figures = self.repeat(graphs, |pool, words| {
             pool.save(black_box(words), &mut scratch, &mut out).expect("the output is long enough");
         });
-        let image = |words: &mut Vec<u32>| {
-            let bytes = PlainRust.save(words, &mut scratch, &mut out).expect("the output is long enough");
+        let mut image = |pool: &dyn Interface, words: &mut Vec<u32>| {
+            let bytes = pool.save(words, &mut scratch, &mut out).expect("the output is long enough");
             out[..bytes].to_vec()
         };
-        let images = graphs.iter_mut().map(image).collect();
+        let mut images = Vec::new();
+        for (_, pool) in &self.pools {
+            images.push(graphs.iter_mut().map(|words| image(*pool, words)).collect());
+        }
         (figures, images)
     }
 
-    fn load(&self, n: usize, images: &mut [Vec<u8>]) -> Figures {
-        let mut words = vec![0; words_for(n)];
-        self.repeat(images, |pool, image| assert_eq!(pool.load(&mut words, black_box(image)), (Ok(()), image.len())))
+    /// Repeat `run` with each implementation on one of its images after the other.
+    fn read(&self, images: &[Vec<Vec<u8>>], mut run: impl FnMut(&dyn Interface, &[u8])) -> Figures {
+        self.take_turns(self.pools.len(), |which, repeats| {
+            let (pool, images) = (self.pools[which].1, &images[which]);
+            let start = now();
+            (0..repeats).for_each(|place| run(pool, black_box(&images[place % images.len()])));
+            now() - start
+        })
     }
 
-    fn check(&self, n: usize, images: &mut [Vec<u8>]) -> Figures {
-        self.repeat(images, |pool, image| assert_eq!(pool.check_image(black_box(image), n as u32), Ok(())))
+    fn load(&self, n: usize, images: &[Vec<Vec<u8>>]) -> Figures {
+        let mut words = vec![0; words_for(n)];
+        self.read(images, |pool, image| assert_eq!(pool.load(&mut words, image), (Ok(()), image.len())))
+    }
+
+    fn check(&self, n: usize, images: &[Vec<Vec<u8>>]) -> Figures {
+        self.read(images, |pool, image| assert_eq!(pool.check_image(image, n as u32), Ok(())))
     }
 
     /// One of `count` calls that are timed together; `prepare` is not timed.
@@ -234,14 +260,47 @@ fn graphs(shape: Shape, n: usize, random: &mut Random) -> Vec<Vec<u32>> {
     (0..if shape == Shape::Random { RANDOM_GRAPHS } else { 1 }).map(graph).collect()
 }
 
+/// Graphs of one kind, to be worked on in turn.
+struct Graphs {
+    name: String,
+    has_points: bool,
+    words: Vec<Vec<u32>>,
+}
+
+impl Graphs {
+    /// The implementations that take them.
+    fn bench(&self, bench: &Bench) -> Bench {
+        if self.has_points {
+            bench.with_points()
+        } else {
+            Bench { pools: bench.pools.clone(), samples: bench.samples }
+        }
+    }
+}
+
+/// Graphs of these shapes, and with points for the leaves of those where that is half the cells.
+fn all_graphs(shapes: &[Shape], n: usize, random: &mut Random) -> Vec<Graphs> {
+    let mut list: Vec<Graphs> = Vec::new();
+    for &shape in shapes {
+        list.push(Graphs { name: shape.name().into(), has_points: false, words: graphs(shape, n, random) });
+    }
+    for shape in [Shape::Balanced, Shape::LeftComb] {
+        if shapes.contains(&shape) {
+            let words = graphs(shape, n, random).into_iter().map(|words| leaves_as_points(random, words)).collect();
+            list.push(Graphs { name: format!("{}, leaves are points", shape.name()), has_points: true, words });
+        }
+    }
+    list
+}
+
 fn collect(bench: &Bench, random: &mut Random) {
     let n = CELLS;
     println!("### Collect by link reversal, {n} cells\n");
     println!("| graph | library, µs |{}", bench.others());
     bench.rule(1, 1);
-    for shape in SHAPES {
-        let figures = bench.collect(&mut graphs(shape, n, random));
-        println!("| {} | {:.1} |{}", shape.name(), figures.library / 1e3, figures.ratios());
+    for mut graphs in all_graphs(&SHAPES, n, random) {
+        let figures = graphs.bench(bench).collect(&mut graphs.words);
+        println!("| {} | {:.1} |{}", graphs.name, figures.library / 1e3, bench.ratios(&figures));
     }
 }
 
@@ -250,14 +309,12 @@ fn stack(bench: &Bench, random: &mut Random) {
     println!("### Collect with a lent stack, {n} cells\n");
     println!("| graph | stack words | enough | checks | library, µs | library's reversal / stack |{}", bench.others());
     bench.rule(3, 3);
-    for shape in SHAPES {
-        let mut graphs = graphs(shape, n, random);
-        let reversal = bench.collect(&mut graphs);
+    for Graphs { name, mut words, .. } in all_graphs(&SHAPES, n, random) {
+        let reversal = bench.collect(&mut words);
         for length in [n, 16] {
-            let (figures, Outcome { enough, checks }) = bench.stack(&mut graphs, length);
+            let (figures, Outcome { enough, checks }) = bench.stack(&mut words, length);
             println!(
-                "| {} | {length} | {enough} | {checks} | {:.1} | {:.2} |{}",
-                shape.name(),
+                "| {name} | {length} | {enough} | {checks} | {:.1} | {:.2} |{}",
                 figures.library / 1e3,
                 reversal.library / figures.library,
                 figures.ratios()
@@ -293,12 +350,13 @@ fn checks(bench: &Bench, random: &mut Random) {
     println!("| graph | stack words | enough | checks | library, µs |{others}");
     println!("|---|---:|---|---:|---:|{}", "---:|".repeat(ways.len() - 1));
     // A comb whose entries are all needed, since all lead to the last two cells, and one where that is so of all held but one.
-    let mut pools: Vec<(&str, Vec<Vec<u32>>)> =
-        SHAPES.into_iter().map(|shape| (shape.name(), graphs(shape, n, random))).collect();
+    let mut pools = all_graphs(&SHAPES, n, random);
     let entries = (n - 4) / 2;
-    pools.push(("comb of forks", vec![comb_and_chain(random, entries, entries, n, n)]));
-    pools.push(("comb, the first nine forks", vec![comb_and_chain(random, entries, FEW_WORDS - 1, n, n)]));
-    for (name, mut graphs) in pools {
+    for (name, forks) in [("comb of forks", entries), ("comb, the first nine forks", FEW_WORDS - 1)] {
+        let words = vec![comb_and_chain(random, Comb { entries, forks, points: 0, used: n }, n)];
+        pools.push(Graphs { name: name.into(), has_points: false, words });
+    }
+    for Graphs { name, words: mut graphs, .. } in pools {
         let mut stack = [0; FEW_WORDS];
         let Outcome { enough, checks } = Outcome::of(&mut graphs, &mut stack);
         let count = graphs.len();
@@ -328,6 +386,11 @@ fn calls(bench: &Bench, random: &mut Random) {
     println!("| new, a cell is free | {:.1} |{}", figures.library, figures.ratios());
     let figures = bench.calls(8 * n, fresh, |pool, words, v| pool.new_cell(words, 0, 1, 1, v).is_ok(), &mut words);
     println!("| new, its collections shared out, one cell live | {:.1} |{}", figures.library, figures.ratios());
+    let points = bench.with_points();
+    let figures = points.calls(n, fresh, |pool, words, v| pool.point(words, 0, v, v, 1).is_ok(), &mut words);
+    println!("| point, a cell is free | {:.1} |{}", figures.library, bench.ratios(&figures));
+    let figures = points.calls(8 * n, fresh, |pool, words, v| pool.point(words, 0, v, v, 1).is_ok(), &mut words);
+    println!("| point, its collections shared out, one cell live | {:.1} |{}", figures.library, bench.ratios(&figures));
     let chain = Shape::LeftChain.words(n, random);
     let restart = |words: &mut [u32]| words.copy_from_slice(&chain);
     let figures = bench.calls(n - 1, restart, |pool, words, _| pool.left(words, 0, 0).is_ok(), &mut words);
@@ -336,6 +399,14 @@ fn calls(bench: &Bench, random: &mut Random) {
     println!("| setright | {:.1} |{}", figures.library, figures.ratios());
     let figures = bench.calls(n, restart, |pool, words, _| pool.value(words, 0).is_ok(), &mut words);
     println!("| value | {:.1} |{}", figures.library, figures.ratios());
+    let point = |words: &mut [u32]| {
+        PlainRust.fresh(words).expect("the size is right");
+        PlainRust.point(words, 0, 1, 2, 3).expect("a cell is free");
+    };
+    let figures = points.calls(n, point, |pool, words, _| pool.east(words, 0).is_ok(), &mut words);
+    println!("| east | {:.1} |{}", figures.library, bench.ratios(&figures));
+    let figures = points.calls(n, point, |pool, words, _| pool.north(words, 0).is_ok(), &mut words);
+    println!("| north | {:.1} |{}", figures.library, bench.ratios(&figures));
     let figures = bench.calls(n, |_| (), |pool, _, v| pool.occupancy(black_box(v), n as u32).is_ok(), &mut words);
     println!("| occupancy | {:.1} |{}", figures.library, figures.ratios());
 }
@@ -354,8 +425,7 @@ fn build(bench: &Bench, _: &mut Random) {
         let figures = of.repeat(&mut [vec![0; words_for(n)]], |pool, words| {
             assert_eq!(builder(pool, black_box(words)), Ok(number as u32));
         });
-        let left_out = " |".repeat(bench.pools.len() - of.pools.len());
-        println!("| {name} | {:.1} |{}{left_out}", figures.library / 1e3, figures.ratios());
+        println!("| {name} | {:.1} |{}", figures.library / 1e3, bench.ratios(&figures));
     }
 }
 
@@ -364,11 +434,12 @@ fn images(bench: &Bench, random: &mut Random) {
     println!("### Images, {n} cells\n");
     println!("| graph | function | library, ns a cell |{}", bench.others());
     bench.rule(2, 1);
-    for shape in [Shape::Balanced, Shape::LeftChain, Shape::Random] {
-        let (save, mut images) = bench.save(&mut graphs(shape, n, random));
-        let (load, check) = (bench.load(n, &mut images), bench.check(n, &mut images));
+    for mut graphs in all_graphs(&[Shape::Balanced, Shape::LeftChain, Shape::Random], n, random) {
+        let of = graphs.bench(bench);
+        let (save, images) = of.save(&mut graphs.words);
+        let (load, check) = (of.load(n, &images), of.check(n, &images));
         for (name, figures) in [("save", save), ("load", load), ("check", check)] {
-            println!("| {} | {name} | {:.1} |{}", shape.name(), figures.library / n as f64, figures.ratios());
+            println!("| {} | {name} | {:.1} |{}", graphs.name, figures.library / n as f64, bench.ratios(&figures));
         }
     }
 }
@@ -382,8 +453,8 @@ fn growth(bench: &Bench, random: &mut Random) {
         let mut rows = ["collect", "collect with a stack", "save", "load"].map(|name| (name, String::new()));
         for n in sizes {
             let mut graphs = graphs(shape, n, random);
-            let (save, mut images) = bench.save(&mut graphs);
-            let load = bench.load(n, &mut images);
+            let (save, images) = bench.save(&mut graphs);
+            let load = bench.load(n, &images);
             let collect = bench.collect(&mut graphs);
             let (stack, _) = bench.without_before().stack(&mut graphs, n);
             for (row, figures) in rows.iter_mut().zip([collect, stack, save, load]) {

@@ -16,7 +16,7 @@ found-again says find law p q e = sym (law p) ∙ ap find e ∙ law q
 -- the refusal of a number, which counts from 1
 abbrev pub refusalOf : ℕ → Refusal
 refusalOf n =
-    getD (refusal.Size ∷ refusal.Register ∷ refusal.Malformed ∷ refusal.Nil ∷ refusal.Full ∷ refusal.Truncated ∷ refusal.OutOfRange ∷ refusal.LinkRange ∷ refusal.TooManyCells ∷ refusal.NoRoom ∷ refusal.TooLarge ∷ refusal.Padded ∷ []) (n - 1) refusal.Size
+    getD (refusal.Size ∷ refusal.Register ∷ refusal.Malformed ∷ refusal.Nil ∷ refusal.Full ∷ refusal.Truncated ∷ refusal.OutOfRange ∷ refusal.LinkRange ∷ refusal.TooManyCells ∷ refusal.NoRoom ∷ refusal.TooLarge ∷ refusal.Padded ∷ refusal.Kind ∷ refusal.KindNumber ∷ []) (n - 1) refusal.Size
 
 pub refusal-again : (k : Refusal) → refusalOf (refusalNumber k) ≡ k
 refusal-again refusal.Size = refl
@@ -31,6 +31,8 @@ refusal-again refusal.TooManyCells = refl
 refusal-again refusal.NoRoom = refl
 refusal-again refusal.TooLarge = refl
 refusal-again refusal.Padded = refl
+refusal-again refusal.Kind = refl
+refusal-again refusal.KindNumber = refl
 
 pub refusal-determined : RefusalDetermined
 refusal-determined = found-again refusalNumber refusalOf refusal-again

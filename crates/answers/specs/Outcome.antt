@@ -8,7 +8,7 @@ use Rattle.answers.specs.declared.Refusal.the-variants as refusal
 use Rattle.answers.specs.declared.Answer.{Answer}
 use Rattle.answers.specs.declared.Answer.the-variants as answer
 
--- What a call says: the numbers that it gives; or that a cell was allocated, with the visits of the collection that it took ("new" also reports
+-- What a call says: the numbers that it gives; or that a cell was allocated, with the visits of the collection that it took ("new" and "point" also report
 -- visits, which stand outside the comparison with the ledger); or the number of the refusal.
 pub data Outcome : Type 0 where
   answered : List ℕ → Outcome
@@ -27,7 +27,7 @@ given (answered xs) i other = getD xs i other
 given (allocated visits) i other = getD (visits ∷ []) i other
 given (refused k) i other = other
 
--- The number of each refusal (01, "Questions, in order"; 12: 02, S-1).
+-- The number of each refusal (01, "Questions, in order"; 12: 02, S-1; 13 and 14: S-8).
 abbrev pub refusalNumber : Refusal → ℕ
 refusalNumber refusal.Size = 1
 refusalNumber refusal.Register = 2
@@ -41,6 +41,8 @@ refusalNumber refusal.TooManyCells = 9
 refusalNumber refusal.NoRoom = 10
 refusalNumber refusal.TooLarge = 11
 refusalNumber refusal.Padded = 12
+refusalNumber refusal.Kind = 13
+refusalNumber refusal.KindNumber = 14
 
 -- Done gives no number; an allocation is told with its visits; the others give one number or two; a refusal its number.
 abbrev pub answerOutcome : Answer → Outcome

@@ -28,6 +28,10 @@ pub enum Refusal {
     TooLarge,
     // A number of an image is written in more groups than it needs.
     Padded,
+    // A point where a pair is needed, or a pair where a point is.
+    Kind,
+    // A number of an image that is no kind of cell.
+    KindNumber,
 }
 
 // What an operation answers.
@@ -59,6 +63,8 @@ impl Refusal {
             Refusal::NoRoom => 10,
             Refusal::TooLarge => 11,
             Refusal::Padded => 12,
+            Refusal::Kind => 13,
+            Refusal::KindNumber => 14,
         }
     }
 }

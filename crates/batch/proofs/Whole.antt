@@ -28,6 +28,9 @@ every-list-has-words (call.SetValue a v ∷ cs) = ap (then (call.SetValue a v)) 
 every-list-has-words (call.Value a ∷ cs) = ap (then (call.Value a)) (every-list-has-words cs)
 every-list-has-words (call.Same a b ∷ cs) = ap (then (call.Same a b)) (every-list-has-words cs)
 every-list-has-words (call.Collect ∷ cs) = ap (then call.Collect) (every-list-has-words cs)
+every-list-has-words (call.Point r v x y ∷ cs) = ap (then (call.Point r v x y)) (every-list-has-words cs)
+every-list-has-words (call.East a ∷ cs) = ap (then (call.East a)) (every-list-has-words cs)
+every-list-has-words (call.North a ∷ cs) = ap (then (call.North a)) (every-list-has-words cs)
 
 -- a store behind a front
 set-behind : (front back : List ℕ) (n i v : ℕ) → n ≡ length front + i → set (front ++ back) n v ≡ front ++ set back i v

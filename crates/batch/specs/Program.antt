@@ -8,7 +8,8 @@ use Rattle.calls.specs.declared.Call.the-variants as call
 use Rattle.batch.specs.declared.Decoded.{Decoded}
 use Rattle.batch.specs.declared.Decoded.the-variants as decoded
 
--- The call of a code and four words: 0 copy, 1 clear, 2 new, 3 left, 4 right, 5 setleft, 6 setright, 7 setvalue, 8 value, 9 same, 10 collect.
+-- The call of a code and four words: 0 copy, 1 clear, 2 new, 3 left, 4 right, 5 setleft, 6 setright, 7 setvalue, 8 value, 9 same, 10 collect,
+-- 11 point, 12 east, 13 north.
 abbrev pub callNumbered : ℕ → ℕ → ℕ → ℕ → ℕ → Decoded
 callNumbered code x y z u =
     cond (eqb code 0) (decoded.Known (call.Copy x y))
@@ -21,7 +22,10 @@ callNumbered code x y z u =
     (cond (eqb code 7) (decoded.Known (call.SetValue x y))
     (cond (eqb code 8) (decoded.Known (call.Value x))
     (cond (eqb code 9) (decoded.Known (call.Same x y))
-    (cond (eqb code 10) (decoded.Known call.Collect) decoded.Unknown))))))))))
+    (cond (eqb code 10) (decoded.Known call.Collect)
+    (cond (eqb code 11) (decoded.Known (call.Point x y z u))
+    (cond (eqb code 12) (decoded.Known (call.East x))
+    (cond (eqb code 13) (decoded.Known (call.North x)) decoded.Unknown)))))))))))))
 
 -- A program: calls, to the end of the list or to the first entry that is no call, one of fewer than five words or of an unknown code.
 pub data Program : Type 0 where
@@ -61,6 +65,9 @@ callWords (call.SetValue a v) = 7 ∷ a ∷ v ∷ 0 ∷ 0 ∷ []
 callWords (call.Value a) = 8 ∷ a ∷ 0 ∷ 0 ∷ 0 ∷ []
 callWords (call.Same a b) = 9 ∷ a ∷ b ∷ 0 ∷ 0 ∷ []
 callWords call.Collect = 10 ∷ 0 ∷ 0 ∷ 0 ∷ 0 ∷ []
+callWords (call.Point r v x y) = 11 ∷ r ∷ v ∷ x ∷ y ∷ []
+callWords (call.East a) = 12 ∷ a ∷ 0 ∷ 0 ∷ 0 ∷ []
+callWords (call.North a) = 13 ∷ a ∷ 0 ∷ 0 ∷ 0 ∷ []
 
 -- The words of a list of calls.
 unfoldable pub programWords : List Call → List ℕ

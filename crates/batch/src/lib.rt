@@ -46,6 +46,14 @@ fn call_numbered(code: u32, x: u32, y: u32, z: u32, u: u32) -> Decoded
         8 => Decoded::Known(Call::Value { a: x }),
         9 => Decoded::Known(Call::Same { a: x, b: y }),
         10 => Decoded::Known(Call::Collect),
+        11 => Decoded::Known(Call::Point {
+            r: x,
+            v: y,
+            x: z,
+            y: u,
+        }),
+        12 => Decoded::Known(Call::East { a: x }),
+        13 => Decoded::Known(Call::North { a: x }),
         _ => Decoded::Unknown,
     }
 }

@@ -7,10 +7,10 @@ use mathlib.Core.Logic.{_⊎_, inl, inr}
 use mathlib.Core.List.{List, [], _∷_, List·Memᴰ, List·Memᴰ·head, List·Memᴰ·tail}
 use mathlib.Core.Bool.{Bool, true, false, cond}
 use lib.ListN.{length}
-use Rattle.pool.specs.Layout.{poolLength, setCell, state}
-use Rattle.pool.specs.States.{isUsed, isMarked, asMarked, asUsed, markCell, unmarkCell}
+use Rattle.pool.specs.Layout.{poolLength, setCell, state, markCell, unmarkCell}
+use Rattle.pool.specs.States.{isUsed, isMarked, asMarked, asUsed}
 use Rattle.pool.specs.Retain.{markedCell}
-use Rattle.pool.proofs.States.{used-not-marked, used-same, marked-marked}
+use Rattle.pool.proofs.States.{used-not-marked, used-same, used-alike, marked-marked, point-marked}
 use Rattle.pool.proofs.Laws.{length-setCell, cell-same, cell-other, setCell-again, setCell-comm, setCell-cell}
 use Rattle.questions.proofs.WellFormed.{WellFormed, cell-unmarked}
 use Rattle.questions.proofs.PoolGraph.{Used}
@@ -62,15 +62,23 @@ module _ (R : ℕ) where
           → cleared R i (cond (markedCell R (markCell R w x) (suc i)) (unmarkCell R (markCell R w x) (suc i)) (markCell R w x))
           ≡ cleared R i (cond (markedCell R w (suc i)) (unmarkCell R w (suc i)) w)
       go (yes e) t et rest =
-          rw (e, cell-same R w x 0 (asMarked (state R w x)) low (omega arith) room, setCell-again R w x 0 (asMarked (state R w x)) (asUsed (state R w x))) (ap (cleared R i) (sym (here from)))
+          rw (
+            e,
+            cell-same R w x 0 (asMarked (state R w x)) low (omega arith) room,
+            marked-marked (state R w x),
+            used-alike (asMarked (state R w x)) (state R w x) (point-marked (state R w x)),
+            setCell-again R w x 0 (asMarked (state R w x)) (asUsed (state R w x)),
+          )
+          (ap (cleared R i) (sym (here from)))
       go (no apart) true et rest =
+          let same : state R (unmarkCell R w (suc i)) x ≡ state R w x =
+          cell-other R w (suc i) 0 (asUsed (state R w (suc i))) x 0 (omega arith) (omega arith) low (omega arith) (λ e. apart (omega arith)) in
           rw (
             cell-other R w x 0 (asMarked (state R w x)) (suc i) 0 low (omega arith) (omega arith) (omega arith) (λ e. apart (omega arith)),
             et,
             setCell-comm R w x 0 (asMarked (state R w x)) (suc i) 0 (asUsed (state R w (suc i))) low (omega arith) (omega arith) (omega arith) (λ e. apart (omega arith)),
           )
-          (rest (unmarkCell R w (suc i)) (omega arith) (simp length-setCell room)
-          (rw (cell-other R w (suc i) 0 (asUsed (state R w (suc i))) x 0 (omega arith) (omega arith) low (omega arith) (λ e. apart (omega arith))) from))
+          (rw same at (rest (unmarkCell R w (suc i)) (omega arith) (simp length-setCell room) (rw same from)))
       go (no apart) false et rest =
           rw (cell-other R w x 0 (asMarked (state R w x)) (suc i) 0 low (omega arith) (omega arith) (omega arith) (λ e. apart (omega arith)), et)
           (rest w (omega arith) room from)

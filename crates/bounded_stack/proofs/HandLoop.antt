@@ -8,8 +8,7 @@ use lib.ListN.{length, getD, set, length-set, length-append}
 use borrow.Author.Tests.{lt-ltb, le-ltb}
 use Rattle.graph.specs.Preorder.{elem}
 use Rattle.graph.proofs.Count.{marked-le}
-use Rattle.pool.specs.Layout.{poolLength, left, right, graphOf, rootsOf}
-use Rattle.pool.specs.States.{markCell}
+use Rattle.pool.specs.Layout.{poolLength, graphOf, rootsOf, markCell, linkOf}
 use Rattle.questions.proofs.PoolGraph.{pool-within}
 use Rattle.reversal.specs.ReversalTheorem.{markAll}
 use Rattle.reversal.proofs.PoolMarks.{stateMarks}
@@ -80,7 +79,7 @@ module _ (R n p : ℕ) (words₀ : List ℕ) (room : poolLength R n ≤ length w
 
   module _ (stack₀ words stack : List ℕ) (hand top checks : ℕ) (s : Hand R n p words₀ stack₀ words stack hand top checks) where
     module _ (h : Pending R n words₀ (p ∷ [])) where
-      pub hand-cell : (0 < hand) × (hand ≤ n) × (left R words hand ≤ n) × (right R words hand ≤ n) × (poolLength R n ≤ length words)
+      pub hand-cell : (0 < hand) × (hand ≤ n) × (linkOf R words hand 1 ≤ n) × (linkOf R words hand 2 ≤ n) × (poolLength R n ≤ length words)
       hand-cell = pending-cell R n (h .pool) (pending-well h) (pool-room h) (s .run h .marked)
 
       pub hand-length : length words ≡ length words₀

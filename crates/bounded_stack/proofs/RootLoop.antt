@@ -11,8 +11,7 @@ use borrow.Author.Tests.{not-true, not-false}
 use Rattle.graph.specs.Graph.{Reach}
 use Rattle.graph.specs.Preorder.{elem}
 use Rattle.graph.proofs.Reached.{reach-above, reach-within}
-use Rattle.pool.specs.Layout.{poolLength, register, graphOf, rootsOf}
-use Rattle.pool.specs.States.{markCell}
+use Rattle.pool.specs.Layout.{poolLength, register, graphOf, rootsOf, markCell}
 use Rattle.questions.specs.Validity.{wellFormed}
 use Rattle.pool.proofs.Every.{length-tabulate, getD-tabulate, member-tabulate}
 use Rattle.questions.proofs.WellFormed.{WellFormed, well-formed-read}

@@ -2,8 +2,7 @@
 use Prim.Native.Nat.{ℕ, zero, suc}
 use mathlib.Core.List.{List, [], _∷_}
 use mathlib.Core.Bool.{Bool, cond}
-use Rattle.pool.specs.Layout.{graphOf, rootsOf}
-use Rattle.pool.specs.States.{unmarkCell}
+use Rattle.pool.specs.Layout.{graphOf, rootsOf, unmarkCell}
 use Rattle.pool.specs.Retain.{markedCell}
 use Rattle.reversal.specs.ReversalTheorem.{markAll}
 use Rattle.stack_algorithm.specs.Check.{isEnough, checkCount, limited, limitedRun}

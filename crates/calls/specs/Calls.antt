@@ -1,4 +1,4 @@
--- What each of the eleven calls answers and leaves, on every list of words (01, "The eleven calls" and "Questions, in order").
+-- What each of the fourteen calls answers and leaves, on every list of words (01, "The eleven calls" and "Questions, in order"; 02, S-8).
 use Prim.Native.Nat.{ℕ}
 use mathlib.Core.List.{List}
 use mathlib.Core.Bool.{Bool, true, false}
@@ -6,8 +6,8 @@ use Rattle.answers.specs.Outcome.{Outcome, refused}
 use Rattle.questions.specs.declared.Named.{Named}
 use Rattle.questions.specs.Questions.{admitOf, admittedTo}
 use Rattle.collector.specs.Collect.{collectIn}
-use Rattle.allocator.specs.Allocation.{newIn}
-use Rattle.operations.specs.Operations.{copyIn, clearIn, followIn, linkIn, setValueIn, valueIn, sameIn}
+use Rattle.allocator.specs.Allocation.{newIn, pointIn}
+use Rattle.operations.specs.Operations.{copyIn, clearIn, followIn, linkIn, setValueIn, valueIn, coordinateIn, sameIn}
 use Rattle.calls.specs.declared.Call.{Call}
 use Rattle.calls.specs.declared.Call.the-variants as call
 
@@ -29,8 +29,11 @@ registersOf (call.SetValue a v) = names a a a
 registersOf (call.Value a) = names a a a
 registersOf (call.Same a b) = names a b b
 registersOf call.Collect = names 0 0 0
+registersOf (call.Point r v x y) = names r r r
+registersOf (call.East a) = names a a a
+registersOf (call.North a) = names a a a
 
--- A call behind its first two questions, on a pool of n cells: "a call is one of eleven cases".
+-- A call behind its first two questions, on a pool of n cells: "a call is one of eleven cases", and 02, S-8, adds three.
 abbrev pub bodyOf : Call → ℕ → List ℕ → Outcome × List ℕ
 bodyOf (call.Copy r a) n w = copyIn n w r a
 bodyOf (call.Clear r) n w = clearIn w r
@@ -43,12 +46,15 @@ bodyOf (call.SetValue a v) n w = setValueIn n w a v
 bodyOf (call.Value a) n w = valueIn n w a
 bodyOf (call.Same a b) n w = sameIn n w a b
 bodyOf call.Collect n w = collectIn n w
+bodyOf (call.Point r v x y) n w = pointIn n w r v x y
+bodyOf (call.East a) n w = coordinateIn n w 1 a
+bodyOf (call.North a) n w = coordinateIn n w 2 a
 
 -- A call: the first two questions, and then its body; "A refusal gives its number alone .. and changes nothing".
 abbrev pub callOf : Call → List ℕ → Outcome × List ℕ
 callOf c w = admittedTo (λ n. bodyOf c n w) (λ k. (refused k, w)) (admitOf w (registersOf c))
 
--- Does the call allocate a cell? "new" does, no other.
+-- Does the call allocate a cell? "new" does, and "point", "counting as a "new"" (02, S-8); no other.
 abbrev pub allocates : Call → Bool
 allocates (call.Copy r a) = false
 allocates (call.Clear r) = false
@@ -61,3 +67,6 @@ allocates (call.SetValue a v) = false
 allocates (call.Value a) = false
 allocates (call.Same a b) = false
 allocates call.Collect = false
+allocates (call.Point r v x y) = true
+allocates (call.East a) = false
+allocates (call.North a) = false

@@ -1,4 +1,4 @@
-// The eleven calls on a pool. Each asks the first two questions and then runs its body, which is in `operations`, `allocator` or `collector`. They take
+// The fourteen calls on a pool. Each asks the first two questions and then runs its body, which is in `operations`, `allocator` or `collector`. They take
 // any words and any numbers.
 use answers::Answer;
 use pool::Pool;
@@ -8,7 +8,7 @@ ghost use mathlib.Core.Path.{_≡_};
 ghost use Rattle.answers.specs.Outcome.{answerOutcome};
 ghost use Rattle.calls.specs.Calls.{names, callOf};
 
-// A call: r, a and b are register numbers, v is a value.
+// A call: r, a and b are register numbers, v is a value, x and y are coordinates.
 pub enum Call {
     Copy { r: u32, a: u32 },
     Clear { r: u32 },
@@ -21,6 +21,9 @@ pub enum Call {
     Value { a: u32 },
     Same { a: u32, b: u32 },
     Collect,
+    Point { r: u32, v: u32, x: u32, y: u32 },
+    East { a: u32 },
+    North { a: u32 },
 }
 
 // The registers r, a and b.
@@ -54,7 +57,7 @@ pub fn clear(words: &mut [u32], r: u32) -> Answer
     }
 }
 
-// new r a b v: r gets a new cell with left from a, right from b, and value v. Where no cell is free it collects first.
+// new r a b v: r gets a new pair with left from a, right from b, and value v. Where no cell is free it collects first.
 pub fn new(words: &mut [u32], r: u32, a: u32, b: u32, v: u32) -> Answer
     ensures { λ q. ⌜ (answerOutcome q, now (words .exit)) ≡ callOf (Call.New r a b v) (now (words .entry)) ⌝ }
 {
@@ -64,7 +67,7 @@ pub fn new(words: &mut [u32], r: u32, a: u32, b: u32, v: u32) -> Answer
     }
 }
 
-// left r a: r gets the left link of a's cell.
+// left r a: r gets the left link of a's pair.
 pub fn left(words: &mut [u32], r: u32, a: u32) -> Answer
     ensures { λ q. ⌜ (answerOutcome q, now (words .exit)) ≡ callOf (Call.Left r a) (now (words .entry)) ⌝ }
 {
@@ -74,7 +77,7 @@ pub fn left(words: &mut [u32], r: u32, a: u32) -> Answer
     }
 }
 
-// right r a: r gets the right link of a's cell.
+// right r a: r gets the right link of a's pair.
 pub fn right(words: &mut [u32], r: u32, a: u32) -> Answer
     ensures { λ q. ⌜ (answerOutcome q, now (words .exit)) ≡ callOf (Call.Right r a) (now (words .entry)) ⌝ }
 {
@@ -84,7 +87,7 @@ pub fn right(words: &mut [u32], r: u32, a: u32) -> Answer
     }
 }
 
-// setleft a b: the left link of a's cell becomes what b holds.
+// setleft a b: the left link of a's pair becomes what b holds.
 pub fn set_left(words: &mut [u32], a: u32, b: u32) -> Answer
     ensures { λ q. ⌜ (answerOutcome q, now (words .exit)) ≡ callOf (Call.SetLeft a b) (now (words .entry)) ⌝ }
 {
@@ -94,7 +97,7 @@ pub fn set_left(words: &mut [u32], a: u32, b: u32) -> Answer
     }
 }
 
-// setright a b: the right link of a's cell becomes what b holds.
+// setright a b: the right link of a's pair becomes what b holds.
 pub fn set_right(words: &mut [u32], a: u32, b: u32) -> Answer
     ensures { λ q. ⌜ (answerOutcome q, now (words .exit)) ≡ callOf (Call.SetRight a b) (now (words .entry)) ⌝ }
 {
@@ -140,6 +143,36 @@ pub fn collect(words: &mut [u32]) -> Answer
 {
     match questions::admit(words, names(0, 0, 0)) {
         Admitted::Cells(n) => collector::collect_in(words, n),
+        Admitted::Refused(k) => Answer::Refused(k),
+    }
+}
+
+// point r v x y: r gets a new point with value v and the coordinates x and y. Where no cell is free it collects first.
+pub fn point(words: &mut [u32], r: u32, v: u32, x: u32, y: u32) -> Answer
+    ensures { λ q. ⌜ (answerOutcome q, now (words .exit)) ≡ callOf (Call.Point r v x y) (now (words .entry)) ⌝ }
+{
+    match questions::admit(words, names(r, r, r)) {
+        Admitted::Cells(n) => allocator::point_in(words, n, r, v, x, y),
+        Admitted::Refused(k) => Answer::Refused(k),
+    }
+}
+
+// east a: x of a's point.
+pub fn east(words: &[u32], a: u32) -> Answer
+    ensures { λ q. ⌜ (answerOutcome q, now (words .entry)) ≡ callOf (Call.East a) (now (words .entry)) ⌝ }
+{
+    match questions::admit(words, names(a, a, a)) {
+        Admitted::Cells(n) => operations::coordinate_in(words, n, Pool::LEFT, a),
+        Admitted::Refused(k) => Answer::Refused(k),
+    }
+}
+
+// north a: y of a's point.
+pub fn north(words: &[u32], a: u32) -> Answer
+    ensures { λ q. ⌜ (answerOutcome q, now (words .entry)) ≡ callOf (Call.North a) (now (words .entry)) ⌝ }
+{
+    match questions::admit(words, names(a, a, a)) {
+        Admitted::Cells(n) => operations::coordinate_in(words, n, Pool::RIGHT, a),
         Admitted::Refused(k) => Answer::Refused(k),
     }
 }

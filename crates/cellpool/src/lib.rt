@@ -138,6 +138,34 @@ pub extern "C" fn cellpool_same(words: &[u32], a: u32, b: u32, same: &mut u32) -
 }
 
 #[no_mangle]
+pub extern "C" fn cellpool_point(
+    words: &mut [u32],
+    r: u32,
+    v: u32,
+    x: u32,
+    y: u32,
+    visits: &mut u32,
+) -> u32
+    ensures { λ q. ⌜ (q, now (words .exit), now (visits .exit)) ≡ giving (callOf (Call.Point r v x y) (now (words .entry))) (now (visits .entry)) ⌝ }
+{
+    store(calls::point(words, r, v, x, y), visits)
+}
+
+#[no_mangle]
+pub extern "C" fn cellpool_east(words: &[u32], a: u32, x: &mut u32) -> u32
+    ensures { λ q. ⌜ (q, now (words .entry), now (x .exit)) ≡ giving (callOf (Call.East a) (now (words .entry))) (now (x .entry)) ⌝ }
+{
+    store(calls::east(words, a), x)
+}
+
+#[no_mangle]
+pub extern "C" fn cellpool_north(words: &[u32], a: u32, y: &mut u32) -> u32
+    ensures { λ q. ⌜ (q, now (words .entry), now (y .exit)) ≡ giving (callOf (Call.North a) (now (words .entry))) (now (y .entry)) ⌝ }
+{
+    store(calls::north(words, a), y)
+}
+
+#[no_mangle]
 pub extern "C" fn cellpool_collect(words: &mut [u32], kept: &mut u32, visits: &mut u32) -> u32
     ensures { λ q. ⌜ (q, now (words .exit), now (kept .exit), now (visits .exit)) ≡ givingTwo (callOf Call.Collect (now (words .entry))) (now (kept .entry)) (now (visits .entry)) ⌝ }
 {

@@ -1,5 +1,5 @@
 -- The proof of what a collection does to a well-formed pool.
-use Prim.Native.Nat.{ℕ, _*_, _<_, _≤_}
+use Prim.Native.Nat.{ℕ, _<_, _≤_}
 use native.Mathlib.Omega.{arith}
 use mathlib.Core.Path.{_≡_, refl, sym, ap, ap₂, _∙_}
 use mathlib.Core.List.{List, [], _∷_}
@@ -18,14 +18,13 @@ use Rattle.questions.proofs.WellFormed.{WellFormed, well-formed-read, well-form
 use Rattle.questions.proofs.PoolGraph.{pool-within}
 use Rattle.pool.proofs.Retained.{length-retain, retain-register, retain-count}
 use Rattle.pool.proofs.RetainedPool.{retained-used, retained-free, retained-free-list}
-use Rattle.reversal.specs.Reached.{reachedCells, isReached, visitsOf, reachedVisits}
+use Rattle.reversal.specs.Reached.{reachedCells, isReached, reachedVisits}
 use Rattle.collector.specs.Collect.{collected, collectIn, collectOf}
 use Rattle.reversal.specs.ReversalTheorem.{markedOf}
 use Rattle.collector.specs.CollectTheorem.{Reached, Collected, CollectionKeepsTheReached, CollectionMarksAndSweeps}
 use Rattle.reversal.proofs.Roots.{run-over-pool, roots-same}
 use Rattle.collector.proofs.MarkSweep.{swept-reached}
-use Rattle.reversal.proofs.VisitCount.{visits-three}
-use Rattle.collector.proofs.Collected.{reached-kept, kept-reached, collected-field, collected-well-formed, collected-order, collected-again, collected-full}
+use Rattle.collector.proofs.Collected.{reached-kept, kept-reached, collected-field, collected-well-formed, collected-order, collected-visits, collected-again, collected-full}
 
 -- the collection of a pool of n cells is the marker's runs and the sweep
 swept : (n : ℕ) (w : List ℕ) → wellFormed registerCount n w ≡ true → poolLength registerCount n ≤ length w
@@ -50,10 +49,6 @@ collect-made n w w₁ w₂ visits kept well room mark sweep =
 -- the words of a pool of n cells pass the first question
 accepted : (n : ℕ) (w : List ℕ) → 0 < n → cellCount registerCount w ≡ n → collectOf w ≡ collectIn n w
 accepted n w some cells = rw cells (simp (lt-ltb 0 n some))
-
--- what a collection that keeps the cells t answers: three visits for each
-three : (t v : List ℕ) → _≡_ {A = Outcome × List ℕ} (answered (length t ∷ visitsOf t ∷ []), v) (answered (length t ∷ 3 * length t ∷ []), v)
-three t v = rw (visits-three t) refl
 
 module _ (n : ℕ) (w : List ℕ) (some : 0 < n) (cells : cellCount registerCount w ≡ n) (well : wellFormed registerCount n w ≡ true) where
   facts : WellFormed registerCount n w
@@ -93,9 +88,10 @@ module _ (n : ℕ) (w : List ℕ) (some : 0 < n) (cells : cellCount registerCoun
         same = λ x reach.
             record {
               used = retained-used registerCount n keep w room x (reach-above reach) (reach-within (pool-within facts) reach) (reached-kept registerCount n w facts reach);
-              left = collected-field registerCount n w facts room 0 (omega arith) reach;
-              right = collected-field registerCount n w facts room 1 (omega arith) reach;
-              value = collected-field registerCount n w facts room 2 (omega arith) reach;
+              state = collected-field registerCount n w facts room 0 (omega arith) reach;
+              left = collected-field registerCount n w facts room 1 (omega arith) reach;
+              right = collected-field registerCount n w facts room 2 (omega arith) reach;
+              value = collected-field registerCount n w facts room 3 (omega arith) reach;
             };
         free = λ x low high none. ap isFree (retained-free registerCount n keep w room x low high (not-kept x none));
         chain = retained-free-list registerCount n keep w some room;
@@ -104,8 +100,8 @@ module _ (n : ℕ) (w : List ℕ) (some : 0 < n) (cells : cellCount registerCoun
         cells = cells-after;
         well-formed = well-after;
         again = accepted n after some cells-after
-            ∙ (rw well-after (ap₂ (λ (t v : List ℕ). (answered (length t ∷ visitsOf t ∷ []), v)) (collected-order registerCount n w facts room) (collected-again registerCount n w facts room))
-            ∙ three (reachedCells registerCount n w) after);
+            ∙ rw (well-after, collected-visits registerCount n w facts room)
+            (ap₂ (λ (t v : List ℕ). (answered (length t ∷ reachedVisits registerCount n w ∷ []), v)) (collected-order registerCount n w facts room) (collected-again registerCount n w facts room));
         full = collected-full registerCount n w facts room;
       }
 
@@ -119,9 +115,9 @@ collection-marks-and-sweeps n w some cells well =
       visits,
       after,
       accepted n w some cells ∙ swept n w well wide,
-      record { marked = marked; runs = runs; only = λ end other. roots-same registerCount n (graphOf registerCount w) other runs; swept = refl },
+      record { marked = marked; runs = runs; only = λ end other. roots-same registerCount n other runs; swept = refl },
     )
 
 pub collection-keeps-the-reached : CollectionKeepsTheReached
 collection-keeps-the-reached n w some cells well =
-    (reachedCells registerCount n w, collected registerCount n w, accepted n w some cells ∙ rw well (three (reachedCells registerCount n w) (collected registerCount n w)), what-is-left n w some cells well)
+    (reachedCells registerCount n w, collected registerCount n w, accepted n w some cells ∙ rw well refl, what-is-left n w some cells well)

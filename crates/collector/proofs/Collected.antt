@@ -17,16 +17,20 @@ use Rattle.graph.proofs.Lists.{has-member, member-has}
 use Rattle.graph.proofs.Marks.{marks-member, marks-cases, outside-cell, zero-or-above}
 use Rattle.graph.proofs.Theorems.{preorder-reached, preorder-agree, order-closure, marked-count}
 use Rattle.graph.proofs.Reached.{reach-above, reach-within}
-use Rattle.pool.specs.Layout.{poolLength, head, register, cell, state, left, right, graphOf, rootsOf}
+use Rattle.pool.specs.Layout.{poolLength, head, register, cell, state, isPointAt, linkOf, graphOf, rootsOf}
+use Rattle.pool.specs.States.{isPoint}
 use Rattle.pool.specs.Retain.{retain, keptCount}
 use Rattle.pool.proofs.Every.{tabulate-cong, member-tabulate}
 use Rattle.questions.proofs.WellFormed.{WellFormed}
 use Rattle.questions.proofs.PoolGraph.{reached-used, pool-within}
 use Rattle.pool.proofs.Retained.{retain-register, retain-head}
 use Rattle.questions.proofs.RetainedPool.{Kept, retained-well-formed}
-use Rattle.pool.proofs.RetainedPool.{retained-same}
+use Rattle.pool.proofs.RetainedPool.{retained-state, retained-same}
+use Rattle.pool.proofs.Links.{link-same}
+use Rattle.pool.proofs.States.{used-same}
 use Rattle.pool.proofs.AllKept.{counted-all, all-counted, none-free-all, retain-all, retain-again}
-use Rattle.reversal.specs.Reached.{reachedCells, isReached, reachedCount}
+use Rattle.reversal.specs.Reached.{reachedCells, isReached, reachedCount, visitsOf, reachedVisits}
+use Rattle.reversal.proofs.VisitCount.{visits-cong}
 use Rattle.collector.specs.Collect.{collected}
 
 -- the same count, of tests and of marks
@@ -57,13 +61,22 @@ module _ (R n : ℕ) (w : List ℕ) (well : WellFormed R n w) where
   reached-kept {x} r = has-member x (preorder-reached n (graphOf R w) (rootsOf R w) (pool-within well) x .1 r)
 
   module _ (room : poolLength R n ≤ length w) where
-    -- a reached cell keeps its links and its value
-    pub collected-field : {x : ℕ} (f : ℕ) → suc f < 4 → Reach (graphOf R w) (rootsOf R w) x → cell R (collected R n w) x (suc f) ≡ cell R w x (suc f)
-    collected-field {x} f hf r =
+    -- a reached cell keeps its words, and so its kind and its links
+    pub collected-field : {x : ℕ} (f : ℕ) → f < 4 → Reach (graphOf R w) (rootsOf R w) x → cell R (collected R n w) x f ≡ cell R w x f
+    collected-field {x} zero hf r =
+        retained-state R n (isReached R n w) w room x (reach-above r) (reach-within (pool-within well) r) (reached-kept r)
+        ∙ sym (used-same (state R w x) (reached-used well r .state))
+    collected-field {x} (suc f) hf r =
         retained-same R n (isReached R n w) w room x f (reach-above r) (reach-within (pool-within well) r) hf (reached-kept r)
 
+    pub collected-kind : (x : ℕ) → Reach (graphOf R w) (rootsOf R w) x → isPointAt R (collected R n w) x ≡ isPointAt R w x
+    collected-kind x r = ap isPoint (collected-field 0 (omega arith) r)
+
     pub collected-agree : (x : ℕ) → Reach (graphOf R w) (rootsOf R w) x → Agree (graphOf R w) (graphOf R (collected R n w)) x
-    collected-agree x r = record { left = sym (collected-field 0 (omega arith) r); right = sym (collected-field 1 (omega arith) r) }
+    collected-agree x r = record { left = sym (link 1 (omega arith)); right = sym (link 2 (omega arith)) }
+      where
+        link : (f : ℕ) → f < 4 → linkOf R (collected R n w) x f ≡ linkOf R w x f
+        link f hf = link-same R (collected R n w) w x x f (collected-kind x r) (collected-field f hf r)
 
     pub collected-roots : rootsOf R (collected R n w) ≡ rootsOf R w
     collected-roots =
@@ -80,13 +93,20 @@ module _ (R n : ℕ) (w : List ℕ) (well : WellFormed R n w) where
     collected-well-formed =
         retained-well-formed R n (isReached R n w) w room
         (λ k low. kept-link (register w k) (Reach.root (member-tabulate R (λ j. register w j) k low)))
-        λ i low high e. let reach = kept-reached i e in (kept-link (left R w i) (Reach.left reach), kept-link (right R w i) (Reach.right reach))
+        λ i low high e. let reach = kept-reached i e in (kept-link (linkOf R w i 1) (Reach.left reach), kept-link (linkOf R w i 2) (Reach.right reach))
 
     -- the same cells are reached, in the same order
     pub collected-order : reachedCells R n (collected R n w) ≡ reachedCells R n w
     collected-order =
         ap (preorder n (graphOf R (collected R n w))) collected-roots
         ∙ sym (preorder-agree n (graphOf R w) (graphOf R (collected R n w)) (rootsOf R w) (pool-within well) collected-agree)
+
+    -- with as many visits
+    pub collected-visits : reachedVisits R n (collected R n w) ≡ reachedVisits R n w
+    collected-visits =
+        ap (visitsOf (isPointAt R (collected R n w))) collected-order
+        ∙ visits-cong (isPointAt R (collected R n w)) (isPointAt R w) (reachedCells R n w)
+        λ x mem. collected-kind x (preorder-reached n (graphOf R w) (rootsOf R w) (pool-within well) x .0 mem)
 
     -- so a second collection changes nothing
     pub collected-again : collected R n (collected R n w) ≡ collected R n w

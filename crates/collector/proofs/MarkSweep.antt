@@ -1,5 +1,5 @@
 -- Sweeping a marked pool keeps the reached cells.
-use Prim.Native.Nat.{ℕ, suc, _<_, _≤_}
+use Prim.Native.Nat.{ℕ, zero, suc, _<_, _≤_}
 use native.Mathlib.Omega.{arith}
 use mathlib.Core.Path.{_≡_, refl, sym, ap, ap₂, _∙_}
 use mathlib.Core.List.{List, [], _∷_, List·Memᴰ, List·Memᴰ·head, List·Memᴰ·tail}
@@ -7,16 +7,17 @@ use mathlib.Core.Bool.{Bool, true, false, true≢false}
 use lib.ListN.{length, getD}
 use Rattle.graph.proofs.Lists.{has-member, member-has}
 use Rattle.graph.proofs.Reached.{reach-above, reach-within}
-use Rattle.pool.specs.Layout.{poolLength, state}
-use Rattle.pool.specs.Retain.{markedCell, sweepOf}
-use Rattle.pool.specs.States.{isMarked, asMarked, markCell}
+use Rattle.pool.specs.Layout.{poolLength, state, markCell}
+use Rattle.pool.specs.Retain.{keptField, markedCell, sweepOf}
+use Rattle.pool.specs.States.{isMarked, asMarked}
+use Rattle.pool.proofs.States.{used-alike}
 use Rattle.questions.proofs.WellFormed.{Cell, WellFormed, cell-unmarked}
 use Rattle.questions.proofs.PoolGraph.{pool-within}
 use Rattle.pool.proofs.Retained.{Elsewhere, setCell-elsewhere, kept-cong, retain-cong}
 use Rattle.reversal.specs.ReversalTheorem.{markAll}
 use Rattle.reversal.specs.Reached.{reachedCells, isReached, reachedCount}
 use Rattle.collector.specs.Collect.{collected}
-use Rattle.reversal.proofs.MarkAll.{length-markAll, field-markAll, state-markAll-same, state-markAll-other}
+use Rattle.reversal.proofs.MarkAll.{length-markAll, field-markAll, kind-markAll, state-markAll-same, state-markAll-other}
 use Rattle.collector.proofs.Collected.{kept-reached, kept-count}
 
 -- marking cells changes no word but theirs
@@ -58,4 +59,10 @@ module _ (R n : ℕ) (w : List ℕ) (well : WellFormed R n w) (room : poolLength
       (retain-cong R n (markedCell R (markAll R w (reachedCells R n w))) (isReached R n w) (markAll R w (reachedCells R n w)) w
       (length-markAll R w (reachedCells R n w)) marked-reached
       (λ k other away. markAll-elsewhere R n (reachedCells R n w) w k reached-cells away)
-      λ j f low high hf e. field-markAll R j (suc f) low (omega arith) hf (reachedCells R n w) positive w)
+      same)
+    where
+      -- marking changes no kind, no link and no value
+      same : (j f : ℕ) → 0 < j → j ≤ n → f < 4 → markedCell R (markAll R w (reachedCells R n w)) j ≡ true
+          → keptField R (markAll R w (reachedCells R n w)) j f ≡ keptField R w j f
+      same j zero low high hf e = used-alike _ _ (kind-markAll R j low (reachedCells R n w) positive w (omega arith))
+      same j (suc f) low high hf e = field-markAll R j (suc f) low (omega arith) hf (reachedCells R n w) positive w

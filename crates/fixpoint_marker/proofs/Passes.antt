@@ -14,7 +14,7 @@ use Rattle.graph.specs.Dfs.{mark}
 use Rattle.graph.proofs.Marks.{mark-self, mark-keeps, mark-cases}
 use Rattle.graph.proofs.Count.{marked-same, marked-mark, marked-le}
 use Rattle.graph.proofs.Reached.{reach-least, reach-above, reach-within}
-use Rattle.pool.specs.Layout.{registerCount, register, left, right, graphOf, rootsOf}
+use Rattle.pool.specs.Layout.{registerCount, register, linkOf, graphOf, rootsOf}
 use Rattle.questions.specs.Validity.{wellFormed}
 use Rattle.pool.proofs.Every.{tabulate-member, member-tabulate}
 use Rattle.questions.proofs.WellFormed.{well-formed-read}
@@ -91,7 +91,7 @@ module _ (n : ℕ) (w : List ℕ) where
       }
 
   -- Both links x and y of a marked cell, one after the other.
-  pub grown-links : (i : ℕ) {x y a b : ℕ} {m m′ m″ : List ℕ} → x ≡ left registerCount w i → y ≡ right registerCount w i → 0 < getD m i 0
+  pub grown-links : (i : ℕ) {x y a b : ℕ} {m m′ m″ : List ℕ} → x ≡ linkOf registerCount w i 1 → y ≡ linkOf registerCount w i 2 → 0 < getD m i 0
       → LinkMarked n x m m′ a → LinkMarked n y m′ m″ b → Grown n w m m″ (a + b) × Closed n w m″ i
   grown-links i {x} {y} {m″ = m″} ex ey h l r = (
     grown-more (linked-grown l (λ s p. by-left (s i h) p)) (linked-grown r (λ s p. by-right (s i (l .keeps i h)) p)),
@@ -173,7 +173,7 @@ module _ (n : ℕ) (w : List ℕ) where
           known h (within .root y mem)
 
       links : (y : ℕ) → 0 < getD m y 0
-          → (0 < left registerCount w y → 0 < getD m (left registerCount w y) 0) × (0 < right registerCount w y → 0 < getD m (right registerCount w y) 0)
+          → (0 < linkOf registerCount w y 1 → 0 < getD m (linkOf registerCount w y 1) 0) × (0 < linkOf registerCount w y 2 → 0 < getD m (linkOf registerCount w y 2) 0)
       links y h =
           let reached : Reached w y = sound y h in
           let both = closed y (reach-above reached) (reach-within within reached) h in

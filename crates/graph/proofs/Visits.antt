@@ -19,6 +19,11 @@ linked-keeps : (g : Graph) (m : ℕ → ℕ) (t : List ℕ) (x : ℕ) → Linked
 linked-keeps g m t x h = (marks-keeps m t (g .left x) (h .0), marks-keeps m t (g .right x) (h .1))
 
 module _ {g : Graph} where
+  -- The visit of what is marked marks nothing.
+  pub marked-none : {m : ℕ → ℕ} {p : ℕ} {t : List ℕ} → Dfs g m p t → 0 < m p → t ≡ []
+  marked-none (Dfs.stop h) marked = refl
+  marked-none (Dfs.step e a b) marked = absurd (omega arith)
+
   -- What a visit marks was unmarked.
   pub fresh : {m : ℕ → ℕ} {p : ℕ} {t : List ℕ} → Dfs g m p t → Each (λ x. m x ≡ 0) t
   fresh (Dfs.stop {m = m} h) = each-nil (λ x. m x ≡ 0)

@@ -4,12 +4,13 @@ use mathlib.Core.List.{flatMap}
 use Rattle.graph.specs.Preorder.{elem, visit, visits, preorder}
 use Rattle.leb128.specs.Leb128.{readFurther, readGroups, readAt, groups, encode}
 use Rattle.pool.specs.Words.{tabulate}
-use Rattle.pool.specs.Layout.{register, cell}
+use Rattle.pool.specs.Layout.{register, cell, linkOf}
+use Rattle.pool.specs.States.{isPoint}
 use Rattle.image.specs.Image.{placeFrom, readEach, readImage}
-use Rattle.image.specs.Example.{ImageExample, ReadExample, TruncatedExample, TooManyCellsExample, LinkRangeExample, PaddedExample}
+use Rattle.image.specs.Example.{ImageExample, ReadExample, TruncatedExample, TooManyCellsExample, LinkRangeExample, PaddedExample, KindExample}
 
 pub image-example : ImageExample
-unfolding elem visit visits preorder groups encode tabulate register cell placeFrom flatMap
+unfolding elem visit visits preorder groups encode tabulate register cell isPoint linkOf placeFrom flatMap
 image-example = refl
 
 pub read-example : ReadExample
@@ -31,3 +32,7 @@ link-range-example = refl
 pub padded-example : PaddedExample
 unfolding readFurther readGroups readAt readEach readImage
 padded-example = refl
+
+pub kind-example : KindExample
+unfolding readFurther readGroups readAt readEach readImage
+kind-example = (refl, refl)

@@ -18,7 +18,7 @@ use Rattle.image.specs.declared.ImageCell.{ImageCell}
 use Rattle.image.specs.declared.Place.the-variants as place
 use Rattle.image.specs.declared.Scan.{Scan}
 use Rattle.image.specs.declared.Scan.the-variants as scan
-use Rattle.image.specs.Image.{Image, cellBytes, imageBytes, Parsed, parsed, fault, anyNumber, readNumber, atMost, readCount, readLink, readCell, readEach, readImage}
+use Rattle.image.specs.Image.{isPointKind, Image, cellBytes, imageBytes, Parsed, parsed, fault, anyNumber, readNumber, atMost, readCount, readLink, readKind, readWord, readCell, readEach, readImage}
 use Rattle.image.specs.Check.{verdictOf, checkOf}
 use Rattle.image.specs.OneForm.{ReadsImageBytes, OneImage}
 use Rattle.image.specs.Steps.{placeOf, scanOf}
@@ -31,11 +31,11 @@ number-there number.Missing v next e = let z : _≡_ {A = ℕ} 0 1 = cc in absur
 number-there number.OutOfRange v next e = let z : _≡_ {A = ℕ} 0 1 = cc in absurd (omega arith)
 number-there number.Padded v next e = let z : _≡_ {A = ℕ} 0 1 = cc in absurd (omega arith)
 
-record Bounded (most : ℕ) (read : Parsed ℕ) (v next : ℕ) : Type 0 where
-  there : read ≡ parsed v next
-  within : v ≤ most
+pub record Bounded (most : ℕ) (read : Parsed ℕ) (v next : ℕ) : Type 0 where
+  pub there : read ≡ parsed v next
+  pub within : v ≤ most
 
-bounded : (most : ℕ) (over : Refusal) (read : Parsed ℕ) (v next : ℕ) → atMost most over read ≡ parsed v next → Bounded most read v next
+pub bounded : (most : ℕ) (over : Refusal) (read : Parsed ℕ) (v next : ℕ) → atMost most over read ≡ parsed v next → Bounded most read v next
 bounded most over (parsed u after) v next e = go (leb u most) refl e
   where
     go : (t : Bool) → leb u most ≡ t → cond t (parsed u after) (fault over) ≡ parsed v next → Bounded most (parsed u after) v next
@@ -46,32 +46,67 @@ bounded most over (fault why) v next e = let z : _≡_ {A = ℕ} 0 1 = cc in abs
 pub count-few : (n : ℕ) (bytes : List ℕ) (K next : ℕ) → readCount n bytes ≡ parsed K next → K ≤ n
 count-few n bytes K next e = bounded n _ (readNumber bytes 0) K next e .within
 
--- The links of a cell are at most K.
+-- The kind of a cell is one of the two, and the links of a pair are at most K.
 pub record Linked (K : ℕ) (c : ImageCell) : Type 0 where
-  pub left-most : c .left ≤ K
-  pub right-most : c .right ≤ K
+  pub kind-most : c .kind ≤ 1
+  pub left-most : isPointKind (c .kind) ≡ false → c .left ≤ K
+  pub right-most : isPointKind (c .kind) ≡ false → c .right ≤ K
 
 module _ (K : ℕ) (bytes : List ℕ) where
   link-within : (at x next : ℕ) → readLink K bytes at ≡ parsed x next → x ≤ K
   link-within at x next e = bounded K _ (readNumber bytes at) x next e .within
 
+  word-within : (kind at x next : ℕ) → readWord K kind bytes at ≡ parsed x next → isPointKind kind ≡ false → x ≤ K
+  word-within kind at x next e pair = link-within at x next (rw pair at e)
+
+  -- The numbers of a cell that was read.
+  pub record CellRead (at : ℕ) (c : ImageCell) (next : ℕ) : Type 0 where
+    pub left : ℕ
+    pub right : ℕ
+    pub value : ℕ
+    pub kind-there : readKind bytes at ≡ parsed (c .kind) left
+    pub left-there : readWord K (c .kind) bytes left ≡ parsed (c .left) right
+    pub right-there : readWord K (c .kind) bytes right ≡ parsed (c .right) value
+    pub value-there : readNumber bytes value ≡ parsed (c .value) next
+
+  pub cell-read : (at : ℕ) (c : ImageCell) (next : ℕ) → readCell K bytes at ≡ parsed c next → CellRead at c next
+  cell-read at c next e =
+      let k = both-parsed (readKind bytes at) _ c next e in
+      let l = both-parsed (readWord K (k .item) bytes (k .next)) _ c next (k .behind) in
+      let r = both-parsed (readWord K (k .item) bytes (l .next)) _ c next (l .behind) in
+      let v = both-parsed (readNumber bytes (r .next)) _ c next (r .behind) in
+      let read : ImageCell = record { kind = k .item; left = l .item; right = r .item; value = v .item } in
+      let last : parsed read (v .next) ≡ parsed c next = v .behind in
+      let same : read ≡ c = cc in
+      let ends : v .next ≡ next = cc in
+      subst (λ (x : ImageCell). CellRead at x next) same
+      (subst (CellRead at read) ends
+      (record {
+        left = k .next;
+        right = l .next;
+        value = r .next;
+        kind-there = k .here;
+        left-there = l .here;
+        right-there = r .here;
+        value-there = v .here;
+      }))
+
   cell-linked : (at : ℕ) (c : ImageCell) (next : ℕ) → readCell K bytes at ≡ parsed c next → Linked K c
   cell-linked at c next e =
-      let l = both-parsed (readLink K bytes at) _ c next e in
-      let r = both-parsed (readLink K bytes (l .next)) _ c next (l .behind) in
-      let v = both-parsed (readNumber bytes (r .next)) _ c next (r .behind) in
-      let low = link-within at (l .item) (l .next) (l .here) in
-      let high = link-within (l .next) (r .item) (r .next) (r .here) in
-      rw (sym (ap cellOf (v .behind))) (record { left-most = low; right-most = high })
-    where
-      cellOf : Parsed ImageCell → ImageCell
-      cellOf (parsed x end) = x
-      cellOf (fault why) = c
+      let r = cell-read at c next e in
+      record {
+        kind-most = bounded 1 _ (readNumber bytes at) (c .kind) (r .left) (r .kind-there) .within;
+        left-most = word-within (c .kind) (r .left) (c .left) (r .right) (r .left-there);
+        right-most = word-within (c .kind) (r .right) (c .right) (r .value) (r .right-there);
+      }
 
-  pub cell-parsed : (c : ImageCell) (at right value end : ℕ) → readLink K bytes at ≡ parsed (c .left) right → readLink K bytes right ≡ parsed (c .right) value
+  pub cell-parsed : (c : ImageCell) (at left right value end : ℕ) → readKind bytes at ≡ parsed (c .kind) left
+      → readWord K (c .kind) bytes left ≡ parsed (c .left) right → readWord K (c .kind) bytes right ≡ parsed (c .right) value
       → readNumber bytes value ≡ parsed (c .value) end → readCell K bytes at ≡ parsed c end
-  cell-parsed c at right value end l r v =
-      then-parsed _ l ∙ (then-parsed _ r ∙ then-parsed (λ x next. parsed (record { left = c .left; right = c .right; value = x }) next) v)
+  cell-parsed c at left right value end k l r v =
+      then-parsed _ k
+      ∙ (then-parsed _ l
+      ∙ (then-parsed _ r ∙ then-parsed (λ x next. parsed (record { kind = c .kind; left = c .left; right = c .right; value = x }) next) v))
 
   -- Each number is its encoding.
   module _ (byte : Bytes bytes) where
@@ -81,20 +116,22 @@ module _ (K : ℕ) (bytes : List ℕ) where
     link-between : (at x next : ℕ) → readLink K bytes at ≡ parsed x next → Between bytes at next (encode x)
     link-between at x next e = number-between at x next (bounded K _ (readNumber bytes at) x next e .there)
 
+    word-between : (kind at x next : ℕ) → readWord K kind bytes at ≡ parsed x next → Between bytes at next (encode x)
+    word-between kind at x next e = go (isPointKind kind) e
+      where
+        go : (t : Bool) → cond t (readNumber bytes at) (readLink K bytes at) ≡ parsed x next → Between bytes at next (encode x)
+        go true h = number-between at x next h
+        go false h = link-between at x next h
+
     cell-between : (at : ℕ) (c : ImageCell) (next : ℕ) → readCell K bytes at ≡ parsed c next → Between bytes at next (cellBytes c)
     cell-between at c next e =
-        let l = both-parsed (readLink K bytes at) _ c next e in
-        let r = both-parsed (readLink K bytes (l .next)) _ c next (l .behind) in
-        let v = both-parsed (readNumber bytes (r .next)) _ c next (r .behind) in
-        let read : ImageCell = record { left = l .item; right = r .item; value = v .item } in
-        let last : parsed read (v .next) ≡ parsed c next = v .behind in
-        let same : read ≡ c = cc in
-        let ends : v .next ≡ next = cc in
-        let bytes-read : Between bytes at (v .next) (cellBytes read) =
+        let r = cell-read at c next e in
         between-both
-        (between-both (link-between at (l .item) (l .next) (l .here)) (link-between (l .next) (r .item) (r .next) (r .here)))
-        (number-between (r .next) (v .item) (v .next) (v .here)) in
-        subst (λ (x : ImageCell). Between bytes at next (cellBytes x)) same (subst (λ (k : ℕ). Between bytes at k (cellBytes read)) ends bytes-read)
+        (between-both
+        (between-both (number-between at (c .kind) (r .left) (bounded 1 _ (readNumber bytes at) (c .kind) (r .left) (r .kind-there) .there))
+        (word-between (c .kind) (r .left) (c .left) (r .right) (r .left-there)))
+        (word-between (c .kind) (r .right) (c .right) (r .value) (r .right-there)))
+        (number-between (r .value) (c .value) next (r .value-there))
 
 -- The links of an image, those of its registers too, are at most the number of its cells.
 pub record LinksWithin (i : Image) : Type 0 where

@@ -1,19 +1,28 @@
--- Saved images (01, "Images"): what an image holds, the image of a pool, its bytes, and how bytes are read as an image. R is the number of registers.
+-- Saved images (01, "Images"; 02, S-8): what an image holds, the image of a pool, its bytes, and how bytes are read as an image. R is the number of registers.
 use Prim.Native.Nat.{ℕ, zero, suc}
 use mathlib.Core.List.{List, [], _∷_, _++_, map, flatMap}
-use mathlib.Core.Bool.{true, false, cond}
+use mathlib.Core.Bool.{Bool, true, false, cond}
 use lib.ListN.{length}
 use lib.Dec.{eqb, leb}
 use Rattle.leb128.specs.Leb128.{encode, readAt}
 use Rattle.leb128.specs.declared.Number.{Number}
 use Rattle.leb128.specs.declared.Number.the-variants as number
-use Rattle.pool.specs.Layout.{left, right, value, rootsOf}
+use Rattle.pool.specs.Layout.{left, right, value, isPointAt, rootsOf}
 use Rattle.answers.specs.declared.Refusal.{Refusal}
 use Rattle.answers.specs.declared.Refusal.the-variants as refusal
 use Rattle.reversal.specs.Reached.{reachedCells}
 use Rattle.image.specs.declared.ImageCell.{ImageCell}
 
--- "An image is K, sixteen registers, then left, right, value for K cells": K is the number of its cells, and a cell is the code's `ImageCell`.
+-- "In an image each cell begins with kind 0 or 1 (1 a point)" (02, S-8).
+abbrev pub kindOf : Bool → ℕ
+kindOf point = cond point 1 0
+
+-- Is it the kind of a point?
+abbrev pub isPointKind : ℕ → Bool
+isPointKind kind = eqb kind 1
+
+-- "An image is K, sixteen registers, then left, right, value for K cells", each of which begins with its kind: K is the number of its cells, and a cell is the
+-- code's `ImageCell`.
 pub record Image : Type 0 where
   pub registers : List ℕ
   pub cells : List ImageCell
@@ -27,19 +36,25 @@ placeFrom from (y ∷ ys) x = elim (eqb x y) [ true ↦ from | false ↦ placeFr
 abbrev pub numberIn : List ℕ → ℕ → ℕ
 numberIn order x = placeFrom 1 order x
 
+-- What it holds for a cell's left or right word: the number of a pair's link; a point's words "are plain numbers and no links" (02, S-8), and stay.
+abbrev pub savedWord : Bool → List ℕ → ℕ → ℕ
+savedWord point order x = cond point x (numberIn order x)
+
 -- What an image holds for the cell x of the words w, whose reached cells in order of first visit are `order`.
 abbrev pub savedCell : ℕ → List ℕ → List ℕ → ℕ → ImageCell
-savedCell R w order x = record { left = numberIn order (left R w x); right = numberIn order (right R w x); value = value R w x }
+savedCell R w order x =
+    let point = isPointAt R w x in
+    record { kind = kindOf point; left = savedWord point order (left R w x); right = savedWord point order (right R w x); value = value R w x }
 
 -- The image of these words.
 abbrev pub savedImage : ℕ → List ℕ → List ℕ → Image
 savedImage R w order = record { registers = map (numberIn order) (rootsOf R w); cells = map (savedCell R w order) order }
 
--- The bytes of a cell, "left, right, value", and those of an image.
+-- The bytes of a cell, its kind and then "left, right, value", and those of an image.
 abbrev pub cellBytes : ImageCell → List ℕ
-cellBytes c = encode (c .left) ++ encode (c .right) ++ encode (c .value)
+cellBytes c = encode (c .kind) ++ encode (c .left) ++ encode (c .right) ++ encode (c .value)
 
--- "K, sixteen registers, then left, right, value for K cells"
+-- "K, sixteen registers, then left, right, value for K cells", each with its kind before them.
 abbrev pub imageBytes : Image → List ℕ
 imageBytes i = encode (length (i .cells)) ++ flatMap encode (i .registers) ++ flatMap cellBytes (i .cells)
 
@@ -81,13 +96,22 @@ readCount n bytes = atMost n refusal.TooManyCells (readNumber bytes 0)
 abbrev pub readLink : ℕ → List ℕ → ℕ → Parsed ℕ
 readLink K bytes at = atMost K refusal.LinkRange (readNumber bytes at)
 
--- "left, right, value": the numbers of a cell.
+-- "14 for another kind number, after 12" (02, S-8).
+abbrev pub readKind : List ℕ → ℕ → Parsed ℕ
+readKind bytes at = atMost 1 refusal.KindNumber (readNumber bytes at)
+
+-- The left or right number of a cell of that kind: a link of a pair, any number of a point.
+abbrev pub readWord : ℕ → ℕ → List ℕ → ℕ → Parsed ℕ
+readWord K kind bytes at = cond (isPointKind kind) (readNumber bytes at) (readLink K bytes at)
+
+-- Its kind and then "left, right, value": the numbers of a cell.
 abbrev pub readCell : ℕ → List ℕ → ℕ → Parsed ImageCell
 readCell K bytes at =
-    andThen (readLink K bytes at) λ l behind-left.
-    andThen (readLink K bytes behind-left) λ r behind-right.
+    andThen (readKind bytes at) λ kind behind-kind.
+    andThen (readWord K kind bytes behind-kind) λ l behind-left.
+    andThen (readWord K kind bytes behind-left) λ r behind-right.
     andThen (readNumber bytes behind-right) λ v behind.
-    parsed (record { left = l; right = r; value = v }) behind
+    parsed (record { kind = kind; left = l; right = r; value = v }) behind
 
 -- So many things that are read alike, one behind the other.
 unfoldable pub readEach : {A : Type 0} → (ℕ → Parsed A) → ℕ → ℕ → Parsed (List A)

@@ -4,12 +4,18 @@ use leb128::Number;
 use pool::Pool;
 ghost use mathlib.Core.Path.{_≡_};
 ghost use Rattle.pool.specs.Layout.{registerCount};
-ghost use Rattle.image.specs.Image.{atMost, readNumber, readCount, readLink, readCell, readEach, readImage};
+ghost use Rattle.image.specs.Image.{atMost, readNumber, readCount, readLink, readKind, readWord, readCell, readEach, readImage};
 ghost use Rattle.image.specs.Check.{checkOf};
 ghost use Rattle.image.specs.Steps.{fieldParsed, placeOf, scanOf};
 
-// A cell of an image: the numbers of its links, and its value.
+// The kinds of a cell in an image.
+pub const PAIR: u32 = 0;
+
+pub const POINT: u32 = 1;
+
+// A cell of an image: its kind; the numbers of a pair's links, or a point's coordinates; and its value.
 pub struct ImageCell {
+    pub kind: u32,
     pub left: u32,
     pub right: u32,
     pub value: u32,
@@ -75,23 +81,47 @@ pub fn read_link(bytes: &[u8], at: usize, k: u32) -> Field
     at_most(read_number(bytes, at), k, Refusal::LinkRange)
 }
 
-// Reads a cell of an image of k cells, left, right, value, without a write.
+// The kind of a cell.
+pub fn read_kind(bytes: &[u8], at: usize) -> Field
+    ensures { λ r. ⌜ fieldParsed r ≡ readKind (now (bytes .entry)) at ⌝ }
+{
+    at_most(read_number(bytes, at), POINT, Refusal::KindNumber)
+}
+
+// The left or right number of a cell of that kind, of an image of k cells: a link of a pair, any number of a point.
+pub fn read_word(bytes: &[u8], at: usize, k: u32, kind: u32) -> Field
+    ensures { λ r. ⌜ fieldParsed r ≡ readWord k kind (now (bytes .entry)) at ⌝ }
+{
+    let number = read_number(bytes, at);
+    if kind == POINT {
+        return number;
+    }
+    at_most(number, k, Refusal::LinkRange)
+}
+
+// Reads a cell of an image of k cells, kind, left, right, value, without a write.
 fn scan_cell(bytes: &[u8], at: usize, k: u32) -> Place
     ensures { λ r. ⌜ r ≡ placeOf (readCell k (now (bytes .entry)) at) ⌝ }
 {
-    match read_link(bytes, at, k) {
+    match read_kind(bytes, at) {
         Field::Refused(why) => Place::Refused(why),
         Field::Value {
-            value: _,
-            next: behind_left,
-        } => match read_link(bytes, behind_left, k) {
+            value: kind,
+            next: behind_kind,
+        } => match read_word(bytes, behind_kind, k, kind) {
             Field::Refused(why) => Place::Refused(why),
             Field::Value {
                 value: _,
-                next: behind_right,
-            } => match read_number(bytes, behind_right) {
+                next: behind_left,
+            } => match read_word(bytes, behind_left, k, kind) {
                 Field::Refused(why) => Place::Refused(why),
-                Field::Value { value: _, next } => Place::Behind(next),
+                Field::Value {
+                    value: _,
+                    next: behind_right,
+                } => match read_number(bytes, behind_right) {
+                    Field::Refused(why) => Place::Refused(why),
+                    Field::Value { value: _, next } => Place::Behind(next),
+                },
             },
         },
     }

@@ -39,13 +39,17 @@ bytes-most code most h (x ∷ xs) =
     omega (arith, length-append (code x) (flatMap code xs), h x, bytes-most code most h xs, mul-suc most (length xs))
 
 -- A cell is as long as its numbers.
-pub cell-length : (c : ImageCell) → length (cellBytes c) ≡ length (encode (c .left)) + length (encode (c .right)) + length (encode (c .value))
+pub cell-length : (c : ImageCell)
+    → length (cellBytes c) ≡ length (encode (c .kind)) + length (encode (c .left)) + length (encode (c .right)) + length (encode (c .value))
 cell-length c =
-    length-append (encode (c .left) ++ encode (c .right)) (encode (c .value))
-    ∙ ap (λ (k : ℕ). k + length (encode (c .value))) (length-append (encode (c .left)) (encode (c .right)))
+    let k = encode (c .kind) in
+    let l = encode (c .left) in
+    let r = encode (c .right) in
+    let v = encode (c .value) in
+    omega (arith, length-append ((k ++ l) ++ r) v, length-append (k ++ l) r, length-append k l)
 
-cell-most : (c : ImageCell) → length (cellBytes c) ≤ 15
-cell-most c = omega (arith, cell-length c, encode-size (c .left), encode-size (c .right), encode-size (c .value))
+cell-most : (c : ImageCell) → length (cellBytes c) ≤ 20
+cell-most c = omega (arith, cell-length c, encode-size (c .kind), encode-size (c .left), encode-size (c .right), encode-size (c .value))
 
 -- Bytes that begin with others, and what follows these.
 pub record Begins (rest first more : List ℕ) : Type 0 where
@@ -82,9 +86,9 @@ module _ (R n : ℕ) (w : List ℕ) where
       let each = bytes-most encode 5 (λ v. encode-size v .1) (map (numberIn (reachedCells R n w)) (rootsOf R w)) in
       omega (arith, length-map (rootsOf R w) (numberIn (reachedCells R n w)), length-tabulate R (λ k. register w k))
 
-  pub cells-most : length (orderBytes R n w 0) ≤ 15 * reachedCount R n w
+  pub cells-most : length (orderBytes R n w 0) ≤ 20 * reachedCount R n w
   cells-most =
-      let each = bytes-most cellBytes 15 cell-most (map (savedCell R w (reachedCells R n w)) (reachedCells R n w)) in
+      let each = bytes-most cellBytes 20 cell-most (map (savedCell R w (reachedCells R n w)) (reachedCells R n w)) in
       omega (arith, length-map (reachedCells R n w) (savedCell R w (reachedCells R n w)))
 
 -- The whole image, by its parts.

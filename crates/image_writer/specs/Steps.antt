@@ -2,7 +2,7 @@
 use Prim.Native.Nat.{ℕ, _+_, _-_}
 use mathlib.Core.Path.{_≡_}
 use mathlib.Core.List.{List, _++_, map, flatMap}
-use mathlib.Core.Bool.{cond}
+use mathlib.Core.Bool.{Bool, cond}
 use lib.ListN.{length, getD, take, drop}
 use lib.Dec.{eqb}
 use Rattle.leb128.specs.Leb128.{encode}
@@ -13,6 +13,10 @@ use Rattle.image.specs.Image.{numberIn, savedCell, cellBytes}
 -- The number of the link x, nil's or that of a cell.
 abbrev pub numberAt : List ℕ → ℕ → ℕ
 numberAt s x = cond (eqb x 0) 0 (getD s (x - 1) 0)
+
+-- What an image holds for a left or right word: the number of a pair's link, a point's word as it is.
+abbrev pub wordAt : Bool → List ℕ → ℕ → ℕ
+wordAt point s x = cond point x (numberAt s x)
 
 -- The bytes of the registers from register j on.
 abbrev pub registerBytes : ℕ → ℕ → List ℕ → ℕ → List ℕ

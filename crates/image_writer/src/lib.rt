@@ -4,14 +4,15 @@ use leb128::Written;
 use pool::Pool;
 ghost use mathlib.Core.Path.{_≡_};
 ghost use mathlib.Core.List.{_++_};
+ghost use mathlib.Core.Bool.{false};
 ghost use Prim.Native.Nat.{_+_, _<_, _≤_};
 ghost use lib.ListN.{length, getD, drop};
 ghost use Rattle.leb128.specs.Leb128.{encode};
 ghost use Rattle.pool.specs.Layout.{registerCount, rootsOf};
 ghost use Rattle.reversal.specs.Reached.{reachedCells, reachedCount};
-ghost use Rattle.image.specs.Image.{numberIn, savedCell, cellBytes, imageOf};
+ghost use Rattle.image.specs.Image.{kindOf, numberIn, savedCell, cellBytes, imageOf};
 ghost use Rattle.numbering.specs.Steps.{Savable, Ordered};
-ghost use Rattle.image_writer.specs.Steps.{numberAt, registerBytes, orderBytes, PutBytes};
+ghost use Rattle.image_writer.specs.Steps.{numberAt, wordAt, registerBytes, orderBytes, PutBytes};
 
 // The number of a link.
 fn link_number(scratch: &[u32], x: u32) -> u32
@@ -32,26 +33,58 @@ fn saved_register(words: &[u32], scratch: &[u32], n: u32, j: u32) -> u32
     link_number(scratch, pool::read_register(words, j))
 }
 
+// What an image holds for a left or right word: the number of a pair's link, and the word itself of a point.
+fn saved_word(scratch: &[u32], point: bool, x: u32) -> u32
+    requires { ⌜ (point ≡ false → x ≤ length (now scratch)) ⌝ }
+    ensures { λ r. ⌜ r ≡ wordAt point (now (scratch .entry)) x ⌝ }
+{
+    if point {
+        return x;
+    }
+    link_number(scratch, x)
+}
+
+// The kind of a cell in an image.
+fn kind_number(point: bool) -> u32
+    ensures { λ r. ⌜ r ≡ kindOf point ⌝ }
+{
+    if point {
+        return image::POINT;
+    }
+    image::PAIR
+}
+
 // What an image holds for the p-th cell of the order.
 fn saved_cell(words: &[u32], scratch: &[u32], n: u32, p: u32) -> ImageCell
     requires { ⌜ Savable registerCount n (now words) (length (now scratch)) × Ordered registerCount n (now words) (now scratch) × (p < reachedCount registerCount n (now words)) ⌝ }
     ensures { λ r. ⌜ r ≡ savedCell registerCount (now (words .entry)) (reachedCells registerCount n (now (words .entry))) (getD (reachedCells registerCount n (now (words .entry))) p 0) ⌝ }
 {
     let cell = scratch[n as usize + p as usize];
-    let left = link_number(scratch, pool::read_cell(words, cell, Pool::LEFT));
-    let right = link_number(scratch, pool::read_cell(words, cell, Pool::RIGHT));
+    let point = pool::is_point_at(words, cell);
+    let kind = kind_number(point);
+    let left = saved_word(scratch, point, pool::read_cell(words, cell, Pool::LEFT));
+    let right = saved_word(scratch, point, pool::read_cell(words, cell, Pool::RIGHT));
     let value = pool::read_cell(words, cell, Pool::VALUE);
-    ImageCell { left, right, value }
+    ImageCell {
+        kind,
+        left,
+        right,
+        value,
+    }
 }
 
 // The number of bytes of a cell.
 fn cell_size(cell: ImageCell) -> usize
     ensures { λ r. ⌜ r ≡ length (cellBytes cell) ⌝ }
 {
+    let kind = cell.kind;
     let left = cell.left;
     let right = cell.right;
     let value = cell.value;
-    leb128::number_size(left) + leb128::number_size(right) + leb128::number_size(value)
+    leb128::number_size(kind)
+        + leb128::number_size(left)
+        + leb128::number_size(right)
+        + leb128::number_size(value)
 }
 
 // The number of bytes of the registers.
@@ -106,10 +139,12 @@ fn put_cell(out: &mut [u8], at: usize, cell: ImageCell) -> usize
     requires { ⌜ at + length (cellBytes cell) ≤ length (now out) ⌝ }
     ensures { λ r. ⌜ PutBytes (cellBytes cell) (now (out .entry)) at r (now (out .exit)) ⌝ }
 {
+    let kind = cell.kind;
     let left = cell.left;
     let right = cell.right;
     let value = cell.value;
-    let behind_left = put_number(out, at, left);
+    let behind_kind = put_number(out, at, kind);
+    let behind_left = put_number(out, behind_kind, left);
     let behind_right = put_number(out, behind_left, right);
     put_number(out, behind_right, value)
 }

@@ -9,7 +9,8 @@ use Rattle.graph.specs.Marking.{outside}
 use Rattle.graph.proofs.Theorems.{preorder-reached, preorder-distinct, preorder-length, preorder-depth, preorder-agree, marked-reached, marked-count}
 use Rattle.graph.proofs.Pairing.{length-paired, preorder-paired, pairing-kept}
 use Rattle.graph.proofs.Reached.{reach-agree}
-use Rattle.pool.specs.Layout.{registerCount}
+use Rattle.pool.specs.Layout.{registerCount, cell, isPointAt}
+use Rattle.pool.specs.States.{isPoint}
 use Rattle.answers.specs.Outcome.{answered}
 use Rattle.pool.specs.Retain.{freshWords}
 use Rattle.pool.proofs.RetainedPool.{retained-free-list}
@@ -17,7 +18,7 @@ use Rattle.pool.proofs.Sizes.{lengths-of-pools, leftover-count}
 use Rattle.pool.proofs.FreshPool.{fresh-is-free}
 use Rattle.questions.proofs.FreshPool.{fresh-is-well-formed}
 use Rattle.occupancy.proofs.Nearest.{occupancy-is-nearest}
-use Rattle.reversal.specs.Reached.{isReached, visitsOf}
+use Rattle.reversal.specs.Reached.{isReached, pairCount, pointCount}
 use Rattle.collector.proofs.CollectTheorem.{collection-keeps-the-reached, collection-marks-and-sweeps}
 use Rattle.reversal.proofs.Roots.{run-from-roots, run-over-pool}
 use Rattle.reversal.specs.Reversal.{marker}
@@ -46,6 +47,7 @@ use Rattle.reference.proofs.Theorems.{equivalence, equivalence-at-limit, never-
 use Rattle.reference.proofs.RunEquivalence.{run-equivalence}
 use Rattle.load.proofs.Theorems.{check-is-load, load-is-well-formed}
 use Rattle.image.proofs.Images.{reads-image-bytes, one-image}
+use Rattle.image.proofs.OldForm.{old-image-refused}
 use Rattle.save.proofs.RoundTrip.{load-then-save, save-then-load}
 use Rattle.leftovers.specs.Leftovers as leftovers
 use Rattle.leftovers.proofs.Stay.{leftovers-stay}
@@ -56,11 +58,11 @@ use Rattle.script.proofs.Scanning.{parts-read}
 use Rattle.replies.proofs.Decimals.{decimals-read-back, fewest-digits}
 use Rattle.runner.specs.Work.{initial}
 use Rattle.runner.proofs.Whole.{starts-whole, parts-join, last-line-ends}
-use Rattle.instances.specs.Instances.{around, three, threeCollected, two, graph, roots, twoRuns, Swapped, image, twoCells, words, scratch, output, calls, list, lent, lentForFive, behind, longer, out, padded, lines, progress, largest}
-use Rattle.instances.proofs.Instances.{pool-instance, reversal-instance, runs-instance, graph-instance, number-instance, occupancy-instance, image-instance, check-instance, worst-case-instance, leftover-instance, batch-instance, script-instance}
+use Rattle.instances.specs.Instances.{mixed, mixedImage, oldCells, around, three, threeCollected, two, graph, roots, twoRuns, Swapped, image, twoCells, words, scratch, output, calls, list, lent, lentForFive, behind, longer, out, padded, lines, progress, largest}
+use Rattle.instances.proofs.Instances.{pool-instance, reversal-instance, runs-instance, graph-instance, number-instance, occupancy-instance, image-instance, point-instance, check-instance, worst-case-instance, leftover-instance, batch-instance, script-instance}
 
 pub applied : Unit {0}
-unfolding visitsOf
+unfolding pairCount pointCount isPoint cell
 applied =
     let p = pool-instance in
     let r = reversal-instance in
@@ -69,6 +71,7 @@ applied =
     let k = number-instance in
     let o = occupancy-instance in
     let i = image-instance in
+    let m = point-instance in
     let l = leftover-instance in
     let b = batch-instance in
     let s = script-instance in
@@ -91,10 +94,10 @@ applied =
     let t = leftovers-stay (leftovers.call call.Collect) (three ++ behind) in
     let t = leftovers-unseen (three ++ behind) in
     let t = leftover-count registerCount 3 2 longer (l .fits) in
-    let visits = run-from-link registerCount 3 (graph three) (outside 3) 1 (1 ∷ 2 ∷ []) three (r .agreement) (r .dfs) (r .unmarked) 4 0 in
-    let t = run-follows registerCount 3 (graph three) (outside 3) 1 (2 ∷ []) 0 three (6, markAll registerCount three (1 ∷ 2 ∷ [])) (r .agreement) (r .dfs) (6, 1, visits) in
+    let visits = run-from-link registerCount 3 (graph three) (isPointAt registerCount three) (outside 3) 1 (1 ∷ 2 ∷ []) three (r .agreement) (r .dfs) (r .unmarked) 4 0 in
+    let t = run-follows registerCount 3 (graph three) (isPointAt registerCount three) (outside 3) 1 (2 ∷ []) 0 three (6, markAll registerCount three (1 ∷ 2 ∷ [])) (r .agreement) (r .dfs) (6, 1, visits) in
     let t = visit-is-by-case registerCount 3 (marker 1 4 0, three) (r .visitable) in
-    let t = run-from-roots registerCount 3 (graph three) (outside 3) (roots three) (1 ∷ 2 ∷ []) three (r .agreement) (r .all) (g .within .root) in
+    let t = run-from-roots registerCount 3 (graph three) (isPointAt registerCount three) (outside 3) (roots three) (1 ∷ 2 ∷ []) three (r .agreement) (r .all) (g .within .root) in
     let t = preorder-reached 3 (graph three) (roots three) (g .within) in
     let t = preorder-distinct 3 (graph three) (roots three) (g .within) in
     let t = preorder-length 3 (graph three) (roots three) (g .within) in
@@ -140,14 +143,18 @@ applied =
     let t = o .nearest .even (o .half) in
     let t = check-is-load 2 0 image words (omega arith) (i .size) in
     let t = load-is-well-formed words image (i .accepted) in
-    let t = save-then-load three scratch output 24 (replicate 6 0) (image ++ 9 ∷ 9 ∷ []) words (i .words32) (i .saved) (i .target) (i .fit) in
-    let t = load-then-save words image twoCells 24 (i .bytes) (i .target) (i .read) (i .ordered) scratch output (i .room) in
-    let t = reads-image-bytes registerCount _ image twoCells 24 (i .bytes) (i .read) in
-    let t = one-image registerCount _ 3 image (image ++ 9 ∷ 9 ∷ []) twoCells 24 24 (i .bytes) (i .other-bytes) (i .read) (i .other-read) in
+    let t = save-then-load three scratch output 26 (replicate 6 0) (image ++ 9 ∷ 9 ∷ []) words (i .words32) (i .saved) (i .target) (i .fit) in
+    let t = load-then-save words image twoCells 26 (i .bytes) (i .target) (i .read) (i .ordered) scratch output (i .room) in
+    let t = reads-image-bytes registerCount _ image twoCells 26 (i .bytes) (i .read) in
+    let t = one-image registerCount _ 3 image (image ++ 9 ∷ 9 ∷ []) twoCells 26 26 (i .bytes) (i .other-bytes) (i .read) (i .other-read) in
     let t = runs-one-after-the-other list calls (freshWords registerCount 3 longer) out (b .program) (b .room) in
     let t = run-equivalence 3 2 2 longer list out calls (l .fits) (b .program) (b .room) in
     let t = never-malformed 3 2 longer calls (l .fits) (answered (1 ∷ 3 ∷ [])) (b .answer) in
-    let t = refused-when-full 3 2 longer calls 0 0 0 7 (l .fits) refl in
+    let t = refused-when-full 3 2 longer calls (call.New 0 0 0 7) (l .fits) refl refl in
+    let t = refused-when-full 3 2 longer calls (call.Point 0 7 1 2) (l .fits) refl refl in
+    let t = collection-keeps-the-reached 3 mixed (p .some) (m .cells) (m .well-formed) in
+    let t = save-then-load mixed scratch (replicate 31 9) 30 (replicate 6 0) (mixedImage ++ 9 ∷ []) (replicate 30 5) (m .words32) (m .saved) (m .target) (m .fit) in
+    let t = old-image-refused 1 3 (1 ∷ []) oldCells refl (m .old-some) (m .old) in
     let t = fewest-digits padded (s .some) (s .digits) in
     let t = parts-read newReader lines [] 0 .line (line.Run call.Collect) 2 (s .ended) in
     let t = parts-read newReader lines [] 2 .more (progress .reader) (s .more) in

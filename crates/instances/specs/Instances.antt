@@ -12,7 +12,7 @@ use Rattle.graph.specs.Dfs.{marks, Dfs, DfsAll}
 use Rattle.graph.specs.Marking.{outside, Closure}
 use Rattle.graph.specs.Compare.{Agree, Paired, OneToOne}
 use Rattle.pool.specs.Words.{tabulate}
-use Rattle.pool.specs.Layout.{registerCount, cellLimit, poolLength, cellCountOfLength, cellCount, graphOf, rootsOf}
+use Rattle.pool.specs.Layout.{registerCount, cellLimit, poolLength, cellCountOfLength, cellCount, isPointAt, graphOf, rootsOf}
 use Rattle.questions.specs.Validity.{wellFormed}
 use Rattle.pool.specs.Lengths.{LengthOf}
 use Rattle.pool.specs.Retain.{freshWords}
@@ -26,6 +26,7 @@ use Rattle.reversal.specs.Reversal.{Visitable, marker, MarkRoots}
 use Rattle.reversal.specs.Cases.{trace, followed, fourWays, traceRoots, begins}
 use Rattle.reversal.specs.ReversalTheorem.{Agreement}
 use Rattle.recursive_marker.specs.Steps.{Markable}
+use Rattle.recursive_marker.specs.Recursive.{recursiveOf}
 use Rattle.stack_algorithm.specs.Stack.{isUnmarked, stackRun, maxEntries}
 use Rattle.stack_algorithm.specs.Steps.{Going}
 use Rattle.stack_algorithm.specs.Check.{check, isEnough, limitedRun}
@@ -42,6 +43,7 @@ use Rattle.batch.specs.Program.{programOf, programOfCalls}
 use Rattle.batch.specs.Run.{runOf, afterAll}
 use Rattle.reference.specs.Equivalence.{poolAnswers}
 use Rattle.image.specs.Image.{Image, parsed, readImage}
+use Rattle.image.specs.OldForm.{OldCell, OldNumbers}
 use Rattle.load.specs.Load.{loadOf}
 use Rattle.save.specs.Save.{saveOf}
 use Rattle.save.specs.RoundTrip.{Words}
@@ -90,7 +92,7 @@ pub record PoolInstance : Type 0 where
 
 -- `RunFromLink` and `RunFollows`, from link 1, and `RunFromRoots` (that the roots are cells is `within .root` of GraphInstance).
 pub record ReversalInstance : Type 0 where
-  pub agreement : Agreement registerCount 3 (graph three) (outside 3) three
+  pub agreement : Agreement registerCount 3 (graph three) (isPointAt registerCount three) (outside 3) three
   pub unmarked : outside 3 1 ≡ 0
   pub dfs : Dfs (graph three) (outside 3) 1 (1 ∷ 2 ∷ [])
   pub all : DfsAll (graph three) (outside 3) (roots three) (1 ∷ 2 ∷ [])
@@ -105,11 +107,13 @@ pub record ReversalInstance : Type 0 where
   pub two-followed : followed (trace registerCount 9 (marker 1 4 0, forkPool)) ≡ 2 ∷ 3 ∷ []
   pub five-exchanges : fourWays (trace registerCount 9 (marker 1 4 0, forkPool)) ≡ 5
 
--- A pool with two runs: register 0 leads to cell 2 and register 1 to cell 1, which leads to 2 and 3.
+-- A pool with two runs: register 0 leads to cell 2, a point, and register 1 to cell 1, which leads to 2 and 3. (The point's x is 1, as the number of a cell, and
+-- its y is 77, as of none.)
 abbrev pub twoRuns : List ℕ
-twoRuns = (3 ∷ 0 ∷ 2 ∷ 1 ∷ []) ++ replicate 14 0 ++ (0 ∷ 2 ∷ 3 ∷ 7 ∷ []) ++ (0 ∷ 0 ∷ 0 ∷ 8 ∷ []) ++ (0 ∷ 0 ∷ 0 ∷ 9 ∷ [])
+twoRuns = (3 ∷ 0 ∷ 2 ∷ 1 ∷ []) ++ replicate 14 0 ++ (0 ∷ 2 ∷ 3 ∷ 7 ∷ []) ++ (5 ∷ 1 ∷ 77 ∷ 8 ∷ []) ++ (0 ∷ 0 ∷ 0 ∷ 9 ∷ [])
 
--- `FollowedOnce` and `FollowedCount`, whose runs are these: cases 2 and 4 go to cell 3 alone, the one reached cell at which no run begins.
+-- `FollowedOnce` and `FollowedCount`, whose runs are these: the first makes the one visit of the point. Cases 2 and 4 go to cell 3 alone, the one reached cell at
+-- which no run begins.
 pub record RunsInstance : Type 0 where
   pub room : poolLength registerCount 3 ≤ length twoRuns
   pub well-formed : wellFormed registerCount 3 twoRuns ≡ true
@@ -118,7 +122,7 @@ pub record RunsInstance : Type 0 where
   pub reached : reachedCells registerCount 3 twoRuns ≡ 2 ∷ 1 ∷ 3 ∷ []
   pub begun : begins runs ≡ 2 ∷ 1 ∷ []
   pub gone-to : followed (traceRoots runs) ≡ 3 ∷ []
-  pub exchanges : fourWays (traceRoots runs) ≡ 4
+  pub exchanges : fourWays (traceRoots runs) ≡ 3
 
 -- Cells 1 and 2 of `three` are cells 2 and 1 of `two`, and nil is nil.
 abbrev pub Swapped : ℕ → ℕ → Type 0
@@ -179,13 +183,13 @@ pub record OccupancyInstance : Type 0 where
 
 -- The bytes of an image of two cells, what it holds, and words to load it into.
 abbrev pub image : List ℕ
-image = 2 ∷ 1 ∷ (replicate 15 0 ++ (2 ∷ 2 ∷ 0xAC ∷ 0x02 ∷ 1 ∷ 0 ∷ 8 ∷ []))
+image = 2 ∷ 1 ∷ (replicate 15 0 ++ (0 ∷ 2 ∷ 2 ∷ 0xAC ∷ 0x02 ∷ 0 ∷ 1 ∷ 0 ∷ 8 ∷ []))
 
 abbrev pub twoCells : Image
 twoCells =
     record {
       registers = 1 ∷ replicate 15 0;
-      cells = record { left = 2; right = 2; value = 300 } ∷ record { left = 1; right = 0; value = 8 } ∷ [];
+      cells = record { kind = 0; left = 2; right = 2; value = 300 } ∷ record { kind = 0; left = 1; right = 0; value = 8 } ∷ [];
     }
 
 abbrev pub words : List ℕ
@@ -196,7 +200,7 @@ abbrev pub scratch : List ℕ
 scratch = replicate 6 5
 
 abbrev pub output : List ℕ
-output = replicate 26 9
+output = replicate 28 9
 
 -- The theorems of load and save.
 pub record ImageInstance : Type 0 where
@@ -206,18 +210,50 @@ pub record ImageInstance : Type 0 where
   pub loaded : loadOf words image .1 ≡ (2 ∷ 0 ∷ 1 ∷ []) ++ replicate 15 0 ++ (0 ∷ 2 ∷ 2 ∷ 300 ∷ []) ++ (0 ∷ 1 ∷ 0 ∷ 8 ∷ [])
   -- `SaveThenLoad`: both pools are saved as that image, and the two bytes behind it stay
   pub words32 : Words three
-  pub saved : saveOf three scratch output ≡ (answered (24 ∷ []), replicate 6 0, image ++ 9 ∷ 9 ∷ [])
+  pub saved : saveOf three scratch output ≡ (answered (26 ∷ []), replicate 6 0, image ++ 9 ∷ 9 ∷ [])
   pub saved-two : saveOf two scratch output ≡ saveOf three scratch output
   pub target : 0 < cellCountOfLength registerCount (length words)
   pub fit : reachedCount registerCount (cellCount registerCount three) three ≤ cellCountOfLength registerCount (length words)
   -- `LoadThenSave`: its cells are numbered in the order of the visits
-  pub read : readImage registerCount (cellCountOfLength registerCount (length words)) image ≡ parsed twoCells 24
+  pub read : readImage registerCount (cellCountOfLength registerCount (length words)) image ≡ parsed twoCells 26
   pub ordered : reachedCells registerCount (cellCountOfLength registerCount (length words)) (loadOf words image .1) ≡ tabulate 2 suc
   pub room : 2 * cellCountOfLength registerCount (length words) ≤ length scratch
   -- `ReadsImageBytes`, `OneImage`: it is read with the same numbers from two byte strings, for pools of two sizes
   pub bytes : Bytes image
   pub other-bytes : Bytes (image ++ 9 ∷ 9 ∷ [])
-  pub other-read : readImage registerCount 3 (image ++ 9 ∷ 9 ∷ []) ≡ parsed twoCells 24
+  pub other-read : readImage registerCount 3 (image ++ 9 ∷ 9 ∷ []) ≡ parsed twoCells 26
+
+-- A pool of a pair and two points, all reached: register 0 holds cell 2, which leads to cells 1 and 3, and register 1 holds cell 1. The words of the points look
+-- like links, and are none.
+abbrev pub mixed : List ℕ
+mixed = (3 ∷ 0 ∷ 2 ∷ 1 ∷ []) ++ replicate 14 0 ++ (5 ∷ 2 ∷ 9 ∷ 7 ∷ []) ++ (0 ∷ 1 ∷ 3 ∷ 8 ∷ []) ++ (5 ∷ 3 ∷ 300 ∷ 9 ∷ [])
+
+-- Its image: cell 2 is visited first, then 1, then 3. The points' x and y are as they were.
+abbrev pub mixedImage : List ℕ
+mixedImage = 3 ∷ 1 ∷ 2 ∷ (replicate 14 0 ++ (0 ∷ 2 ∷ 3 ∷ 8 ∷ []) ++ (1 ∷ 2 ∷ 9 ∷ 7 ∷ []) ++ (1 ∷ 3 ∷ 0xAC ∷ 0x02 ∷ 9 ∷ []))
+
+-- And what is loaded from it.
+abbrev pub mixedLoaded : List ℕ
+mixedLoaded = (3 ∷ 0 ∷ 1 ∷ 2 ∷ []) ++ replicate 14 0 ++ (0 ∷ 2 ∷ 3 ∷ 8 ∷ []) ++ (5 ∷ 2 ∷ 9 ∷ 7 ∷ []) ++ (5 ∷ 3 ∷ 300 ∷ 9 ∷ [])
+
+-- An image of one cell in the form of before, with one register for brevity.
+abbrev pub oldCells : List OldCell
+oldCells = record { left = 0; right = 1; value = 4294967295 } ∷ []
+
+-- The same theorems of a pool with points, by every marker; and `OldImageRefused`. (`OldImageNotLoaded` asks for the same with sixteen registers.)
+pub record PointInstance : Type 0 where
+  pub cells : cellCount registerCount mixed ≡ 3
+  pub well-formed : wellFormed registerCount 3 mixed ≡ true
+  pub answer : collectOf mixed ≡ (answered (3 ∷ 5 ∷ []), mixed)
+  pub stack : stackOf mixed (9 ∷ []) ≡ (answered (3 ∷ 1 ∷ 0 ∷ []), mixed, 0 ∷ [])
+  pub recursive : recursiveOf mixed ≡ (answered (3 ∷ 5 ∷ []), mixed)
+  pub saved : saveOf mixed scratch (replicate 31 9) ≡ (answered (30 ∷ []), replicate 6 0, mixedImage ++ 9 ∷ [])
+  pub loaded : loadOf (replicate 30 5) mixedImage ≡ (record { verdict = 0; end = 30 }, mixedLoaded)
+  pub words32 : Words mixed
+  pub target : 0 < cellCountOfLength registerCount (length {A = ℕ} (replicate 30 5))
+  pub fit : reachedCount registerCount (cellCount registerCount mixed) mixed ≤ cellCountOfLength registerCount (length {A = ℕ} (replicate 30 5))
+  pub old : OldNumbers (1 ∷ []) oldCells
+  pub old-some : 1 ≤ length oldCells
 
 -- Two calls, five words each, and room for one word more than their answers.
 abbrev pub calls : List Call
@@ -282,7 +318,7 @@ pub record LeftoverInstance : Type 0 where
   pub fresh : freshOf longer ≡ (answered (3 ∷ 2 ∷ []), freshWords registerCount 3 lent ++ behind)
   pub built : worstCaseOf longer ≡ (answered (1 ∷ []), worstOfThree ++ behind)
   pub collected : collectOf (three ++ behind) ≡ (answered (2 ∷ 6 ∷ []), threeCollected ++ behind)
-  pub saved : saveOf (three ++ behind) scratch output ≡ (answered (24 ∷ []), replicate 6 0, image ++ 9 ∷ 9 ∷ [])
+  pub saved : saveOf (three ++ behind) scratch output ≡ (answered (26 ∷ []), replicate 6 0, image ++ 9 ∷ 9 ∷ [])
   pub loaded : loadOf (words ++ behind) image ≡ (loadOf words image .0, loadOf words image .1 ++ behind)
 
 -- `RunsOneAfterTheOther` and `RunEquivalence`, and what `NeverMalformed` asks for of an answer.

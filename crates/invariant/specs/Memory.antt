@@ -1,4 +1,4 @@
--- Memory over a long plan: when `new` is refused.
+-- Memory over a long plan: when `new` and `point` are refused.
 use Prim.Native.Nat.{ℕ, _≤_, _<_}
 use mathlib.Core.Path.{_≡_}
 use mathlib.Core.Logic.{_↔_}
@@ -12,23 +12,21 @@ use Rattle.pool.specs.Retain.{freshWords}
 use Rattle.questions.specs.Questions.{areRegisters}
 use Rattle.collector.specs.CollectTheorem.{Reached}
 use Rattle.calls.specs.declared.Call.{Call}
-use Rattle.calls.specs.declared.Call.the-variants as call
-use Rattle.calls.specs.Calls.{registersOf, callOf}
+use Rattle.calls.specs.Calls.{registersOf, allocates, callOf}
 use Rattle.batch.specs.Run.{afterAll}
 
 -- The registers reach every one of the n cells.
 abbrev pub AllReached : ℕ → List ℕ → Type 0
 AllReached n w = (i : ℕ) → 0 < i → i ≤ n → Reached w i
 
--- What a "new" says on the pool w of n cells: refused with 5 exactly when the registers reach all n cells, and never refused otherwise.
+-- What a call that allocates a cell says on the pool w of n cells: refused with 5 exactly when the registers reach all n cells, and never refused otherwise.
 pub record FullOnly (n : ℕ) (w : List ℕ) (said : Outcome) : Type 0 where
   pub full : (said ≡ refused 5) ↔ AllReached n w
   pub only : (k : ℕ) → said ≡ refused k → k ≡ 5
 
--- So does every "new" with valid registers, on every pool that a list of calls leads to from fresh words.
+-- So does every "new" and every "point" with valid registers, on every pool that a list of calls leads to from fresh words.
 abbrev pub RefusedWhenFull : Type 0
 RefusedWhenFull =
-    (N e : ℕ) (lent : List ℕ) (calls : List Call) (r a b v : ℕ) → LengthOf registerCount N e (length lent)
-    → areRegisters (registersOf (call.New r a b v)) ≡ true
+    (N e : ℕ) (lent : List ℕ) (calls : List Call) (c : Call) → LengthOf registerCount N e (length lent) → allocates c ≡ true → areRegisters (registersOf c) ≡ true
     → let w = afterAll calls (freshWords registerCount N lent) in
-    FullOnly N w (callOf (call.New r a b v) w .0)
+    FullOnly N w (callOf c w .0)

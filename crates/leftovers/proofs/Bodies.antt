@@ -4,13 +4,14 @@ use native.Mathlib.Omega.{arith}
 use native.Mathlib.Decide.{decLe}
 use mathlib.Core.Path.{_≡_, refl, sym, ap, ap₂, subst, _∙_}
 use mathlib.Core.List.{List, [], _∷_, _++_}
-use mathlib.Core.Bool.{Bool, true, false, cond, _&&_}
+use mathlib.Core.Bool.{Bool, true, false, cond, _&&_, not}
 use lib.ListN.{length}
 use lib.Dec.{eqb}
 use borrow.Author.Tests.{lt-leb}
+use Rattle.answers.specs.declared.Refusal.the-variants as refusal
 use Rattle.answers.specs.Outcome.{Outcome, answered, allocated, refused}
 use Rattle.pool.specs.Layout.{registerCount, poolLength, head, setHead, register, setRegister, cell, setCell, putCell, left}
-use Rattle.pool.specs.States.{usedState}
+use Rattle.pool.specs.States.{pairState, pointState}
 use Rattle.questions.specs.Validity.{validLink}
 use Rattle.questions.specs.Questions.{holdsLink}
 use Rattle.pool.proofs.Laws.{length-setHead}
@@ -18,19 +19,19 @@ use Rattle.pool.proofs.Node.{length-putCell}
 use Rattle.pool.proofs.Retained.{length-retain}
 use Rattle.questions.proofs.WellFormed.{well-formed-read}
 use Rattle.questions.proofs.Admission.{Registers}
-use Rattle.reversal.specs.Reached.{isReached, visitsOf}
+use Rattle.reversal.specs.Reached.{isReached}
 use Rattle.collector.specs.Collect.{collected, collectIn}
-use Rattle.allocator.specs.Allocation.{take, takeCollected, goodHead, newIn}
+use Rattle.allocator.specs.Allocation.{take, takeCollected, goodHead, allocateIn, newIn}
 use Rattle.allocator.proofs.Allocation.{swept-head, good-bound}
 use Rattle.operations.specs.declared.HeldCell.{HeldCell}
 use Rattle.operations.specs.declared.HeldCell.the-variants as heldCell
-use Rattle.operations.specs.Operations.{heldCellOf, cellTo, withCell, followIn, linkIn}
-use Rattle.operations.proofs.Bodies.{cell-there}
+use Rattle.operations.specs.Operations.{heldCellOf, ofKind, heldKindOf, cellTo, withCell, withKind, followIn, linkIn, coordinateIn}
+use Rattle.operations.proofs.Bodies.{cell-there, kind-there}
 use Rattle.calls.specs.declared.Call.{Call}
 use Rattle.calls.specs.declared.Call.the-variants as call
 use Rattle.calls.specs.Calls.{registersOf, bodyOf}
 use Rattle.leftovers.proofs.Lengths.{above}
-use Rattle.leftovers.proofs.Longer.{head-longer, register-longer, cell-longer, link-longer, well-formed-longer, reached-longer, set-cell-longer, set-head-longer, set-register-longer, collected-longer, put-cell-longer}
+use Rattle.leftovers.proofs.Longer.{head-longer, register-longer, cell-longer, kind-longer, link-longer, well-formed-longer, reached-longer, visits-longer, set-cell-longer, set-head-longer, set-register-longer, collected-longer, put-cell-longer}
 
 -- Of two tests that are the same, what holds of both ways holds.
 pub same-test : {A : Type 0} (P : A → A → Type 0) {b' b : Bool} {x' y' x y : A} → b' ≡ b → (b ≡ true → P x' x) → (b ≡ false → P y' y)
@@ -64,27 +65,43 @@ module _ (n : ℕ) (u t : List ℕ) (long : length u ≡ poolLength registerCoun
       let well = well-formed-read registerCount n u e in
       let order = reached-longer registerCount n u t long some well in
       record {
-        said = ap (λ (l : List ℕ). answered (length l ∷ visitsOf l ∷ [])) order;
+        said = ap₂ (λ (l : List ℕ) (v : ℕ). answered (length l ∷ v ∷ [])) order (visits-longer registerCount n u t long some well);
         words = collected-longer registerCount n u t long some well;
       })
       (λ e. nothing (refused 3))
 
-  -- a call on the cell that register a holds
+  -- a call on the cell that register a holds, of either kind or of one
+  held-longer : (a : ℕ) → a < registerCount → heldCellOf n (u ++ t) a ≡ heldCellOf n u a
+  held-longer a low = rw (holds-longer a low, register-longer registerCount n u t long some a low) refl
+
+  kind-held-longer : (point : Bool) (a : ℕ) → a < registerCount → heldKindOf point n (u ++ t) a ≡ heldKindOf point n u a
+  kind-held-longer point a low = ap (ofKind point (u ++ t)) (held-longer a low) ∙ go (heldCellOf n u a) refl
+    where
+      go : (q : HeldCell) → heldCellOf n u a ≡ q → ofKind point (u ++ t) q ≡ ofKind point u q
+      go (heldCell.Cell x) e =
+          ap (λ (b : Bool). cond (cond b point (not point)) (heldCell.Cell x) (heldCell.Refused refusal.Kind))
+          (kind-longer registerCount n u t long some x (cell-there n u a refl e .1))
+      go (heldCell.Refused k) e = refl
+
+  cell-to-longer : {q' q : HeldCell} → q' ≡ q → ((x : ℕ) → q ≡ heldCell.Cell x → (0 < x) × (x ≤ n)) → (body' body : ℕ → Outcome × List ℕ)
+      → ((x : ℕ) → 0 < x → x ≤ n → Behind (body' x) (body x)) → Behind (cellTo (u ++ t) body' q') (cellTo u body q)
+  cell-to-longer {q'} {q} same there body' body on = subst (λ (p : HeldCell). Behind (cellTo (u ++ t) body' p) (cellTo u body q)) (sym same) (go q there)
+    where
+      go : (q : HeldCell) → ((x : ℕ) → q ≡ heldCell.Cell x → (0 < x) × (x ≤ n)) → Behind (cellTo (u ++ t) body' q) (cellTo u body q)
+      go (heldCell.Cell x) within = let here = within x refl in on x (here .0) (here .1)
+      go (heldCell.Refused k) within = nothing _
+
   with-cell-longer : (a : ℕ) → a < registerCount → (body' body : ℕ → Outcome × List ℕ) → ((x : ℕ) → 0 < x → x ≤ n → Behind (body' x) (body x))
       → Behind (withCell n (u ++ t) a body') (withCell n u a body)
-  with-cell-longer a low body' body on =
-      subst (λ (q : HeldCell). Behind (cellTo (u ++ t) body' q) (withCell n u a body)) (sym same) (go (heldCellOf n u a) refl)
-    where
-      same : heldCellOf n (u ++ t) a ≡ heldCellOf n u a
-      same = rw (holds-longer a low, register-longer registerCount n u t long some a low) refl
+  with-cell-longer a low body' body on = cell-to-longer (held-longer a low) (λ x e. cell-there n u a refl e) body' body on
 
-      go : (q : HeldCell) → heldCellOf n u a ≡ q → Behind (cellTo (u ++ t) body' q) (cellTo u body q)
-      go (heldCell.Cell x) e = let there = cell-there n u a refl e in on x (there .0) (there .1)
-      go (heldCell.Refused k) e = nothing _
+  with-kind-longer : (point : Bool) (a : ℕ) → a < registerCount → (body' body : ℕ → Outcome × List ℕ)
+      → ((x : ℕ) → 0 < x → x ≤ n → Behind (body' x) (body x)) → Behind (withKind point n (u ++ t) a body') (withKind point n u a body)
+  with-kind-longer point a low body' body on = cell-to-longer (kind-held-longer point a low) (λ x e. kind-there point n u a refl e) body' body on
 
   follow-longer : (field r a : ℕ) → field < 4 → r < registerCount → a < registerCount → Behind (followIn n (u ++ t) field r a) (followIn n u field r a)
   follow-longer field r a few at-r at-a =
-      with-cell-longer a at-a _ _ λ x low high.
+      with-kind-longer false a at-a _ _ λ x low high.
       let same = cell-longer registerCount n u t long some x field high few in
       same-test Behind (link-longer registerCount n u t long some (cell registerCount (u ++ t) x field) ∙ ap (validLink registerCount n u) same)
       (λ e. record {
@@ -96,7 +113,7 @@ module _ (n : ℕ) (u t : List ℕ) (long : length u ≡ poolLength registerCoun
   link-cell-longer : (field a b : ℕ) → field < 4 → a < registerCount → b < registerCount → Behind (linkIn n (u ++ t) field a b) (linkIn n u field a b)
   link-cell-longer field a b few at-a at-b =
       same-test Behind (holds-longer b at-b)
-      (λ e. with-cell-longer a at-a _ _ λ x low high.
+      (λ e. with-kind-longer false a at-a _ _ λ x low high.
       record {
         said = refl;
         words = ap (setCell registerCount (u ++ t) x field) (register-longer registerCount n u t long some b at-b)
@@ -104,19 +121,25 @@ module _ (n : ℕ) (u t : List ℕ) (long : length u ≡ poolLength registerCoun
       })
       (λ e. nothing (refused 3))
 
-  -- the head cell is taken, with the links x and y
-  take-longer : (r x y v : ℕ) → r < registerCount → 0 < head u → head u ≤ n → take (u ++ t) r x y v ≡ take u r x y v ++ t
-  take-longer r x y v at-r low high =
+  -- a coordinate
+  coordinate-longer : (field a : ℕ) → field < 4 → a < registerCount → Behind (coordinateIn n (u ++ t) field a) (coordinateIn n u field a)
+  coordinate-longer field a few at-a =
+      with-kind-longer true a at-a _ _ λ x low high.
+      record { said = ap (λ (v : ℕ). answered (v ∷ [])) (cell-longer registerCount n u t long some x field high few); words = refl }
+
+  -- the head cell is taken, with the state c and the words x and y
+  take-longer : (r c x y v : ℕ) → r < registerCount → 0 < head u → head u ≤ n → take (u ++ t) r c x y v ≡ take u r c x y v ++ t
+  take-longer r c x y v at-r low high =
       let i = head u in
-      let put = putCell registerCount u i usedState x y v in
+      let put = putCell registerCount u i c x y v in
       let next = left registerCount u i in
-      let long-put : length put ≡ poolLength registerCount n = length-putCell registerCount u i low usedState x y v ∙ long in
+      let long-put : length put ≡ poolLength registerCount n = length-putCell registerCount u i low c x y v ∙ long in
       let long-head : length (setHead put next) ≡ poolLength registerCount n = length-setHead registerCount put next ∙ long-put in
-      ap (λ (j : ℕ). setRegister (setHead (putCell registerCount (u ++ t) j usedState x y v) (left registerCount (u ++ t) j)) r j)
+      ap (λ (j : ℕ). setRegister (setHead (putCell registerCount (u ++ t) j c x y v) (left registerCount (u ++ t) j)) r j)
       (head-longer registerCount n u t long some)
-      ∙ (ap (λ (l : ℕ). setRegister (setHead (putCell registerCount (u ++ t) i usedState x y v) l) r i)
+      ∙ (ap (λ (l : ℕ). setRegister (setHead (putCell registerCount (u ++ t) i c x y v) l) r i)
       (cell-longer registerCount n u t long some i 1 high (omega arith))
-      ∙ (ap (λ (w : List ℕ). setRegister (setHead w next) r i) (put-cell-longer registerCount n t some u long i usedState x y v low high)
+      ∙ (ap (λ (w : List ℕ). setRegister (setHead w next) r i) (put-cell-longer registerCount n t some u long i c x y v low high)
       ∙ (ap (λ (w : List ℕ). setRegister w r i) (set-head-longer registerCount n put t long-put some next)
       ∙ set-register-longer registerCount n (setHead put next) t long-head some r i at-r)))
 
@@ -132,9 +155,9 @@ module _ (n : ℕ) (u t : List ℕ) (long : length u ≡ poolLength registerCoun
       go (no past) = rw (same, lt-leb (head u) n (omega arith)) refl
 
 module _ (n : ℕ) (u t : List ℕ) (long : length u ≡ poolLength registerCount n) (some : 0 < n) where
-  take-collected-longer : (r x y v : ℕ) → r < registerCount
-      → Behind n u t long some (takeCollected n (u ++ t) r x y v) (takeCollected n u r x y v)
-  take-collected-longer r x y v at-r =
+  take-collected-longer : (r c x y v : ℕ) → r < registerCount
+      → Behind n u t long some (takeCollected n (u ++ t) r c x y v) (takeCollected n u r c x y v)
+  take-collected-longer r c x y v at-r =
       same-test (Behind n u t long some) (well-formed-longer registerCount n u t long some)
       (λ e.
       let well = well-formed-read registerCount n u e in
@@ -145,34 +168,29 @@ module _ (n : ℕ) (u t : List ℕ) (long : length u ≡ poolLength registerCoun
       let same : head (collected registerCount n (u ++ t)) ≡ head swept = ap head words ∙ head-longer registerCount n swept t long-swept some in
       same-test (Behind n u t long some) (ap (λ (i : ℕ). eqb i 0) same) (λ full. nothing n u t long some (refused 5))
       λ other. record {
-        said = ap (λ (l : List ℕ). allocated (visitsOf l)) (reached-longer registerCount n u t long some well);
-        words = ap (λ (w : List ℕ). take w r x y v) words ∙ take-longer n swept t long-swept some r x y v at-r (above (head swept) other) top;
+        said = ap allocated (visits-longer registerCount n u t long some well);
+        words = ap (λ (w : List ℕ). take w r c x y v) words ∙ take-longer n swept t long-swept some r c x y v at-r (above (head swept) other) top;
       })
       λ e. nothing n u t long some (refused 3)
+
+  allocate-longer : (r c x y v : ℕ) → r < registerCount → Behind n u t long some (allocateIn n (u ++ t) r c x y v) (allocateIn n u r c x y v)
+  allocate-longer r c x y v at-r =
+      same-test (Behind n u t long some) (ap (λ (i : ℕ). eqb i 0) (head-longer registerCount n u t long some))
+      (λ nil. take-collected-longer r c x y v at-r)
+      λ other. same-test (Behind n u t long some) (good-longer n u t long some)
+      (λ good. record { said = refl; words = take-longer n u t long some r c x y v at-r (above (head u) other) (good-bound n u good) })
+      λ bad. nothing n u t long some (refused 3)
 
   new-longer : (r a b v : ℕ) → r < registerCount → a < registerCount → b < registerCount → Behind n u t long some (newIn n (u ++ t) r a b v) (newIn n u r a b v)
   new-longer r a b v at-r at-a at-b =
       let x = register-longer registerCount n u t long some a at-a in
       let y = register-longer registerCount n u t long some b at-b in
-      subst (λ (x' : ℕ). Behind n u t long some (from x' (register (u ++ t) b)) (newIn n u r a b v)) (sym x)
-      (subst (λ (y' : ℕ). Behind n u t long some (from (register u a) y') (newIn n u r a b v)) (sym y)
-      (same-test (Behind n u t long some) (ap₂ (λ (p q : Bool). p && q) (holds-longer n u t long some a at-a) (holds-longer n u t long some b at-b))
-      (λ held. same-test (Behind n u t long some) (ap (λ (i : ℕ). eqb i 0) (head-longer registerCount n u t long some))
-      (λ nil. take-collected-longer r (register u a) (register u b) v at-r)
-      λ other. same-test (Behind n u t long some) (good-longer n u t long some)
-      (λ good. record {
-        said = refl;
-        words = take-longer n u t long some r (register u a) (register u b) v at-r (above (head u) other) (good-bound n u good);
-      })
-      λ bad. nothing n u t long some (refused 3))
-      λ bad. nothing n u t long some (refused 3)))
-    where
-      -- "new" with the links that a and b hold
-      from : ℕ → ℕ → Outcome × List ℕ
-      from x' y' =
-          cond (holdsLink n (u ++ t) a && holdsLink n (u ++ t) b)
-          (cond (eqb (head (u ++ t)) 0) (takeCollected n (u ++ t) r x' y' v) (cond (goodHead n (u ++ t)) (allocated 0, take (u ++ t) r x' y' v) (refused 3, u ++ t)))
-          (refused 3, u ++ t)
+      same-test (Behind n u t long some) (ap₂ (λ (p q : Bool). p && q) (holds-longer n u t long some a at-a) (holds-longer n u t long some b at-b))
+      (λ held.
+      subst (λ (x' : ℕ). Behind n u t long some (allocateIn n (u ++ t) r pairState x' (register (u ++ t) b) v) (allocateIn n u r pairState (register u a) (register u b) v)) (sym x)
+      (subst (λ (y' : ℕ). Behind n u t long some (allocateIn n (u ++ t) r pairState (register u a) y' v) (allocateIn n u r pairState (register u a) (register u b) v)) (sym y)
+      (allocate-longer r pairState (register u a) (register u b) v at-r)))
+      λ bad. nothing n u t long some (refused 3)
 
   pub body-longer : (c : Call) → Registers (registersOf c) → Behind n u t long some (bodyOf c n (u ++ t)) (bodyOf c n u)
   body-longer (call.Copy r a) there =
@@ -205,3 +223,6 @@ module _ (n : ℕ) (u t : List ℕ) (long : length u ≡ poolLength registerCoun
       })
       λ e. nothing n u t long some (refused 3)
   body-longer call.Collect there = collect-longer n u t long some
+  body-longer (call.Point r v x y) there = allocate-longer r pointState x y v (there .first)
+  body-longer (call.East a) there = coordinate-longer n u t long some 1 a (omega arith) (there .first)
+  body-longer (call.North a) there = coordinate-longer n u t long some 2 a (omega arith) (there .first)

@@ -21,10 +21,10 @@ use Rattle.reversal.specs.Reached.{isReached}
 use Rattle.collector.specs.Collect.{collected, collectIn}
 use Rattle.recursive_marker.specs.Recursive.{recursionLimit}
 use Rattle.worst_case.proofs.Built.{built-length}
-use Rattle.allocator.specs.Allocation.{take, takeCollected, goodHead, newIn}
+use Rattle.allocator.specs.Allocation.{take, takeCollected, goodHead, allocateIn}
 use Rattle.operations.specs.declared.HeldCell.{HeldCell}
 use Rattle.operations.specs.declared.HeldCell.the-variants as heldCell
-use Rattle.operations.specs.Operations.{heldCellOf, cellTo, withCell, followIn, linkIn}
+use Rattle.operations.specs.Operations.{heldCellOf, heldKindOf, cellTo, followIn, linkIn}
 use Rattle.calls.specs.declared.Call.{Call}
 use Rattle.calls.specs.declared.Call.the-variants as call
 use Rattle.calls.specs.Calls.{registersOf, bodyOf, callOf}
@@ -49,8 +49,8 @@ pub above : (x : ℕ) → eqb x 0 ≡ false → 0 < x
 above x other = let apart = eqb-false x 0 other in omega (arith, apart)
 
 -- The head cell is taken.
-take-length : (w : List ℕ) (r x y v : ℕ) → 0 < head w → length (take w r x y v) ≡ length w
-take-length w r x y v some = length-setRegister registerCount _ r (head w) ∙ (length-setHead registerCount _ _ ∙ length-putCell registerCount w (head w) some _ x y v)
+take-length : (w : List ℕ) (r c x y v : ℕ) → 0 < head w → length (take w r c x y v) ≡ length w
+take-length w r c x y v some = length-setRegister registerCount _ r (head w) ∙ (length-setHead registerCount _ _ ∙ length-putCell registerCount w (head w) some c x y v)
 
 -- As many words are left as w has.
 abbrev AsLong : List ℕ → Outcome × List ℕ → Type 0
@@ -64,49 +64,47 @@ module _ (n : ℕ) (w : List ℕ) where
   collect-length : AsLong w (collectIn n w)
   collect-length = either (AsLong w) (wellFormed registerCount n w) (λ e. collected-length) (λ e. refl)
 
-  -- a call on the cell that register a holds
-  with-cell-length : (a : ℕ) (body : ℕ → Outcome × List ℕ) → ((x : ℕ) → AsLong w (body x)) → AsLong w (withCell n w a body)
-  with-cell-length a body on = go (heldCellOf n w a)
-    where
-      go : (q : HeldCell) → AsLong w (cellTo w body q)
-      go (heldCell.Cell x) = on x
-      go (heldCell.Refused k) = refl
+  -- a call on the cell that a register holds, of either kind or of one
+  cell-length : (q : HeldCell) (body : ℕ → Outcome × List ℕ) → ((x : ℕ) → AsLong w (body x)) → AsLong w (cellTo w body q)
+  cell-length (heldCell.Cell x) body on = on x
+  cell-length (heldCell.Refused k) body on = refl
 
   follow-length : (field r a : ℕ) → AsLong w (followIn n w field r a)
   follow-length field r a =
-      with-cell-length a _ λ x.
+      cell-length (heldKindOf false n w a) _ λ x.
       either (AsLong w) (validLink registerCount n w (cell registerCount w x field)) (λ e. length-setRegister registerCount w r _) (λ e. refl)
 
   link-length : (field a b : ℕ) → AsLong w (linkIn n w field a b)
   link-length field a b =
-      either (AsLong w) (holdsLink n w b) (λ e. with-cell-length a _ λ x. length-setCell registerCount w x field _) (λ e. refl)
+      either (AsLong w) (holdsLink n w b) (λ e. cell-length (heldKindOf false n w a) _ λ x. length-setCell registerCount w x field _) (λ e. refl)
 
-  take-collected-length : (r x y v : ℕ) → AsLong w (takeCollected n w r x y v)
-  take-collected-length r x y v =
+  take-collected-length : (r c x y v : ℕ) → AsLong w (takeCollected n w r c x y v)
+  take-collected-length r c x y v =
       let w' = collected registerCount n w in
       either (AsLong w) (wellFormed registerCount n w)
-      (λ well. either (AsLong w) (eqb (head w') 0) (λ full. refl) λ other. take-length w' r x y v (above (head w') other) ∙ collected-length)
+      (λ well. either (AsLong w) (eqb (head w') 0) (λ full. refl) λ other. take-length w' r c x y v (above (head w') other) ∙ collected-length)
       λ bad. refl
 
-  new-length : (r a b v : ℕ) → AsLong w (newIn n w r a b v)
-  new-length r a b v =
-      either (AsLong w) (holdsLink n w a && holdsLink n w b)
-      (λ held. either (AsLong w) (eqb (head w) 0) (λ nil. take-collected-length r _ _ v)
-      λ other. either (AsLong w) (goodHead n w) (λ good. take-length w r _ _ v (above (head w) other)) λ bad. refl)
-      λ bad. refl
+  allocate-length : (r c x y v : ℕ) → AsLong w (allocateIn n w r c x y v)
+  allocate-length r c x y v =
+      either (AsLong w) (eqb (head w) 0) (λ nil. take-collected-length r c x y v)
+      λ other. either (AsLong w) (goodHead n w) (λ good. take-length w r c x y v (above (head w) other)) λ bad. refl
 
   body-length : (c : Call) → AsLong w (bodyOf c n w)
   body-length (call.Copy r a) = either (AsLong w) (holdsLink n w a) (λ e. length-setRegister registerCount w r _) (λ e. refl)
   body-length (call.Clear r) = length-setRegister registerCount w r 0
-  body-length (call.New r a b v) = new-length r a b v
+  body-length (call.New r a b v) = either (AsLong w) (holdsLink n w a && holdsLink n w b) (λ held. allocate-length r _ _ _ v) (λ bad. refl)
   body-length (call.Left r a) = follow-length 1 r a
   body-length (call.Right r a) = follow-length 2 r a
   body-length (call.SetLeft a b) = link-length 1 a b
   body-length (call.SetRight a b) = link-length 2 a b
-  body-length (call.SetValue a v) = with-cell-length a _ λ x. length-setCell registerCount w x 3 v
-  body-length (call.Value a) = with-cell-length a _ λ x. refl
+  body-length (call.SetValue a v) = cell-length (heldCellOf n w a) _ λ x. length-setCell registerCount w x 3 v
+  body-length (call.Value a) = cell-length (heldCellOf n w a) _ λ x. refl
   body-length (call.Same a b) = either (AsLong w) (holdsLink n w a && holdsLink n w b) (λ e. refl) (λ e. refl)
   body-length call.Collect = collect-length
+  body-length (call.Point r v x y) = allocate-length r _ x y v
+  body-length (call.East a) = cell-length (heldKindOf true n w a) _ λ x. refl
+  body-length (call.North a) = cell-length (heldKindOf true n w a) _ λ x. refl
 
 pub call-length : (w : List ℕ) (c : Call) → AsLong w (callOf c w)
 call-length w c = behind-questions (AsLong w) (admitOf w (registersOf c)) (λ n told. body-length n w c) (λ k. refl)

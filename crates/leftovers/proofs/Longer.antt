@@ -13,9 +13,10 @@ use Rattle.graph.specs.Graph.{Reach}
 use Rattle.graph.specs.Preorder.{elem}
 use Rattle.graph.specs.Compare.{Agree}
 use Rattle.graph.proofs.Theorems.{preorder-agree, preorder-reached}
-use Rattle.pool.specs.Layout.{firstRegister, poolLength, cellAt, count, setCount, head, setHead, register, setRegister, cell, setCell, putCell, graphOf, rootsOf}
+use Rattle.pool.specs.Layout.{firstRegister, poolLength, cellAt, count, setCount, head, setHead, register, setRegister, cell, setCell, putCell, isPointAt, linkOf, graphOf, rootsOf}
 use Rattle.pool.specs.Retain.{freeField, retainedField, retainedWord, retain, blankWords, freshWords}
-use Rattle.pool.specs.States.{usedState, freeState, asUsed}
+use Rattle.pool.specs.States.{pairState, freeState, isPoint, asUsed}
+use Rattle.pool.proofs.Links.{link-same}
 use Rattle.questions.specs.Validity.{validLink, validCell, wellFormed}
 use Rattle.pool.proofs.Laws.{length-setCell, length-setRegister}
 use Rattle.pool.proofs.Every.{every-cong, tabulate-list, tabulate-cong, getD-tabulate}
@@ -24,13 +25,14 @@ use Rattle.pool.proofs.Node.{length-putCell}
 use Rattle.pool.proofs.FreshPool.{blank-length}
 use Rattle.questions.proofs.WellFormed.{WellFormed}
 use Rattle.questions.proofs.PoolGraph.{reached-used, pool-within}
-use Rattle.reversal.specs.Reached.{reachedCells, isReached}
+use Rattle.reversal.specs.Reached.{reachedCells, isReached, visitsOf, reachedVisits}
+use Rattle.reversal.proofs.VisitCount.{visits-cong}
 use Rattle.collector.specs.Collect.{collected}
 use Rattle.stack_algorithm.specs.Comb.{combLink}
 use Rattle.worst_case.specs.WorstCase.{putCombCell, putComb, worstCaseWords}
 use Rattle.image.specs.declared.ImageCell.{ImageCell}
 use Rattle.image.specs.Image.{Image, numberIn, savedCell, imageBytes, imageOf}
-use Rattle.load.specs.Load.{putFields, putEach, putImage, loadedWords}
+use Rattle.load.specs.Load.{stateOfKind, putFields, putEach, putImage, loadedWords}
 use Rattle.load.proofs.Putting.{cells-length, registers-length}
 
 -- Lists of what two rules give, where these agree on each member.
@@ -65,14 +67,21 @@ module _ (R n : ℕ) (u t : List ℕ) (long : length u ≡ poolLength R n) (some
       go (yes high) = rw (cell-longer x 0 high (omega arith)) refl
       go (no past) = simp (lt-leb x n (omega arith))
 
+  -- a cell's kind and its links
+  pub kind-longer : (i : ℕ) → i ≤ n → isPointAt R (u ++ t) i ≡ isPointAt R u i
+  kind-longer i high = ap isPoint (cell-longer i 0 high (omega arith))
+
+  link-of-longer : (i f : ℕ) → i ≤ n → f < 4 → linkOf R (u ++ t) i f ≡ linkOf R u i f
+  link-of-longer i f high hf = link-same R (u ++ t) u i i f (kind-longer i high) (cell-longer i f high hf)
+
   cell-valid-longer : (i : ℕ) → i ≤ n → validCell R n (u ++ t) i ≡ validCell R n u i
   cell-valid-longer i high =
       rw (
+        link-of-longer i 1 high (omega arith),
+        link-of-longer i 2 high (omega arith),
+        link-longer (linkOf R u i 1),
+        link-longer (linkOf R u i 2),
         cell-longer i 0 high (omega arith),
-        cell-longer i 1 high (omega arith),
-        cell-longer i 2 high (omega arith),
-        link-longer (cell R u i 1),
-        link-longer (cell R u i 2),
       ) refl
 
   pub well-formed-longer : wellFormed R n (u ++ t) ≡ wellFormed R n u
@@ -91,12 +100,18 @@ module _ (R n : ℕ) (u t : List ℕ) (long : length u ≡ poolLength R n) (some
     agree x reach =
         let used = reached-used well reach in
         record {
-          left = sym (cell-longer x 1 (used .bounded) (omega arith));
-          right = sym (cell-longer x 2 (used .bounded) (omega arith));
+          left = sym (link-of-longer x 1 (used .bounded) (omega arith));
+          right = sym (link-of-longer x 2 (used .bounded) (omega arith));
         }
 
     pub reached-longer : reachedCells R n (u ++ t) ≡ reachedCells R n u
     reached-longer = rw roots-longer (sym (preorder-agree n (graphOf R u) (graphOf R (u ++ t)) (rootsOf R u) (pool-within well) agree))
+
+    pub visits-longer : reachedVisits R n (u ++ t) ≡ reachedVisits R n u
+    visits-longer =
+        ap (visitsOf (isPointAt R (u ++ t))) reached-longer
+        ∙ visits-cong (isPointAt R (u ++ t)) (isPointAt R u) (reachedCells R n u) λ x mem.
+        kind-longer x (reached-used well (preorder-reached n (graphOf R u) (rootsOf R u) (pool-within well) x .0 mem) .bounded)
 
     pub image-longer : imageOf R n (u ++ t) ≡ imageOf R n u
     image-longer =
@@ -106,6 +121,7 @@ module _ (R n : ℕ) (u t : List ℕ) (long : length u ≡ poolLength R n) (some
         (map-cong (savedCell R (u ++ t) order) (savedCell R u order) order λ x mem.
         let used = reached-used well (preorder-reached n (graphOf R u) (rootsOf R u) (pool-within well) x .0 mem) in
         rw (
+          cell-longer x 0 (used .bounded) (omega arith),
           cell-longer x 1 (used .bounded) (omega arith),
           cell-longer x 2 (used .bounded) (omega arith),
           cell-longer x 3 (used .bounded) (omega arith),
@@ -190,7 +206,7 @@ module _ (R n : ℕ) (t : List ℕ) (some : 0 < n) where
   unfolding putComb
   comb-longer zero u long high = refl
   comb-longer (suc k) u long high =
-      ap (putComb R n k) (put-cell-longer u long (suc k) usedState (combLink n (suc k) 2) (combLink n (suc k) 1) 0 (omega arith) high)
+      ap (putComb R n k) (put-cell-longer u long (suc k) pairState (combLink n (suc k) 2) (combLink n (suc k) 1) 0 (omega arith) high)
       ∙ comb-longer k (putCombCell R n u (suc k)) (length-putCell R u (suc k) (omega arith) _ _ _ _ ∙ long) (omega arith)
 
   module _ (u : List ℕ) (long : length u ≡ poolLength R n) where
@@ -218,22 +234,13 @@ module _ (R n : ℕ) (t : List ℕ) (some : 0 < n) where
       ap (putEach setRegister (suc k) xs) (set-register-longer R n u t long some k x (omega arith))
       ∙ registers-longer (suc k) xs (setRegister u k x) (length-setRegister R u k x ∙ long) (omega arith)
 
-  fields-longer : (u : List ℕ) → length u ≡ poolLength R n → (i : ℕ) → i ≤ n → (c : ImageCell) → putFields R (u ++ t) i c ≡ putFields R u i c ++ t
-  fields-longer u long i high c =
-      let l = setCell R u i 1 (c .left) in
-      let r = setCell R l i 2 (c .right) in
-      let long-l : length l ≡ poolLength R n = length-setCell R u i 1 (c .left) ∙ long in
-      ap (λ (v : List ℕ). setCell R (setCell R v i 2 (c .right)) i 3 (c .value)) (set-cell-longer R n u t long some i 1 (c .left) high (omega arith))
-      ∙ (ap (λ (v : List ℕ). setCell R v i 3 (c .value)) (set-cell-longer R n l t long-l some i 2 (c .right) high (omega arith))
-      ∙ set-cell-longer R n r t (length-setCell R l i 2 (c .right) ∙ long-l) some i 3 (c .value) high (omega arith))
-
   cells-longer : (i : ℕ) (cs : List ImageCell) (u : List ℕ) → length u ≡ poolLength R n → 0 < i → i + length cs ≤ suc n
       → putEach (putFields R) i cs (u ++ t) ≡ putEach (putFields R) i cs u ++ t
   unfolding putEach
   cells-longer i [] u long low few = refl
   cells-longer i (c ∷ cs) u long low few =
-      ap (putEach (putFields R) (suc i) cs) (fields-longer u long i (omega arith) c)
-      ∙ cells-longer (suc i) cs (putFields R u i c) (simp length-setCell long) (omega arith) (omega arith)
+      ap (putEach (putFields R) (suc i) cs) (put-cell-longer R n t some u long i (stateOfKind (c .kind)) (c .left) (c .right) (c .value) low (omega arith))
+      ∙ cells-longer (suc i) cs (putFields R u i c) (length-putCell R u i low (stateOfKind (c .kind)) (c .left) (c .right) (c .value) ∙ long) (omega arith) (omega arith)
 
   module _ (u : List ℕ) (long : length u ≡ poolLength R n) (i : Image) (few : length (i .cells) ≤ n) (all : length (i .registers) ≡ R) where
     put-longer : (v : List ℕ) → length v ≡ poolLength R n → putImage R i (v ++ t) ≡ putImage R i v ++ t
@@ -247,4 +254,4 @@ module _ (R n : ℕ) (t : List ℕ) (some : 0 < n) where
         let start = blank R n t some u long in
         let whole = blank-long R n t some u long in
         ap (retain R n keep) (ap (putImage R i) (blank-longer R n u t long some) ∙ put-longer start whole)
-        ∙ retain-longer R n (putImage R i start) t (cells-length R 1 (i .cells) _ ∙ (registers-length 0 (i .registers) start ∙ whole)) some keep
+        ∙ retain-longer R n (putImage R i start) t (cells-length R 1 (i .cells) _ (omega arith) ∙ (registers-length 0 (i .registers) start ∙ whole)) some keep

@@ -16,7 +16,7 @@ use Rattle.batch.specs.Run.{runOf}
 use Rattle.load.specs.Load.{loadOf}
 use Rattle.save.specs.Save.{saveOf}
 
--- Every operation that is lent the words of a pool for writing: fresh; each of the eleven calls, collect among them; the other forms of collect, with the
+-- Every operation that is lent the words of a pool for writing: fresh; each of the fourteen calls, collect among them; the other forms of collect, with the
 -- tally, with the stack and recursive; the builder of S-3; load of some bytes; and a run of a list of calls, its answers written to `out`. Save is lent the
 -- words only for reading.
 pub data Operation : Type 0 where

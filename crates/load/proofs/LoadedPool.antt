@@ -2,18 +2,21 @@
 use Prim.Native.Nat.{ℕ, zero, suc, _<_, _≤_}
 use native.Mathlib.Omega.{arith}
 use mathlib.Core.Path.{_≡_, refl, sym, _∙_}
+use mathlib.Core.Bool.{Bool, true, false}
 use mathlib.Core.List.{List}
 use lib.ListN.{length, getD}
 use lib.Dec.{leb}
 use borrow.Author.Tests.{le-leb, leb-true}
-use Rattle.pool.specs.Layout.{poolLength, cellCountOfLength, cellCount, count, register, cell}
+use Rattle.pool.specs.Layout.{poolLength, cellCountOfLength, cellCount, count, register, cell, state, isPointAt, linkOf}
+use Rattle.pool.specs.States.{isUsed}
+use Rattle.pool.proofs.Links.{link-pair, link-point, retained-kind}
 use Rattle.pool.specs.Retain.{freeList, freeCells, blankWords}
 use Rattle.pool.proofs.Sizes.{same-count}
 use Rattle.pool.proofs.Retained.{length-retain, retain-count, retain-register}
 use Rattle.questions.proofs.RetainedPool.{Kept, retained-well-formed}
-use Rattle.pool.proofs.RetainedPool.{retained-same, retained-free-list}
+use Rattle.pool.proofs.RetainedPool.{retained-used, retained-same, retained-free-list}
 use Rattle.questions.proofs.WellFormed.{WellFormed}
-use Rattle.image.specs.Image.{Image}
+use Rattle.image.specs.Image.{isPointKind, Image}
 use Rattle.image.proofs.Reading.{each-at}
 use Rattle.image.proofs.Images.{LinksWithin}
 use Rattle.load.specs.Load.{putImage, loadedWords}
@@ -40,10 +43,17 @@ module _ (R m : ℕ) (i : Image) (few : length (i .cells) ≤ m) (all : length (
   pub loaded-register : (k : ℕ) → k < R → register (loadedWords R m i w) k ≡ getD (i .registers) k 0
   loaded-register k low = retain-register R m (λ j. leb j K) held room k low ∙ holds .registers k low
 
-  pub loaded-cell : (p f : ℕ) → p < length (i .cells) → f < 3 → cell R (loadedWords R m i w) (suc p) (suc f) ≡ imageField (getD (i .cells) p noCell) f
+  pub loaded-cell : (p f : ℕ) → p < length (i .cells) → suc f < 4 → cell R (loadedWords R m i w) (suc p) (suc f) ≡ imageField (getD (i .cells) p noCell) (suc f)
   loaded-cell p f below hf =
-      retained-same R m (λ j. leb j K) held room (suc p) f (omega arith) (omega arith) (omega arith) (le-leb (suc p) K (omega arith))
+      retained-same R m (λ j. leb j K) held room (suc p) f (omega arith) (omega arith) hf (le-leb (suc p) K (omega arith))
       ∙ holds .cells p f below hf
+
+  pub loaded-kind : (p : ℕ) → p < length (i .cells) → isPointAt R (loadedWords R m i w) (suc p) ≡ isPointKind (getD (i .cells) p noCell .kind)
+  loaded-kind p below =
+      retained-kind R m (λ j. leb j K) held room (suc p) (omega arith) (omega arith) (le-leb (suc p) K (omega arith)) ∙ holds .kinds p below
+
+  pub loaded-used : (p : ℕ) → p < length (i .cells) → isUsed (state R (loadedWords R m i w) (suc p)) ≡ true
+  loaded-used p below = retained-used R m (λ j. leb j K) held room (suc p) (omega arith) (omega arith) (le-leb (suc p) K (omega arith))
 
   pub loaded-cells : cellCountOfLength R (length w) ≡ m → cellCount R (loadedWords R m i w) ≡ m
   unfolding count
@@ -65,10 +75,17 @@ module _ (R m : ℕ) (i : Image) (few : length (i .cells) ≤ m) (all : length (
       kept zero h = Kept.nil refl
       kept (suc x) h = Kept.kept (omega arith) (omega arith) (le-leb (suc x) K h)
 
-      link : (j : ℕ) → 0 < j → j ≤ K → Kept m (λ l. leb l K) (cell R held j 1) × Kept m (λ l. leb l K) (cell R held j 2)
+      link : (j : ℕ) → 0 < j → j ≤ K → Kept m (λ l. leb l K) (linkOf R held j 1) × Kept m (λ l. leb l K) (linkOf R held j 2)
       link zero low inside = absurd (omega arith)
       link (suc p) low inside =
           let c = each-at (links .cells) p noCell inside in (
-            rw (holds .cells p 0 inside (omega arith)) (kept _ (c .left-most)),
-            rw (holds .cells p 1 inside (omega arith)) (kept _ (c .right-most)),
+            to (isPointKind (getD (i .cells) p noCell .kind)) refl 0 (omega arith) (c .left-most),
+            to (isPointKind (getD (i .cells) p noCell .kind)) refl 1 (omega arith) (c .right-most),
           )
+        where
+          to : (t : Bool) → isPointKind (getD (i .cells) p noCell .kind) ≡ t → (f : ℕ) → suc f < 4
+              → (isPointKind (getD (i .cells) p noCell .kind) ≡ false → imageField (getD (i .cells) p noCell) (suc f) ≤ K)
+              → Kept m (λ l. leb l K) (linkOf R held (suc p) (suc f))
+          to true is f hf most = Kept.nil (link-point R held (suc p) (suc f) (holds .kinds p inside ∙ is))
+          to false is f hf most =
+              rw (link-pair R held (suc p) (suc f) (holds .kinds p inside ∙ is), holds .cells p f inside hf) (kept _ (most is))

@@ -10,8 +10,10 @@ use lib.Seq.{take-all, getD-set-same, getD-set-other}
 use lib.Dec.{leb, ltb}
 use borrow.Author.Tests.{lt-ltb, leb-true}
 use Rattle.leb128.specs.Leb128.{Bytes}
-use Rattle.pool.specs.Layout.{registerCount, firstRegister, firstCell, poolLength, cellCountOfLength, cellAt, register, setRegister, cell, setCount}
-use Rattle.pool.specs.Retain.{blankWords, retain, markedCell, sweepOf}
+use Rattle.pool.specs.Layout.{registerCount, firstRegister, firstCell, poolLength, cellCountOfLength, cellAt, register, setRegister, cell, setCount, isPointAt}
+use Rattle.pool.specs.States.{pairState, pointState, isPoint}
+use Rattle.pool.proofs.States.{pair-is, point-is, used-alike}
+use Rattle.pool.specs.Retain.{blankWords, keptField, retain, markedCell, sweepOf}
 use Rattle.answers.specs.Outcome.{refusalNumber}
 use Rattle.answers.specs.declared.Refusal.{Refusal}
 use Rattle.pool.proofs.Sizes.{counted-sized}
@@ -19,7 +21,7 @@ use Rattle.pool.proofs.Retained.{Elsewhere, retain-cong}
 use Rattle.pool.proofs.FreshPool.{blank-length, blank-behind}
 use Rattle.image.specs.declared.Scan.{Scan}
 use Rattle.image.specs.declared.Scan.the-variants as scan
-use Rattle.image.specs.Image.{Image, Parsed, parsed, fault, readCount, readLink, readCell, readEach, readImage}
+use Rattle.image.specs.Image.{isPointKind, Image, Parsed, parsed, fault, readCount, readLink, readCell, readEach, readImage}
 use Rattle.image.specs.Steps.{scanOf}
 use Rattle.image.proofs.Reading.{between-inside}
 use Rattle.image.proofs.Images.{image-read, image-few, image-registers, reads-image-bytes, scanned, scanned-fault}
@@ -33,7 +35,8 @@ pub record Holds (R n : ℕ) (i : Image) (w v : List ℕ) : Type 0 where
   pub len : length v ≡ length w
   pub number : getD v 0 0 ≡ n
   pub registers : (k : ℕ) → k < R → register v k ≡ getD (i .registers) k 0
-  pub cells : (p f : ℕ) → p < length (i .cells) → f < 3 → cell R v (suc p) (suc f) ≡ imageField (getD (i .cells) p noCell) f
+  pub kinds : (p : ℕ) → p < length (i .cells) → isPointAt R v (suc p) ≡ isPointKind (getD (i .cells) p noCell .kind)
+  pub cells : (p f : ℕ) → p < length (i .cells) → suc f < 4 → cell R v (suc p) (suc f) ≡ imageField (getD (i .cells) p noCell) (suc f)
   pub behind : (k : ℕ) → poolLength R n ≤ k → getD v k 0 ≡ getD w k 0
 
 module _ (R n : ℕ) (i : Image) (few : length (i .cells) ≤ n) (w : List ℕ) where
@@ -44,7 +47,7 @@ module _ (R n : ℕ) (i : Image) (few : length (i .cells) ≤ n) (w : List ℕ) 
   unfolding register
   retain-same u v hu hv keep same =
       retain-cong R n keep (λ j. leb j (length (i .cells))) u v (hu .len ∙ sym (hv .len)) same stay
-      (λ j f low high hf kept. field j f low (omega arith) (leb-true j (length (i .cells)) (sym (same j low high) ∙ kept)))
+      (λ j f low high hf kept. field j f low hf (leb-true j (length (i .cells)) (sym (same j low high) ∙ kept)))
     where
       stay : (k : ℕ) → (k ≡ 1 → ⊥) → Elsewhere R n k → getD u k 0 ≡ getD v k 0
       stay k other away = go (ℕ-discrete k 0) (decLt k (firstCell R)) (decLe (poolLength R n) k)
@@ -58,14 +61,15 @@ module _ (R n : ℕ) (i : Image) (few : length (i .cells) ≤ n) (w : List ℕ) 
           go (no later) (no low) (no high) =
               absurd (away (suc ((k - firstCell R) / 4)) ((k - firstCell R) % 4) (omega arith) (omega arith) (omega arith) (omega arith))
 
-      field : (j f : ℕ) → 0 < j → f < 3 → j ≤ length (i .cells) → cell R u j (suc f) ≡ cell R v j (suc f)
+      field : (j f : ℕ) → 0 < j → f < 4 → j ≤ length (i .cells) → keptField R u j f ≡ keptField R v j f
       field zero f low hf inside = absurd (omega arith)
-      field (suc p) f low hf inside = hu .cells p f inside hf ∙ sym (hv .cells p f inside hf)
+      field (suc p) zero low hf inside = used-alike _ _ (hu .kinds p inside ∙ sym (hv .kinds p inside))
+      field (suc p) (suc f) low hf inside = hu .cells p f inside hf ∙ sym (hv .cells p f inside hf)
 
   -- What stands where once the image is put into words v.
   module _ (all : length (i .registers) ≡ R) (v : List ℕ) (room : poolLength R n ≤ length v) where
     pub put-length : length (putImage R i v) ≡ length v
-    put-length = cells-length R 1 (i .cells) _ ∙ registers-length 0 (i .registers) v
+    put-length = cells-length R 1 (i .cells) _ (omega arith) ∙ registers-length 0 (i .registers) v
 
     put-elsewhere : (k : ℕ) → Elsewhere R n k → ((j : ℕ) → j < R → k ≡ firstRegister + j → ⊥) → getD (putImage R i v) k 0 ≡ getD v k 0
     put-elsewhere k away apart =
@@ -79,11 +83,18 @@ module _ (R n : ℕ) (i : Image) (few : length (i .cells) ≤ n) (w : List ℕ) 
         cells-elsewhere R 1 (i .cells) _ n (firstRegister + k) (omega arith) (omega arith) (λ j f hj top hf e. omega arith)
         ∙ (rw this at (registers-at 0 (i .registers) v k (omega arith) (omega arith)))
 
-    put-field : (p f : ℕ) → p < length (i .cells) → f < 3 → cell R (putImage R i v) (suc p) (suc f) ≡ imageField (getD (i .cells) p noCell) f
+    put-field : (p f : ℕ) → p < length (i .cells) → f < 4 → cell R (putImage R i v) (suc p) f ≡ imageField (getD (i .cells) p noCell) f
     put-field p f below hf =
         let this : 1 + p ≡ suc p = omega arith in
         let long = registers-length 0 (i .registers) v in
         rw this at (cells-at R 1 (i .cells) (putEach setRegister 0 (i .registers) v) p f (omega arith) below hf (omega arith))
+
+    put-kind : (p : ℕ) → p < length (i .cells) → isPointAt R (putImage R i v) (suc p) ≡ isPointKind (getD (i .cells) p noCell .kind)
+    put-kind p below = ap isPoint (put-field p 0 below (omega arith)) ∙ go (isPointKind (getD (i .cells) p noCell .kind))
+      where
+        go : (t : Bool) → isPoint (cond t pointState pairState) ≡ t
+        go true = point-is pointState refl .1
+        go false = pair-is pairState refl .1
 
     put-behind : (k : ℕ) → poolLength R n ≤ k → getD (putImage R i v) k 0 ≡ getD v k 0
     put-behind k high = put-elsewhere k (λ j f hj top hf e. omega arith) (λ j low e. omega arith)
@@ -102,7 +113,8 @@ module _ (R n : ℕ) (i : Image) (few : length (i .cells) ≤ n) (w : List ℕ) 
               ∙ getD-set-same (replicate (poolLength R n) 0 ++ drop (poolLength R n) w) 0 n 0
               (simp (length-append, length-replicate, length-drop (poolLength R n) w) (omega arith));
           registers = put-register all (blankWords R n w) enough;
-          cells = put-field all (blankWords R n w) enough;
+          kinds = put-kind all (blankWords R n w) enough;
+          cells = λ p f below hf. put-field all (blankWords R n w) enough p (suc f) below hf;
           behind = λ k high. put-behind all (blankWords R n w) enough k high ∙ blank-behind R n w room k high;
         }
 
@@ -110,6 +122,11 @@ module _ (R n : ℕ) (i : Image) (few : length (i .cells) ≤ n) (w : List ℕ) 
     module _ (written : List ℕ) (marks : MarkedFirst R (length (i .cells)) n (set (putImage R i w) 0 n) written) where
       written-elsewhere : (p : ℕ) → 0 < p → ((j : ℕ) → 0 < j → j ≤ n → p ≡ cellAt R j 0 → ⊥) → getD written p 0 ≡ getD (putImage R i w) p 0
       written-elsewhere p some away = marks .others p away ∙ getD-set-other (putImage R i w) 0 p n 0 (λ e. omega arith)
+
+      -- word 0 is no cell's
+      counted-kind : (p : ℕ) → isPointAt R (set (putImage R i w) 0 n) (suc p) ≡ isPointAt R (putImage R i w) (suc p)
+      unfolding cell
+      counted-kind p = ap isPoint (getD-set-other (putImage R i w) 0 (cellAt R (suc p) 0) n 0 (λ e. omega arith))
 
       written-holds : Holds R n i w written
       unfolding register cell
@@ -119,8 +136,9 @@ module _ (R n : ℕ) (i : Image) (few : length (i .cells) ≤ n) (w : List ℕ) 
             len = marks .len ∙ (length-set (putImage R i w) 0 n ∙ long);
             number = marks .others 0 (λ j low high e. omega arith) ∙ getD-set-same (putImage R i w) 0 n 0 (omega arith);
             registers = λ k low. written-elsewhere (firstRegister + k) (omega arith) (λ j some high e. omega arith) ∙ put-register all w room k low;
+            kinds = λ p below. marks .kinds (suc p) (omega arith) (omega arith) below ∙ (counted-kind p ∙ put-kind all w room p below);
             cells = λ p f below hf.
-                written-elsewhere (cellAt R (suc p) (suc f)) (omega arith) (λ j some high e. omega arith) ∙ put-field all w room p f below hf;
+                written-elsewhere (cellAt R (suc p) (suc f)) (omega arith) (λ j some high e. omega arith) ∙ put-field all w room p (suc f) below hf;
             behind = λ k high. written-elsewhere k (omega arith) (λ j some low e. omega arith) ∙ put-behind all w room k high;
           }
 

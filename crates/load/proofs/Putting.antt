@@ -6,52 +6,39 @@ use mathlib.Core.List.{List, [], _∷_}
 use lib.ListN.{length, getD}
 use lib.Seq.{getD-set-other}
 use Rattle.pool.specs.Layout.{firstRegister, poolLength, register, setRegister, cell}
-use Rattle.pool.proofs.Laws.{length-setCell, length-setRegister, cell-same, cell-other, register-same, register-other}
-use Rattle.pool.proofs.Retained.{Elsewhere, setCell-elsewhere}
+use Rattle.pool.proofs.Laws.{length-setRegister, register-same, register-other}
+use Rattle.pool.proofs.Node.{written, length-putCell, cell-putCell, cell-putCell-other}
+use Rattle.pool.proofs.Retained.{Elsewhere, putCell-elsewhere}
 use Rattle.image.specs.declared.ImageCell.{ImageCell}
-use Rattle.load.specs.Load.{putFields, putEach}
+use Rattle.load.specs.Load.{stateOfKind, putFields, putEach}
 
--- The fields of an image's cell from 0 on, as those of a pool's cell are from 1 on; and a cell that stands past the end of a list.
+-- The fields of an image's cell, as those of a pool's cell; and a cell that stands past the end of a list.
 abbrev pub imageField : ImageCell → ℕ → ℕ
-imageField c zero = c .left
-imageField c (suc zero) = c .right
-imageField c (suc (suc f)) = c .value
+imageField c f = written (stateOfKind (c .kind)) (c .left) (c .right) (c .value) f
 
 abbrev pub noCell : ImageCell
-noCell = record { left = 0; right = 0; value = 0 }
+noCell = record { kind = 0; left = 0; right = 0; value = 0 }
 
 -- One cell.
 module _ (R : ℕ) (w : List ℕ) (i : ℕ) (c : ImageCell) where
-  put-length : length (putFields R w i c) ≡ length w
-  put-length = simp length-setCell
+  put-length : 0 < i → length (putFields R w i c) ≡ length w
+  put-length low = length-putCell R w i low (stateOfKind (c .kind)) (c .left) (c .right) (c .value)
 
-  put-same : (f : ℕ) → 0 < i → f < 3 → poolLength R i ≤ length w → cell R (putFields R w i c) i (suc f) ≡ imageField c f
-  put-same zero low hf room =
-      cell-other R _ i 3 _ i 1 low (omega arith) low (omega arith) (λ e. omega arith)
-      ∙ (cell-other R _ i 2 _ i 1 low (omega arith) low (omega arith) (λ e. omega arith) ∙ cell-same R w i 1 _ low (omega arith) room)
-  put-same (suc zero) low hf room =
-      cell-other R _ i 3 _ i 2 low (omega arith) low (omega arith) (λ e. omega arith)
-      ∙ cell-same R _ i 2 _ low (omega arith) (simp length-setCell room)
-  put-same (suc (suc zero)) low hf room = cell-same R _ i 3 _ low (omega arith) (simp length-setCell room)
-  put-same (suc (suc (suc f))) low hf room = absurd (omega arith)
+  put-same : (f : ℕ) → 0 < i → f < 4 → poolLength R i ≤ length w → cell R (putFields R w i c) i f ≡ imageField c f
+  put-same f low hf room = cell-putCell R w i low (stateOfKind (c .kind)) (c .left) (c .right) (c .value) f hf room
 
   put-other : (j f : ℕ) → 0 < i → 0 < j → f < 4 → (j ≡ i → ⊥) → cell R (putFields R w i c) j f ≡ cell R w j f
-  put-other j f low hj hf apart =
-      cell-other R _ i 3 _ j f low (omega arith) hj hf (λ e. apart (omega arith))
-      ∙ (cell-other R _ i 2 _ j f low (omega arith) hj hf (λ e. apart (omega arith))
-      ∙ cell-other R w i 1 _ j f low (omega arith) hj hf (λ e. apart (omega arith)))
+  put-other j f low hj hf apart = cell-putCell-other R w i low (stateOfKind (c .kind)) (c .left) (c .right) (c .value) j f hj hf apart
 
   put-elsewhere : (n k : ℕ) → 0 < i → i ≤ n → Elsewhere R n k → getD (putFields R w i c) k 0 ≡ getD w k 0
-  put-elsewhere n k low high away =
-      setCell-elsewhere R n _ i 3 _ k low high (omega arith) away
-      ∙ (setCell-elsewhere R n _ i 2 _ k low high (omega arith) away ∙ setCell-elsewhere R n w i 1 _ k low high (omega arith) away)
+  put-elsewhere n k low high away = putCell-elsewhere R n w i (stateOfKind (c .kind)) (c .left) (c .right) (c .value) k low high away
 
 -- The cells from i on.
 module _ (R : ℕ) where
-  pub cells-length : (i : ℕ) (cs : List ImageCell) (w : List ℕ) → length (putEach (putFields R) i cs w) ≡ length w
+  pub cells-length : (i : ℕ) (cs : List ImageCell) (w : List ℕ) → 0 < i → length (putEach (putFields R) i cs w) ≡ length w
   unfolding putEach
-  cells-length i [] w = refl
-  cells-length i (c ∷ cs) w = cells-length (suc i) cs (putFields R w i c) ∙ put-length R w i c
+  cells-length i [] w low = refl
+  cells-length i (c ∷ cs) w low = cells-length (suc i) cs (putFields R w i c) (omega arith) ∙ put-length R w i c low
 
   cells-below : (i : ℕ) (cs : List ImageCell) (w : List ℕ) (j f : ℕ) → 0 < j → j < i → f < 4
       → cell R (putEach (putFields R) i cs w) j f ≡ cell R w j f
@@ -60,17 +47,17 @@ module _ (R : ℕ) where
   cells-below i (c ∷ cs) w j f low less hf =
       cells-below (suc i) cs (putFields R w i c) j f low (omega arith) hf ∙ put-other R w i c j f (omega arith) low hf (λ e. omega arith)
 
-  pub cells-at : (i : ℕ) (cs : List ImageCell) (w : List ℕ) (p f : ℕ) → 0 < i → p < length cs → f < 3 → poolLength R (i + p) ≤ length w
-      → cell R (putEach (putFields R) i cs w) (i + p) (suc f) ≡ imageField (getD cs p noCell) f
+  pub cells-at : (i : ℕ) (cs : List ImageCell) (w : List ℕ) (p f : ℕ) → 0 < i → p < length cs → f < 4 → poolLength R (i + p) ≤ length w
+      → cell R (putEach (putFields R) i cs w) (i + p) f ≡ imageField (getD cs p noCell) f
   unfolding putEach
   cells-at i [] w p f low below hf room = absurd (omega arith)
   cells-at i (c ∷ cs) w zero f low below hf room =
       let here : i + 0 ≡ i = omega arith in
       rw here
-      (cells-below (suc i) cs (putFields R w i c) i (suc f) low (omega arith) (omega arith) ∙ put-same R w i c f low hf (omega arith))
+      (cells-below (suc i) cs (putFields R w i c) i f low (omega arith) hf ∙ put-same R w i c f low hf (omega arith))
   cells-at i (c ∷ cs) w (suc p) f low below hf room =
       let next : i + suc p ≡ suc i + p = omega arith in
-      rw next (cells-at (suc i) cs (putFields R w i c) p f (omega arith) (omega arith) hf (omega (arith, put-length R w i c)))
+      rw next (cells-at (suc i) cs (putFields R w i c) p f (omega arith) (omega arith) hf (omega (arith, put-length R w i c low)))
 
   pub cells-elsewhere : (i : ℕ) (cs : List ImageCell) (w : List ℕ) (n k : ℕ) → 0 < i → i + length cs ≤ n + 1 → Elsewhere R n k
       → getD (putEach (putFields R) i cs w) k 0 ≡ getD w k 0

@@ -4,9 +4,9 @@ use native.Mathlib.Omega.{arith}
 use native.Mathlib.Decide.{decLe, decLt}
 use mathlib.Core.Path.{_≡_, refl, sym}
 use mathlib.Core.List.{List}
-use mathlib.Core.Bool.{Bool, true, false, cond}
+use mathlib.Core.Bool.{Bool, true, false, cond, _&&_}
 use lib.ListN.{length}
-use lib.Dec.{ltb}
+use lib.Dec.{leb, ltb}
 use borrow.Author.Tests.{ltb-true, le-leb, lt-leb}
 use Rattle.pool.specs.Layout.{registerCount, cellLimit, poolLength, leftoverLimit, cellCountOfLength, cellCount}
 use Rattle.questions.specs.Validity.{wellFormed}
@@ -17,8 +17,10 @@ use Rattle.pool.proofs.Sizes.{length-of, of-length, length-sized}
 use Rattle.questions.proofs.WellFormed.{well-formed-made}
 use Rattle.image.specs.Image.{Image, Parsed, parsed, fault, readImage}
 use Rattle.image.specs.Check.{verdictOf, checkOf}
+use Rattle.image.specs.OldForm.{oldImageBytes}
+use Rattle.image.proofs.OldForm.{old-image-refused}
 use Rattle.image.proofs.Images.{image-read, image-few, image-registers, image-links}
-use Rattle.load.specs.Load.{loadImage, loadOf, CheckIsLoad, LoadIsWellFormed}
+use Rattle.load.specs.Load.{loadImage, loadOf, CheckIsLoad, LoadIsWellFormed, OldImageNotLoaded}
 use Rattle.load.proofs.LoadedPool.{loaded-cells, loaded-well-formed}
 
 -- The check of an image answers load's number.
@@ -64,6 +66,8 @@ refusal-positive refusal.TooManyCells = omega arith
 refusal-positive refusal.NoRoom = omega arith
 refusal-positive refusal.TooLarge = omega arith
 refusal-positive refusal.Padded = omega arith
+refusal-positive refusal.Kind = omega arith
+refusal-positive refusal.KindNumber = omega arith
 
 pub load-is-well-formed : LoadIsWellFormed
 load-is-well-formed w bytes = go (ltb 0 n) refl (readImage registerCount n bytes) refl
@@ -85,3 +89,27 @@ load-is-well-formed w bytes = go (ltb 0 n) refl (readImage registerCount n bytes
           well-formed-made registerCount n _
               (loaded-well-formed registerCount n i few all w (sized .room) (image-links registerCount n bytes i end r)),
         )
+
+pub old-image-not-loaded : OldImageNotLoaded
+old-image-not-loaded w registers cells all some old = (load (ltb 0 m) refl, check)
+  where
+    bytes : List ℕ
+    bytes = oldImageBytes registers cells
+
+    m : ℕ
+    m = cellCountOfLength registerCount (length w)
+
+    load : (t : Bool) → ltb 0 m ≡ t → (v : ℕ) × (0 < v) × (loadOf w bytes ≡ (record { verdict = v; end = length bytes }, w))
+    load true is =
+        let (why, read) = old-image-refused registerCount m registers cells all some old in
+        (refusalNumber why, refusal-positive why, rw (is, read) refl)
+    load false is = (1, omega arith, rw is refl)
+
+    check : (n : ℕ) → 0 < checkOf bytes n
+    check n = go (leb 1 n && leb n cellLimit) refl
+      where
+        go : (t : Bool) → (leb 1 n && leb n cellLimit) ≡ t → 0 < checkOf bytes n
+        go true is =
+            let (why, read) = old-image-refused registerCount n registers cells all some old in
+            rw (is, read) (refusal-positive why)
+        go false is = rw is (omega arith)

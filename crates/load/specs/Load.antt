@@ -1,22 +1,28 @@
 -- Load (01, "Images" and "Questions, in order"): what it answers and leaves, for every bytes and words, and what is proved of it.
-use Prim.Native.Nat.{ℕ, suc, _+_, _≤_}
+use Prim.Native.Nat.{ℕ, suc, _+_, _<_, _≤_}
 use mathlib.Core.Path.{_≡_}
 use mathlib.Core.List.{List, [], _∷_}
 use mathlib.Core.Bool.{true, cond}
 use lib.ListN.{length, drop}
 use lib.Dec.{leb, ltb}
-use Rattle.pool.specs.Layout.{registerCount, poolLength, leftoverLimit, cellCountOfLength, cellCount, setRegister, setCell}
+use Rattle.pool.specs.Layout.{registerCount, poolLength, leftoverLimit, cellCountOfLength, cellCount, setRegister, putCell}
+use Rattle.pool.specs.States.{pairState, pointState}
 use Rattle.questions.specs.Validity.{wellFormed}
 use Rattle.pool.specs.Retain.{retain, blankWords}
 use Rattle.answers.specs.Outcome.{refusalNumber}
 use Rattle.image.specs.declared.ImageCell.{ImageCell}
-use Rattle.image.specs.Image.{Image, Parsed, parsed, fault, readImage}
+use Rattle.image.specs.Image.{isPointKind, Image, Parsed, parsed, fault, readImage}
+use Rattle.image.specs.OldForm.{OldCell, oldImageBytes, OldNumbers}
 use Rattle.image.specs.Check.{checkOf}
 use Rattle.load.specs.declared.Loaded.{Loaded}
 
--- The words with the links and the value of an image's cell in cell i. (`retain` gives it its state.)
+-- The state of a cell of that kind: "kind 0 or 1 (1 a point)", "a point: state 5" (02, S-8).
+abbrev pub stateOfKind : ℕ → ℕ
+stateOfKind kind = cond (isPointKind kind) pointState pairState
+
+-- The words with an image's cell in cell i, "used".
 abbrev pub putFields : ℕ → List ℕ → ℕ → ImageCell → List ℕ
-putFields R w i c = setCell R (setCell R (setCell R w i 1 (c .left)) i 2 (c .right)) i 3 (c .value)
+putFields R w i c = putCell R w i (stateOfKind (c .kind)) (c .left) (c .right) (c .value)
 
 -- The words with each element of a list put in its place: the first in place i, the next in place i + 1.
 unfoldable pub putEach : {A : Type 0} → (List ℕ → ℕ → A → List ℕ) → ℕ → List A → List ℕ → List ℕ
@@ -65,3 +71,11 @@ LoadIsWellFormed =
     → let n = cellCountOfLength registerCount (length w) in
     loadOf w bytes .0 .verdict ≡ 0
     → (cellCount registerCount (loadOf w bytes .1) ≡ n) × (wellFormed registerCount n (loadOf w bytes .1) ≡ true)
+
+-- "an image saved before, with cells and no byte behind it, is refused" (02, S-8): in whatever words, of any length and content, load refuses an image in the
+-- form of before, and changes nothing; and so does the check, whatever N.
+abbrev pub OldImageNotLoaded : Type 0
+OldImageNotLoaded =
+    (w registers : List ℕ) (cells : List OldCell) → length registers ≡ registerCount → 1 ≤ length cells → OldNumbers registers cells
+    → let bytes = oldImageBytes registers cells in
+    ((v : ℕ) × (0 < v) × (loadOf w bytes ≡ (record { verdict = v; end = length bytes }, w))) × ((n : ℕ) → 0 < checkOf bytes n)

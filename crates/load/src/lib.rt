@@ -8,7 +8,7 @@ ghost use Prim.Native.Nat.{_<_, _≤_};
 ghost use lib.ListN.{length};
 ghost use Rattle.pool.specs.Layout.{registerCount, poolLength, setRegister};
 ghost use Rattle.image.specs.Image.{readLink, readCell, readEach, readImage};
-ghost use Rattle.load.specs.Load.{putFields, putEach, putImage, loadOf, Handed};
+ghost use Rattle.load.specs.Load.{stateOfKind, putFields, putEach, putImage, loadOf, Handed};
 ghost use Rattle.load.specs.Steps.{WhereRead, MarkedFirst};
 
 // What load answers: 0 or the refusal's number, and where the bytes behind the image start.
@@ -30,31 +30,46 @@ fn fill_register(words: &mut [u32], j: u32, bytes: &[u8], at: usize, k: u32) -> 
     next
 }
 
-// Writes the cell of an image of k cells that stands at `at`, left, right, value, to cell i. Gives the place behind it.
+// The state of a cell of that kind.
+fn state_of_kind(kind: u32) -> u32
+    ensures { λ r. ⌜ r ≡ stateOfKind kind ⌝ }
+{
+    if kind == image::POINT {
+        return Pool::POINT;
+    }
+    Pool::PAIR
+}
+
+// Writes the cell of an image of k cells that stands at `at`, kind, left, right, value, to cell i. Gives the place behind it.
 fn fill_cell(words: &mut [u32], i: u32, bytes: &[u8], at: usize, k: u32) -> usize
     requires { ⌜ (0 < i) × (poolLength registerCount i ≤ length (now words)) ⌝ }
     ensures { λ r. ⌜ WhereRead (readCell k (now (bytes .entry)) at) (λ c end. (now (words .exit) ≡ putFields registerCount (now (words .entry)) i c) × (r ≡ end)) ⌝ }
 {
     let Field::Value {
-        value: left,
-        next: behind_left,
-    } = image::read_link(bytes, at, k)
+        value: kind,
+        next: behind_kind,
+    } = image::read_kind(bytes, at)
     else {
         return at;
     };
-    pool::write_cell(words, i, Pool::LEFT, left);
+    let Field::Value {
+        value: left,
+        next: behind_left,
+    } = image::read_word(bytes, behind_kind, k, kind)
+    else {
+        return at;
+    };
     let Field::Value {
         value: right,
         next: behind_right,
-    } = image::read_link(bytes, behind_left, k)
+    } = image::read_word(bytes, behind_left, k, kind)
     else {
         return at;
     };
-    pool::write_cell(words, i, Pool::RIGHT, right);
     let Field::Value { value, next } = image::read_number(bytes, behind_right) else {
         return at;
     };
-    pool::write_cell(words, i, Pool::VALUE, value);
+    pool::put_cell(words, i, state_of_kind(kind), left, right, value);
     next
 }
 
@@ -97,7 +112,7 @@ fn fill(words: &mut [u32], bytes: &[u8], n: u32)
     fill_cells(words, bytes, at, value);
 }
 
-// Marks the first k of n cells for the sweep, and no other.
+// Marks the first k of n cells, which are used, for the sweep, and no other.
 fn mark_first(words: &mut [u32], n: u32, k: u32)
     requires { ⌜ poolLength registerCount n ≤ length (now words) ⌝ }
     ensures { λ _. ⌜ MarkedFirst registerCount k n (now (words .entry)) (now (words .exit)) ⌝ }
@@ -105,7 +120,7 @@ fn mark_first(words: &mut [u32], n: u32, k: u32)
     let mut i = n;
     while 0 < i {
         if i <= k {
-            pool::write_cell(words, i, Pool::STATE, Pool::MARKED);
+            pool::mark_cell(words, i);
             i -= 1;
         } else {
             pool::write_cell(words, i, Pool::STATE, Pool::FREE);

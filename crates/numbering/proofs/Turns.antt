@@ -5,7 +5,7 @@ use mathlib.Core.Path.{_≡_, refl, ap, _∙_}
 use mathlib.Core.List.{List}
 use mathlib.Core.Bool.{Bool, true, false}
 use lib.ListN.{length, getD, set, replicate, length-set}
-use Rattle.pool.specs.Layout.{cellLimit, poolLength, register, left, right}
+use Rattle.pool.specs.Layout.{cellLimit, poolLength, register, linkOf}
 use Rattle.questions.proofs.WellFormed.{WellFormed, well-formed-read}
 use Rattle.reversal.specs.Reached.{reachedCount}
 use Rattle.numbering.specs.Steps.{Savable, Clear, isNew, Numbered}
@@ -58,7 +58,7 @@ module _ (R n : ℕ) (w s₀ : List ℕ) (savable : Savable R n w (length s₀))
           let cell = new-cell s hand b is new in
           (cell .0, walking-room R n w well s hand depth count root (t .walking) (cell .0) (cell .1))
 
-      pub turn-take : (l r : ℕ) → b ≡ true → l ≡ left R w hand → r ≡ right R w hand
+      pub turn-take : (l r : ℕ) → b ≡ true → l ≡ linkOf R w hand 1 → r ≡ linkOf R w hand 2
           → Turn R n w s₀ (set (set s (hand - 1) (count + 1)) (n + depth) r) l (depth + 1) (count + 1) root
       turn-take l r new el er =
           let cell = new-cell s hand b is new in

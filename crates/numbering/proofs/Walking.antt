@@ -18,7 +18,7 @@ use Rattle.graph.specs.Dfs.{mark, marks}
 use Rattle.graph.proofs.Marks.{outside-nil, outside-cell, marks-append, marks-cases, marks-keeps, marks-member, zero-or-above}
 use Rattle.graph.proofs.Walk.{Walk, order-walk}
 use Rattle.graph.proofs.Theorems.{preorder-length}
-use Rattle.pool.specs.Layout.{register, left, right, graphOf, rootsOf}
+use Rattle.pool.specs.Layout.{register, linkOf, graphOf, rootsOf}
 use Rattle.pool.proofs.Every.{length-tabulate, getD-tabulate}
 use Rattle.questions.proofs.WellFormed.{Link, WellFormed}
 use Rattle.questions.proofs.PoolGraph.{Used, link-bound, used-links, pool-within}
@@ -151,7 +151,7 @@ module _ (R n : ℕ) (w : List ℕ) (well : WellFormed R n w) where
             ap length (taken .list),
           )
 
-      links : Link R n w (left R w hand) × Link R n w (right R w hand)
+      links : Link R n w (linkOf R w hand 1) × Link R n w (linkOf R w hand 2)
       links = used-links well (go (k .hand-link))
         where
           go : Link R n w hand → Used R n w hand
@@ -160,12 +160,12 @@ module _ (R n : ℕ) (w : List ℕ) (well : WellFormed R n w) where
 
       -- The scratch with the cell's number, and its right link on the stack.
       abbrev pushed : List ℕ
-      pushed = set (set s (hand - 1) (count + 1)) (n + depth) (right R w hand)
+      pushed = set (set s (hand - 1) (count + 1)) (n + depth) (linkOf R w hand 2)
 
       pushed-number : (x : ℕ) → 0 < x → x ≤ n → getD pushed (x - 1) 0 ≡ getD (set s (hand - 1) (count + 1)) (x - 1) 0
-      pushed-number x low high = getD-set-other (set s (hand - 1) (count + 1)) (n + depth) (x - 1) (right R w hand) 0 (λ e. omega arith)
+      pushed-number x low high = getD-set-other (set s (hand - 1) (count + 1)) (n + depth) (x - 1) (linkOf R w hand 2) 0 (λ e. omega arith)
 
-      pub walking-take : 2 * n ≤ length s → Walking R n w pushed (left R w hand) (depth + 1) (count + 1) root
+      pub walking-take : 2 * n ≤ length s → Walking R n w pushed (linkOf R w hand 1) (depth + 1) (count + 1) root
       unfolding marks
       walking-take room =
           record {
@@ -194,26 +194,26 @@ module _ (R n : ℕ) (w : List ℕ) (well : WellFormed R n w) where
           link : (d : ℕ) → d < depth + 1 → Dec (d ≡ depth) → Link R n w (getD pushed (n + d) 0)
           link d below (yes e) =
               rw e
-              (rw (getD-set-same (set s (hand - 1) (count + 1)) (n + depth) (right R w hand) 0
+              (rw (getD-set-same (set s (hand - 1) (count + 1)) (n + depth) (linkOf R w hand 2) 0
               (omega (arith, length-set s (hand - 1) (count + 1), walking-room, k .deep))) (links .1))
           link d below (no apart) =
               rw (
-                getD-set-other (set s (hand - 1) (count + 1)) (n + depth) (n + d) (right R w hand) 0 (λ e. apart (omega arith)),
+                getD-set-other (set s (hand - 1) (count + 1)) (n + depth) (n + d) (linkOf R w hand 2) 0 (λ e. apart (omega arith)),
                 getD-set-other s (hand - 1) (n + d) (count + 1) 0 (below-stack d),
               ) (k .stack-links d (omega arith))
 
           marked-more : marks (outside n) (k .done ++ (hand ∷ [])) ≡ mark (marks (outside n) (k .done)) hand
           marked-more = marks-append (outside n) (k .done) (hand ∷ [])
 
-          stack-more : stackOf n pushed (depth + 1) ≡ right R w hand ∷ stackOf n s depth
+          stack-more : stackOf n pushed (depth + 1) ≡ linkOf R w hand 2 ∷ stackOf n s depth
           stack-more =
               let this : depth + 1 - 1 ≡ depth = omega arith in
               stack-top n pushed (depth + 1) (omega arith)
               ∙ (rw this
               (ap₂ (λ (x : ℕ) (l : List ℕ). x ∷ l)
-              (getD-set-same (set s (hand - 1) (count + 1)) (n + depth) (right R w hand) 0
+              (getD-set-same (set s (hand - 1) (count + 1)) (n + depth) (linkOf R w hand 2) 0
               (omega (arith, length-set s (hand - 1) (count + 1), walking-room, k .deep)))
-              (stack-set n (set s (hand - 1) (count + 1)) (n + depth) (right R w hand) depth (λ d below e. omega arith)
+              (stack-set n (set s (hand - 1) (count + 1)) (n + depth) (linkOf R w hand 2) depth (λ d below e. omega arith)
               ∙ stack-set n s (hand - 1) (count + 1) depth (λ d below. below-stack d))))
 
     module _ (t : Bool) (is : t ≡ isNew s hand) (old : t ≡ false) where

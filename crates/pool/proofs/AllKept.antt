@@ -2,15 +2,15 @@
 use Prim.Native.Nat.{ℕ, zero, suc, _+_, _-_, _<_, _≤_}
 use native.Mathlib.Omega.{arith}
 use native.Mathlib.Decide.{ℕ-discrete}
-use mathlib.Core.Path.{_≡_, refl, sym, _∙_}
+use mathlib.Core.Path.{_≡_, refl, sym, ap, _∙_}
 use mathlib.Core.List.{List}
 use mathlib.Core.Bool.{Bool, true, false, cond}
 use lib.ListN.{length, getD}
 use Rattle.pool.specs.Layout.{poolLength, cell, head, state}
-use Rattle.pool.specs.States.{isUsed}
-use Rattle.pool.specs.Retain.{lowestFree, freeAbove, retainedField, retainedWord, retain, keptCount}
+use Rattle.pool.specs.States.{isUsed, isPoint}
+use Rattle.pool.specs.Retain.{lowestFree, freeAbove, keptField, retainedField, retainedWord, retain, keptCount}
 use Rattle.pool.proofs.Every.{tabulate-list}
-use Rattle.pool.proofs.States.{used-same}
+use Rattle.pool.proofs.States.{used-same, used-alike, point-used}
 use Rattle.pool.proofs.Retained.{Place, place, word-stays, word-field, retain-cell, retain-elsewhere, length-retain, retain-cong, kept-most}
 
 -- every cell from 1 to n is kept
@@ -76,4 +76,8 @@ module _ (R n : ℕ) (keep : ℕ → Bool) (w : List ℕ) where
   pub retain-again : poolLength R n ≤ length w → retain R n keep (retain R n keep w) ≡ retain R n keep w
   retain-again room =
       retain-cong R n keep keep (retain R n keep w) w (length-retain R n keep w) (λ j low high. refl) (retain-elsewhere R n keep w room)
-      λ j f low high hf e. retain-cell R n keep w room j (suc f) low high hf ∙ rw e
+      same
+    where
+      same : (j f : ℕ) → 0 < j → j ≤ n → f < 4 → keep j ≡ true → keptField R (retain R n keep w) j f ≡ keptField R w j f
+      same j zero low high hf e = used-alike _ _ (ap isPoint (retain-cell R n keep w room j 0 low high hf ∙ rw e) ∙ point-used (state R w j))
+      same j (suc f) low high hf e = retain-cell R n keep w room j (suc f) low high hf ∙ rw e

@@ -9,6 +9,7 @@ use lib.Seq.{getD-set-other, getD-drop, drop-at}
 use borrow.Author.Tests.{lt-ltb}
 use Rattle.pool.specs.Words.{tabulate}
 use Rattle.pool.specs.Layout.{registerCount, firstRegister, poolLength, cellCountOfLength, leftoverOfLength, cellAt, cell, register, count, setCount}
+use Rattle.pool.specs.States.{isMarked}
 use Rattle.pool.specs.Retain.{freeCells, markedCell, sweepOf, blankWords, freshWords}
 use Rattle.answers.specs.Outcome.{Outcome, answered}
 use Rattle.pool.specs.Fresh.{freshOf, FreshIsFree}
@@ -68,7 +69,7 @@ module _ (R n : ℕ) (w : List ℕ) (room : poolLength R n ≤ length w) where
           ∙ (ap (λ (v : List ℕ). getD v (k - end) 0) (drop-at (replicate end 0) (drop end w) end (length-replicate end 0)) ∙ getD-drop end w (k - end) 0)
 
   blank-unmarked : (i : ℕ) → 0 < i → i ≤ n → markedCell R (blankWords R n w) i ≡ false
-  unfolding cell
+  unfolding cell isMarked
   blank-unmarked i low high = rw (blank-zero (cellAt R i 0) (omega arith) (omega arith)) refl
 
   -- the sweep makes the chain of them

@@ -5,5 +5,6 @@ pub mod Sizes
 pub mod Every
 pub mod Retained
 pub mod RetainedPool
+pub mod Links
 pub mod AllKept
 pub mod FreshPool

@@ -10,8 +10,8 @@ use lib.Seq.{getD-set-same, getD-set-other}
 use lib.Dec.{ltb, leb}
 use borrow.Author.Tests.{lt-ltb, le-ltb, le-leb, lt-leb, ne-eqb}
 use Rattle.pool.specs.Words.{tabulate}
-use Rattle.pool.specs.Layout.{firstRegister, firstCell, poolLength, cellAt, cell, setCell, setNode, putCell, state, head, setHead, count, register}
-use Rattle.pool.specs.States.{freeState, isMarked, asUsed, unmarkCell}
+use Rattle.pool.specs.Layout.{firstRegister, firstCell, poolLength, cellAt, cell, setCell, setNode, putCell, state, head, setHead, count, register, unmarkCell}
+use Rattle.pool.specs.States.{freeState, isMarked, asUsed}
 use Rattle.pool.specs.Retain.{lowestFree, freeAbove, keptField, freeField, retainedField, retainedWord, retain, keptCount, markedCell, sweepOf}
 use Rattle.pool.proofs.Laws.{cell-same, cell-other, length-setCell, length-setHead}
 use Rattle.pool.proofs.Node.{written, length-putCell, cell-putCell, cell-putCell-other}
@@ -104,7 +104,9 @@ module _ (R n : ℕ) (keep : ℕ → Bool) (w₀ : List ℕ) where
         }
       where
         this : (f : ℕ) → f < 4 → cell R (unmarkCell R w (suc i)) (suc i) f ≡ keptField R w₀ (suc i) f
-        this zero hf = cell-same R w (suc i) 0 (asUsed (state R w (suc i))) (omega arith) hf (omega (arith, s .len))
+        this zero hf =
+            cell-same R w (suc i) 0 (asUsed (state R w (suc i))) (omega arith) hf (omega (arith, s .len))
+            ∙ ap asUsed (s .below (suc i) 0 (omega arith) (omega arith) hf)
         this (suc f) hf =
             cell-other R w (suc i) 0 (asUsed (state R w (suc i))) (suc i) (suc f) (omega arith) (omega arith) (omega arith) hf (λ q. omega arith)
             ∙ s .below (suc i) (suc f) (omega arith) (omega arith) hf
@@ -285,11 +287,11 @@ kept-cong keep keep' zero same = refl
 kept-cong keep keep' (suc n) same =
     rw (same (suc n) (omega arith) (omega arith), kept-cong keep keep' n λ j low high. same j low (omega arith))
 
--- two pools retain the same words where the same cells are kept, with the same links and values, and all that stays is the same
+-- two pools retain the same words where the same cells are kept, of the same kinds, links and values, and all that stays is the same
 pub retain-cong : (R n : ℕ) (keep keep' : ℕ → Bool) (w w' : List ℕ) → length w ≡ length w'
     → ((j : ℕ) → 0 < j → j ≤ n → keep j ≡ keep' j)
     → ((k : ℕ) → (k ≡ 1 → ⊥) → Elsewhere R n k → getD w k 0 ≡ getD w' k 0)
-    → ((j f : ℕ) → 0 < j → j ≤ n → suc f < 4 → keep j ≡ true → cell R w j (suc f) ≡ cell R w' j (suc f))
+    → ((j f : ℕ) → 0 < j → j ≤ n → f < 4 → keep j ≡ true → keptField R w j f ≡ keptField R w' j f)
     → retain R n keep w ≡ retain R n keep' w'
 unfolding retain
 retain-cong R n keep keep' w w' len same stay kept =
@@ -305,8 +307,7 @@ retain-cong R n keep keep' w w' len same stay kept =
     free i (suc (suc f)) = refl
 
     fields : (i f : ℕ) → 0 < i → i ≤ n → f < 4 → (t : Bool) → keep i ≡ t → retainedField R n keep w i f ≡ retainedField R n keep' w' i f
-    fields i zero low high hf true e = rw (← same i low high, e)
-    fields i (suc f) low high hf true e = rw (← same i low high, e) (kept i f low high hf e)
+    fields i f low high hf true e = rw (← same i low high, e) (kept i f low high hf e)
     fields i f low high hf false e = rw (← same i low high, e) (free i f)
 
     at : (k : ℕ) → Place R n k → retainedWord R n keep w k ≡ retainedWord R n keep' w' k

@@ -1,11 +1,12 @@
 -- Where everything stands in the words of a pool (01, "The pool's words"). R is the number of registers; in the pool that is built it is 16.
 use Prim.Native.Nat.{ℕ, _+_, _*_, _-_, _/_, _%_}
 use mathlib.Core.List.{List}
-use mathlib.Core.Bool.{cond, _&&_}
+use mathlib.Core.Bool.{Bool, cond, _&&_}
 use lib.ListN.{length, getD, set, drop}
 use lib.Dec.{eqb, leb}
 use Rattle.graph.specs.Graph.{Graph}
 use Rattle.pool.specs.Words.{tabulate}
+use Rattle.pool.specs.States.{isPoint, asMarked, asUsed}
 
 -- "N from 1 to 4,000"
 abbrev pub cellLimit : ℕ
@@ -88,11 +89,11 @@ setCell R w i f v = set w (cellAt R i f) v
 abbrev pub state : ℕ → List ℕ → ℕ → ℕ
 state R w i = cell R w i 0
 
--- Its left link.
+-- Its left word: a pair's left link, a point's x.
 abbrev pub left : ℕ → List ℕ → ℕ → ℕ
 left R w i = cell R w i 1
 
--- Its right link.
+-- Its right word: a pair's right link, a point's y.
 abbrev pub right : ℕ → List ℕ → ℕ → ℕ
 right R w i = cell R w i 2
 
@@ -108,9 +109,22 @@ setNode R w i s l r = setCell R (setCell R (setCell R w i 0 s) i 1 l) i 2 r
 abbrev pub putCell : ℕ → List ℕ → ℕ → ℕ → ℕ → ℕ → ℕ → List ℕ
 putCell R w i s l r v = setCell R (setNode R w i s l r) i 3 v
 
--- A link of a cell: its left (1) or right (2) field.
-abbrev pub linkOf : ℕ → List ℕ → ℕ → ℕ → ℕ
-linkOf R w i f = cell R w i f
+-- Cell i marked.
+abbrev pub markCell : ℕ → List ℕ → ℕ → List ℕ
+markCell R w i = setCell R w i 0 (asMarked (state R w i))
+
+-- Cell i made used again.
+abbrev pub unmarkCell : ℕ → List ℕ → ℕ → List ℕ
+unmarkCell R w i = setCell R w i 0 (asUsed (state R w i))
+
+-- Is cell i a point, marked or not?
+abbrev pub isPointAt : ℕ → List ℕ → ℕ → Bool
+isPointAt R w i = isPoint (state R w i)
+
+-- A link of a cell, left (1) or right (2): the field of a pair; a point's "left and right words are plain numbers and no links" (02, S-8), so it counts
+-- "as a cell with two nil links".
+unfoldable pub linkOf : ℕ → List ℕ → ℕ → ℕ → ℕ
+linkOf R w i f = cond (isPointAt R w i) 0 (cell R w i f)
 
 -- The graph that the words hold.
 abbrev pub graphOf : ℕ → List ℕ → Graph

@@ -7,8 +7,8 @@ use answers::Refusal;
 ghost use mathlib.Core.Path.{_≡_};
 ghost use Prim.Native.Nat.{_+_, _<_, _≤_};
 ghost use lib.ListN.{length, replicate};
-ghost use Rattle.pool.specs.Layout.{registerCount, poolLength, cellCountOfLength, cell, setCell, putCell, linkOf, register, setRegister, head, setHead};
-ghost use Rattle.pool.specs.States.{isUsed, isMarked, isFree, markCell, unmarkCell};
+ghost use Rattle.pool.specs.Layout.{registerCount, poolLength, cellCountOfLength, cell, setCell, putCell, isPointAt, linkOf, register, setRegister, head, setHead, markCell, unmarkCell};
+ghost use Rattle.pool.specs.States.{isPoint, isUsed, isMarked, isFree, asMarked, asUsed};
 ghost use Rattle.pool.specs.Retain.{sweepOf, blankWords};
 ghost use Rattle.answers.specs.Outcome.{answerOutcome};
 ghost use Rattle.pool.specs.Fresh.{freshOf};
@@ -42,12 +42,17 @@ impl Pool {
 
     pub const VALUE: usize = 3;
 
-    // The states. Those between stand only inside a collection.
-    pub const USED: u32 = 0;
+    // The states. A used cell is a pair of links, or a point, whose left and right words are plain numbers, x and y. Marked cells stand only inside a
+    // collection, and so do 1 and 2, of a pair that was visited once or twice.
+    pub const PAIR: u32 = 0;
 
-    pub const MARKED: u32 = 3;
+    pub const MARKED_PAIR: u32 = 3;
 
     pub const FREE: u32 = 4;
+
+    pub const POINT: u32 = 5;
+
+    pub const MARKED_POINT: u32 = 6;
 
     // Makes the words a pool of as many cells as they hold, all of them free and all registers nil. Gives the number of cells, and of the words left over
     // behind them, which stay.
@@ -121,17 +126,33 @@ pub fn write_head(words: &mut [u32], v: u32)
     words[Pool::HEAD] = v;
 }
 
-// The tests of a cell's state.
+// The tests of a cell's state: is it a point, marked or not?
+pub fn is_point(state: u32) -> bool
+    ensures { λ r. ⌜ r ≡ isPoint state ⌝ }
+{
+    if state == Pool::POINT {
+        return true;
+    }
+    state == Pool::MARKED_POINT
+}
+
+// Is it used, a pair or a point?
 pub fn is_used(state: u32) -> bool
     ensures { λ r. ⌜ r ≡ isUsed state ⌝ }
 {
-    state == Pool::USED
+    if state == Pool::PAIR {
+        return true;
+    }
+    state == Pool::POINT
 }
 
 pub fn is_marked(state: u32) -> bool
     ensures { λ r. ⌜ r ≡ isMarked state ⌝ }
 {
-    state == Pool::MARKED
+    if state == Pool::MARKED_PAIR {
+        return true;
+    }
+    state == Pool::MARKED_POINT
 }
 
 pub fn is_free(state: u32) -> bool
@@ -140,26 +161,58 @@ pub fn is_free(state: u32) -> bool
     state == Pool::FREE
 }
 
+// The state of a cell once it is marked, and once it is used again.
+fn as_marked(state: u32) -> u32
+    ensures { λ r. ⌜ r ≡ asMarked state ⌝ }
+{
+    if is_point(state) {
+        return Pool::MARKED_POINT;
+    }
+    Pool::MARKED_PAIR
+}
+
+fn as_used(state: u32) -> u32
+    ensures { λ r. ⌜ r ≡ asUsed state ⌝ }
+{
+    if is_point(state) {
+        return Pool::POINT;
+    }
+    Pool::PAIR
+}
+
 // Marks a cell, or makes a marked cell used again.
 pub fn mark_cell(words: &mut [u32], i: u32)
     requires { ⌜ (0 < i) × (poolLength registerCount i ≤ length (now words)) ⌝ }
     ensures { λ _. ⌜ now (words .exit) ≡ markCell registerCount (now (words .entry)) i ⌝ }
 {
-    write_cell(words, i, Pool::STATE, Pool::MARKED);
+    let state = read_cell(words, i, Pool::STATE);
+    write_cell(words, i, Pool::STATE, as_marked(state));
 }
 
 pub fn unmark_cell(words: &mut [u32], i: u32)
     requires { ⌜ (0 < i) × (poolLength registerCount i ≤ length (now words)) ⌝ }
     ensures { λ _. ⌜ now (words .exit) ≡ unmarkCell registerCount (now (words .entry)) i ⌝ }
 {
-    write_cell(words, i, Pool::STATE, Pool::USED);
+    let state = read_cell(words, i, Pool::STATE);
+    write_cell(words, i, Pool::STATE, as_used(state));
 }
 
-// A link of a cell: its left or right field.
+// Is the cell a point, marked or not?
+pub fn is_point_at(words: &[u32], i: u32) -> bool
+    requires { ⌜ (0 < i) × (poolLength registerCount i ≤ length (now words)) ⌝ }
+    ensures { λ r. ⌜ r ≡ isPointAt registerCount (now (words .entry)) i ⌝ }
+{
+    is_point(read_cell(words, i, Pool::STATE))
+}
+
+// A link of a cell: its left or right field, and nil of a point.
 pub fn link_of(words: &[u32], i: u32, field: usize) -> u32
     requires { ⌜ (0 < i) × (field < 4) × (poolLength registerCount i ≤ length (now words)) ⌝ }
     ensures { λ r. ⌜ r ≡ linkOf registerCount (now (words .entry)) i field ⌝ }
 {
+    if is_point_at(words, i) {
+        return 0;
+    }
     read_cell(words, i, field)
 }
 
@@ -184,8 +237,12 @@ pub fn sweep(words: &mut [u32], n: u32) -> u32
     let mut kept = 0;
     while 0 < i {
         let state = read_cell(words, i, Pool::STATE);
-        if is_marked(state) {
-            unmark_cell(words, i);
+        if state == Pool::MARKED_PAIR {
+            write_cell(words, i, Pool::STATE, Pool::PAIR);
+            kept += 1;
+            i -= 1;
+        } else if state == Pool::MARKED_POINT {
+            write_cell(words, i, Pool::STATE, Pool::POINT);
             kept += 1;
             i -= 1;
         } else {

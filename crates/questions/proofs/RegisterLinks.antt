@@ -4,7 +4,8 @@ use native.Mathlib.Omega.{arith}
 use mathlib.Core.Path.{_≡_, refl, sym, _∙_}
 use mathlib.Core.List.{List}
 use mathlib.Core.Bool.{Bool, true, false, cond}
-use Rattle.pool.specs.Layout.{registerCount, register}
+use Rattle.pool.specs.Layout.{registerCount, register, state}
+use Rattle.pool.specs.States.{isUsed}
 use Rattle.questions.specs.Validity.{validLink}
 use Rattle.questions.specs.Questions.{heldOf, holdsLink}
 use Rattle.questions.specs.declared.Held.{Held}
@@ -32,10 +33,10 @@ module _ (n : ℕ) (w : List ℕ) (a : ℕ) {q : Held} (read : q ≡ heldOf n w 
       go true e same = let z : _≡_ {A = ℕ} 0 1 = cc in absurd (omega arith)
       go false e same = e
 
--- a link that is not nil leads to one of the cells
-pub holds-cell : {n : ℕ} {w : List ℕ} {a x : ℕ} → Holds n w a x → (x ≡ 0 → ⊥) → (0 < x) × (x ≤ n)
+-- a link that is not nil leads to one of the cells, which is used
+pub holds-cell : {n : ℕ} {w : List ℕ} {a x : ℕ} → Holds n w a x → (x ≡ 0 → ⊥) → (0 < x) × (x ≤ n) × (isUsed (state registerCount w x) ≡ true)
 holds-cell {n} {w} {a} {x} h some = go (link-read registerCount n w x (h .valid))
   where
-    go : Link registerCount n w x → (0 < x) × (x ≤ n)
+    go : Link registerCount n w x → (0 < x) × (x ≤ n) × (isUsed (state registerCount w x) ≡ true)
     go (Link.nil e) = absurd (some e)
-    go (Link.used low high s) = (low, high)
+    go (Link.used low high s) = (low, high, s)

@@ -98,23 +98,22 @@ pub fn read_link(words: &[u32], n: u32, k: u32) -> Held
     }
 }
 
-// Is the cell free, or used with valid links?
+// Is the cell free, or used with valid links? Of a point nothing else is asked.
 fn valid_cell(words: &[u32], n: u32, i: u32) -> bool
     requires { ⌜ (0 < i) × (i ≤ n) × (poolLength registerCount n ≤ length (now words)) ⌝ }
     ensures { λ r. ⌜ r ≡ validCell registerCount n (now (words .entry)) i ⌝ }
 {
     let state = pool::read_cell(words, i, Pool::STATE);
-    if pool::is_free(state) {
-        return true;
-    }
-    if pool::is_used(state) {
-        if valid_link(words, n, pool::link_of(words, i, Pool::LEFT)) {
-            valid_link(words, n, pool::link_of(words, i, Pool::RIGHT))
+    if state == Pool::PAIR {
+        if valid_link(words, n, pool::read_cell(words, i, Pool::LEFT)) {
+            valid_link(words, n, pool::read_cell(words, i, Pool::RIGHT))
         } else {
             false
         }
+    } else if pool::is_free(state) {
+        true
     } else {
-        false
+        state == Pool::POINT
     }
 }
 

@@ -12,14 +12,14 @@ use Rattle.graph.specs.Dfs.{marks, Dfs, DfsAll}
 use Rattle.graph.proofs.Depth.{order-dfs}
 use Rattle.graph.proofs.Congruence.{dfs-all-alike}
 use Rattle.graph.proofs.Theorems.{preorder-length}
-use Rattle.pool.specs.Layout.{poolLength, register, rootsOf, graphOf}
+use Rattle.pool.specs.Layout.{poolLength, register, isPointAt, rootsOf, graphOf}
 use Rattle.questions.specs.Validity.{wellFormed}
 use Rattle.pool.proofs.Every.{length-tabulate, getD-tabulate, member-tabulate}
 use Rattle.questions.proofs.WellFormed.{well-formed-read}
 use Rattle.questions.proofs.PoolGraph.{pool-within}
 use Rattle.reversal.specs.ReversalTheorem.{markAll, Agreement, markedOf}
-use Rattle.reversal.specs.Reached.{reachedCells, visitsOf}
-use Rattle.reversal.proofs.VisitCount.{visits-of-append, visits-three}
+use Rattle.reversal.specs.Reached.{reachedCells, pairCount, pointCount, visitsOf}
+use Rattle.reversal.proofs.VisitCount.{visits-append, visits-most}
 use Rattle.reversal.proofs.MarkAll.{markAll-append, length-markAll, register-markAll}
 use Rattle.reversal.proofs.PoolMarks.{stateMarks, agreement, alike}
 use Rattle.reversal.proofs.Agreement.{agreement-dfs}
@@ -51,8 +51,8 @@ module _ (R n : ℕ) (w₀ : List ℕ) where
     pub todo : List ℕ
     pub all : reachedCells R n w₀ ≡ done ++ todo
     pub words : w ≡ markAll R w₀ done
-    pub counted : visits ≡ visitsOf done
-    pub agree : Agreement R n (graphOf R w₀) marks w
+    pub counted : visits ≡ visitsOf (isPointAt R w₀) done
+    pub agree : Agreement R n (graphOf R w₀) (isPointAt R w₀) marks w
     pub rest : DfsAll (graphOf R w₀) marks (drop k (rootsOf R w₀)) todo
 
   pub marking-length : (w : List ℕ) (visits k : ℕ) → Marking w visits k → length w ≡ length w₀
@@ -60,7 +60,7 @@ module _ (R n : ℕ) (w₀ : List ℕ) where
 
   module _ (well : wellFormed R n w₀ ≡ true) (room : poolLength R n ≤ length w₀) where
     pub marking-first : Marking w₀ 0 0
-    unfolding markAll visitsOf
+    unfolding markAll pairCount pointCount
     marking-first =
         let facts = well-formed-read R n w₀ well in
         record {
@@ -102,13 +102,14 @@ module _ (R n : ℕ) (w₀ : List ℕ) where
       marking-visit limit =
           record {
             graph = graphOf R w₀;
+            point = isPointAt R w₀;
             marks = g .marks;
             cells = from .t;
             agree = g .agree;
             dfs = from .first;
             bounded = rw this (pool-within (well-formed-read R n w₀ well) .root (register w₀ k) (member-tabulate R (λ j. register w₀ j) k here));
             deep = omega arith;
-            fits = omega (arith, few, g .counted, visits-three (g .done), visits-three (from .t));
+            fits = omega (arith, few, g .counted, visits-most (isPointAt R w₀) (g .done), visits-most (isPointAt R w₀) (from .t));
           }
 
       pub marking-next : n < 2 ^ 16 → (visits' : ℕ) (w' : List ℕ)
@@ -116,7 +117,7 @@ module _ (R n : ℕ) (w₀ : List ℕ) where
       unfolding marking-visit
       marking-next limit visits' w' made =
           let words' : w' ≡ markAll R w (from .t) = ap (λ (x : ℕ × List ℕ). x .1) (made (marking-visit limit)) in
-          let count : visits' ≡ visits + visitsOf (from .t) = ap (λ (x : ℕ × List ℕ). x .0) (made (marking-visit limit)) in
+          let count : visits' ≡ visits + visitsOf (isPointAt R w₀) (from .t) = ap (λ (x : ℕ × List ℕ). x .0) (made (marking-visit limit)) in
           record {
             most = omega arith;
             marks = Rattle.graph.specs.Dfs.marks (g .marks) (from .t);
@@ -124,8 +125,8 @@ module _ (R n : ℕ) (w₀ : List ℕ) where
             todo = from .u;
             all = g .all ∙ (ap (λ (x : List ℕ). g .done ++ x) (from .all) ∙ sym (append-assoc (g .done) (from .t) (from .u)));
             words = words' ∙ (ap (λ (x : List ℕ). markAll R x (from .t)) (g .words) ∙ sym (markAll-append R w₀ (g .done) (from .t)));
-            counted = omega (arith, count, g .counted, visits-of-append (g .done) (from .t));
-            agree = rw words' (agreement-dfs R n (graphOf R w₀) (g .agree) (from .first));
+            counted = omega (arith, count, g .counted, visits-append (isPointAt R w₀) (g .done) (from .t));
+            agree = rw words' (agreement-dfs R n (graphOf R w₀) (isPointAt R w₀) (g .agree) (from .first));
             rest = from .others;
           }
 
@@ -134,4 +135,4 @@ module _ (R n : ℕ) (w₀ : List ℕ) where
         let end : k ≡ length (rootsOf R w₀) = omega (arith, g .most, roots-length) in
         let none : g .todo ≡ [] = last (g .rest) (rw end (drop-length (rootsOf R w₀))) in
         let all : g .done ≡ reachedCells R n w₀ = sym (g .all ∙ (ap (λ (x : List ℕ). g .done ++ x) none ∙ append-nil (g .done))) in
-        ap₂ (λ (v : ℕ) (x : List ℕ). (v, x)) (g .counted ∙ ap visitsOf all) (g .words ∙ ap (markAll R w₀) all)
+        ap₂ (λ (v : ℕ) (x : List ℕ). (v, x)) (g .counted ∙ ap (visitsOf (isPointAt R w₀)) all) (g .words ∙ ap (markAll R w₀) all)

@@ -21,12 +21,16 @@ ghost use Rattle.recursive_marker.specs.Steps.{Markable, visited};
 const DEPTH: u32 = 64;
 
 // Marks the link's cell, if it is unmarked, and what its links lead to, with so much depth left. (Gries tests a link before the call, this in the
-// call.) Gives the visits made so far: one of the cell itself, one after its left link and one after its right link.
+// call.) Gives the visits made so far: one of the cell itself, and of a pair one after its left link and one after its right link.
 fn visit(words: &mut [u32], n: u32, depth: u32, p: u32, visits: u32) -> u32
     requires { ⌜ Markable registerCount n depth p visits (now words) ⌝ }
     ensures { λ r. ⌜ ((h : Markable registerCount n depth p visits (now (words .entry))) → _≡_ {A = ℕ × List ℕ} (r, now (words .exit)) (visited registerCount n depth p visits (now (words .entry)) h)) ⌝ }
 {
     if reversal::is_unmarked(words, p) {
+        if pool::is_point_at(words, p) {
+            pool::mark_cell(words, p);
+            return visits + 1;
+        }
         pool::mark_cell(words, p);
         let left = pool::link_of(words, p, Pool::LEFT);
         let after_left = visit(words, n, depth - 1, left, visits + 1);

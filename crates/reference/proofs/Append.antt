@@ -2,21 +2,24 @@
 use Prim.Native.Nat.{ℕ, suc, _-_, _<_, _≤_}
 use native.Mathlib.Omega.{arith}
 use native.Mathlib.Decide.{ℕ-discrete}
-use mathlib.Core.Path.{_≡_, _∙_}
+use mathlib.Core.Path.{_≡_, ap, subst, _∙_}
+use mathlib.Core.Bool.{Bool, true}
 use mathlib.Core.Logic.{inl, inr}
 use mathlib.Core.List.{List, [], _∷_}
 use lib.ListN.{length, length-set, length-append, List·getD-append}
 use lib.Seq.{getD-set-same, getD-set-other, getD-append-seam}
 use Rattle.graph.specs.Compare.{OneToOne}
-use Rattle.pool.specs.Layout.{registerCount, head, register, cell}
+use Rattle.pool.specs.Layout.{registerCount, head, register}
+use Rattle.pool.specs.States.{isPoint, isUsed}
+use Rattle.pool.proofs.Node.{written}
 use Rattle.allocator.specs.Allocation.{take}
-use Rattle.reference.specs.Model.{Entry, Model, anyEntry, entry, held, append}
+use Rattle.reference.specs.Model.{Entry, Model, anyEntry, entry, entryLink, held, append}
 use Rattle.reference.proofs.Places.{set-holds, append-holds}
 use Rattle.invariant.proofs.FreeList.{free-or-used}
 use Rattle.invariant.proofs.Invariant.{Invariant, inv-first}
 use Rattle.invariant.proofs.Taken.{taken-cell, taken-other, taken-register, taken-register-other}
-use Rattle.reference.proofs.Fields.{Field, number, number-below, get, Related, related-map, Linked}
-use Rattle.reference.proofs.Represents.{Pair, More, more-one, Bounded, Represents, rep-made, root-pair, field-related, pair-place, pair-used}
+use Rattle.reference.proofs.Fields.{Field, number, number-below, get, Related, related-map, link-related, Linked, link-most}
+use Rattle.reference.proofs.Represents.{Pair, More, more-one, Bounded, Alike, alike-map, alike-same, Represents, rep-made, root-pair, pair-place, pair-used}
 
 module _ {N : ℕ} {w : List ℕ} {m : Model} (inv : Invariant N w) (rep : Represents w m) (some : 0 < head w) where
   -- No pair has the cell or the place that is new.
@@ -29,25 +32,33 @@ module _ {N : ℕ} {w : List ℕ} {m : Model} (inv : Invariant N w) (rep : Repre
   new-place pair e = omega (arith, pair-place rep pair)
 
   abbrev Added : ℕ → ℕ → Type 0
-  Added = More w m (head w) (suc (length (m .cells)))
+  Added = More (Pair w m) (head w) (suc (length (m .cells)))
 
   added-one : OneToOne Added
   added-one =
-      more-one rep (head w) (suc (length (m .cells))) (λ e. absurd (omega arith), λ e. absurd (omega arith))
+      more-one (Pair w m) (rep .one-to-one) (head w) (suc (length (m .cells))) (λ e. absurd (omega arith), λ e. absurd (omega arith))
       (λ x y pair. (λ e. absurd (new-cell pair e), λ e. absurd (new-place pair e)))
 
-  module _ (r a b v : ℕ) (hr : r < registerCount) (ha : a < registerCount) (hb : b < registerCount) where
+  -- The cell that is taken, of the state c, and the entry e that is appended: of one kind, with equal values, and of a pair the links paired, of a point the
+  -- coordinates equal.
+  module _ (r c x y v : ℕ) (e : Entry) (used : isUsed c ≡ true) (hr : r < registerCount) (kind : isPoint c ≡ e .point)
+      (fields : (f : Field) → Related (e .point) (Pair w m) f (written c x y v (number f)) (get f e)) where
     abbrev after : List ℕ
-    after = take w r (register w a) (register w b) v
+    after = take w r c x y v
 
     abbrev model : Model
-    model = append m r a b v
-
-    abbrev cell-new : Entry
-    cell-new = record { left = held m a; right = held m b; value = v }
+    model = append m r e
 
     cells-length : length (model .cells) ≡ suc (length (m .cells))
-    cells-length = length-append (m .cells) (cell-new ∷ []) ∙ omega arith
+    cells-length = length-append (m .cells) (e ∷ []) ∙ omega arith
+
+    linked : Linked (suc (length (m .cells))) e
+    linked = (most Field.left (omega arith), most Field.right (omega arith))
+      where
+        most : (f : Field) → number f < 3 → entryLink e (get f e) ≤ suc (length (m .cells))
+        most f below =
+            link-most (e .point) (get f e) (suc (length (m .cells))) λ pair.
+            omega (arith, pair-place rep (link-related (Pair w m) f _ _ below .1 (subst (λ (t : Bool). Related t (Pair w m) f (written c x y v (number f)) (get f e)) pair (fields f))))
 
     append-bounded : Bounded model
     append-bounded =
@@ -57,41 +68,36 @@ module _ {N : ℕ} {w : List ℕ} {m : Model} (inv : Invariant N w) (rep : Repre
               (set-holds (λ z. z ≤ suc (length (m .cells))) (m .registers) r k (suc (length (m .cells))) 0
               (omega (arith, rep .bounded .roots k)) (omega arith));
           cells = λ j. rw cells-length
-              (append-holds (Linked (suc (length (m .cells)))) (m .cells) (j - 1) cell-new anyEntry
-              (omega (arith, rep .bounded .cells j)) (omega (arith, rep .bounded .roots a, rep .bounded .roots b)) (omega arith));
+              (append-holds (Linked (suc (length (m .cells)))) (m .cells) (j - 1) e anyEntry
+              (omega (arith, rep .bounded .cells j)) linked (omega arith));
         }
 
     pub rep-append : Represents after model
     rep-append =
-        rep-made after model Added added-one append-bounded (λ k below. roots k below (ℕ-discrete k r))
-        (λ x y p hx hy f. fields f x y p hx hy)
+        rep-made after model Added added-one append-bounded (λ k below. roots k below (ℕ-discrete k r)) alike
       where
         roots : (k : ℕ) → k < registerCount → Dec (k ≡ r) → Added (register after k) (held model k)
-        roots k below (yes e) =
+        roots k below (yes q) =
             inr (
-              rw e (taken-register inv r (register w a) (register w b) v hr some),
-              rw e (getD-set-same (m .registers) r (suc (length (m .cells))) 0 (omega (arith, rep .bounded .registers))),
+              rw q (taken-register inv r c x y v used hr some),
+              rw q (getD-set-same (m .registers) r (suc (length (m .cells))) 0 (omega (arith, rep .bounded .registers))),
             )
-        roots k below (no e) =
+        roots k below (no q) =
             rw (
-              taken-register-other inv r (register w a) (register w b) v hr some k below e,
-              getD-set-other (m .registers) r k (suc (length (m .cells))) 0 e,
+              taken-register-other inv r c x y v used hr some k below q,
+              getD-set-other (m .registers) r k (suc (length (m .cells))) 0 q,
             )
             (inl (root-pair rep k below))
 
-        new : (f : Field) → Related Added f (cell registerCount after (head w) (number f)) (get f cell-new)
-        new Field.left = rw (taken-cell inv r (register w a) (register w b) v hr some 1 (omega arith)) (inl (root-pair rep a ha))
-        new Field.right = rw (taken-cell inv r (register w a) (register w b) v hr some 2 (omega arith)) (inl (root-pair rep b hb))
-        new Field.value = taken-cell inv r (register w a) (register w b) v hr some 3 (omega arith)
-
-        fields : (f : Field) (x y : ℕ) → Added x y → 0 < x → 0 < y
-            → Related Added f (cell registerCount after x (number f)) (get f (entry model y))
-        fields f x y (inl pair) hx hy =
-            rw (
-              taken-other inv r (register w a) (register w b) v hr some x (number f) hx (number-below f) (new-cell pair),
-              List·getD-append (m .cells) (cell-new ∷ []) anyEntry (y - 1) (omega (arith, pair-place rep pair)),
-            )
-            (related-map (λ i j. inl) f _ _ (field-related rep x y pair hx hy f))
-        fields f x y (inr here) hx hy =
-            let place : y - 1 ≡ length (m .cells) = omega arith in
-            rw (here .0, place, getD-append-seam (m .cells) cell-new [] anyEntry) (new f)
+        alike : (i j : ℕ) → Added i j → 0 < i → 0 < j → Alike Added after i (entry model j)
+        alike i j (inl pair) hi hj =
+            rw (List·getD-append (m .cells) (e ∷ []) anyEntry (j - 1) (omega (arith, pair-place rep pair)))
+            (alike-map (λ p q. inl)
+            (alike-same after (λ f hf. taken-other inv r c x y v used hr some i f hi hf (new-cell pair)) (rep .alike i j pair hi hj)))
+        alike i j (inr here) hi hj =
+            let place : j - 1 ≡ length (m .cells) = omega arith in
+            rw (here .0, place, getD-append-seam (m .cells) e [] anyEntry)
+            (record {
+              kind = ap isPoint (taken-cell inv r c x y v used hr some 0 (omega arith)) ∙ kind;
+              field = λ f. rw (taken-cell inv r c x y v used hr some (number f) (number-below f)) (related-map (e .point) (λ p q. inl) f _ _ (fields f));
+            })

@@ -3,14 +3,14 @@ use Prim.Native.Nat.{ℕ}
 use native.Mathlib.Omega.{arith}
 use mathlib.Core.Path.{_≡_, refl}
 use mathlib.Core.List.{List}
-use mathlib.Core.Bool.{Bool, true, false, cond}
+use mathlib.Core.Bool.{Bool, true, false, cond, not}
 use lib.Dec.{eqb, leb}
 use Rattle.questions.specs.Questions.{areRegisters}
 use Rattle.answers.specs.Outcome.{Outcome, answered, refused}
 use Rattle.calls.specs.declared.Call.{Call}
 use Rattle.calls.specs.declared.Call.the-variants as call
 use Rattle.calls.specs.Calls.{registersOf}
-use Rattle.reference.specs.Model.{Model, held, live, onCell, modelBody, modelOf}
+use Rattle.reference.specs.Model.{Model, entry, held, live, onCell, onKind, modelBody, modelOf}
 use Rattle.reference.specs.Equivalence.{observed}
 
 pub data Plain : Outcome → Type 0 where
@@ -35,18 +35,28 @@ module _ (m : Model) where
   plain-on-cell : (a : ℕ) (p : Outcome × Model) → Plain (p .0) → Plain ((onCell m a (λ e. p)) .0)
   plain-on-cell a p h = plain-cond (eqb (held m a) 0) 4 (λ e. omega arith) (λ e. omega arith) p h
 
+  plain-on-kind : (point : Bool) (a : ℕ) (p : Outcome × Model) → Plain (p .0) → Plain ((onKind point m a (λ e. p)) .0)
+  plain-on-kind point a p h = plain-on-cell a _ (go (cond ((entry m (held m a)) .point) point (not point)))
+    where
+      go : (t : Bool) → Plain ((cond t p (refused 13, m)) .0)
+      go true = h
+      go false = refusal 13 (λ e. omega arith) (λ e. omega arith)
+
   pub plain-body : (L : ℕ) (c : Call) → Plain ((modelBody L c m) .0)
   plain-body L (call.Copy r a) = numbers _
   plain-body L (call.Clear r) = numbers _
   plain-body L (call.New r a b v) = plain-cond (leb L (live m)) 5 (λ e. omega arith) (λ e. omega arith) _ (numbers _)
-  plain-body L (call.Left r a) = plain-on-cell a _ (numbers _)
-  plain-body L (call.Right r a) = plain-on-cell a _ (numbers _)
-  plain-body L (call.SetLeft a b) = plain-on-cell a _ (numbers _)
-  plain-body L (call.SetRight a b) = plain-on-cell a _ (numbers _)
+  plain-body L (call.Left r a) = plain-on-kind false a _ (numbers _)
+  plain-body L (call.Right r a) = plain-on-kind false a _ (numbers _)
+  plain-body L (call.SetLeft a b) = plain-on-kind false a _ (numbers _)
+  plain-body L (call.SetRight a b) = plain-on-kind false a _ (numbers _)
   plain-body L (call.SetValue a v) = plain-on-cell a _ (numbers _)
   plain-body L (call.Value a) = plain-on-cell a _ (numbers _)
   plain-body L (call.Same a b) = numbers _
   plain-body L call.Collect = numbers _
+  plain-body L (call.Point r v x y) = plain-cond (leb L (live m)) 5 (λ e. omega arith) (λ e. omega arith) _ (numbers _)
+  plain-body L (call.East a) = plain-on-kind true a _ (numbers _)
+  plain-body L (call.North a) = plain-on-kind true a _ (numbers _)
 
   pub plain-model : (L : ℕ) (c : Call) → Plain ((modelOf L c m) .0)
   plain-model L c = go (areRegisters (registersOf c))

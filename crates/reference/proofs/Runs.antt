@@ -11,11 +11,10 @@ use Rattle.answers.specs.Outcome.{Outcome, answered, allocated, refused, status
 use Rattle.pool.proofs.Sizes.{both}
 use Rattle.calls.specs.declared.Call.{Call}
 use Rattle.calls.specs.declared.Call.the-variants as call
-use Rattle.allocator.specs.Allocation.{newIn}
 use Rattle.questions.specs.Questions.{areRegisters}
 use Rattle.questions.proofs.Admission.{Registers, registers-there}
-use Rattle.calls.specs.Calls.{names, registersOf, bodyOf, allocates, callOf}
-use Rattle.reference.specs.Model.{Model, live, modelBody, modelOf}
+use Rattle.calls.specs.Calls.{registersOf, bodyOf, allocates, callOf}
+use Rattle.reference.specs.Model.{Entry, Model, live, appendBelow, modelBody, modelOf}
 use Rattle.batch.specs.Run.{answersOf, answerWords}
 use Rattle.reference.specs.RunEquivalence.{observedWords}
 use Rattle.reference.specs.Equivalence.{observed, poolAnswers, modelAnswers, distinguishes, noneDistinguishes}
@@ -24,9 +23,9 @@ use Rattle.invariant.proofs.Standing.{called}
 use Rattle.invariant.proofs.Preservation.{call-inv}
 use Rattle.reference.proofs.Fields.{Field}
 use Rattle.reference.proofs.Represents.{Represents}
-use Rattle.reference.proofs.Steps.{Step, unchanged, copy-step, clear-step, follow-step, link-step, set-value-step, value-step, same-step}
+use Rattle.reference.proofs.Steps.{Step, unchanged, copy-step, clear-step, follow-step, link-step, set-value-step, value-step, coordinate-step, same-step}
 use Rattle.reference.proofs.Collecting.{collect-step}
-use Rattle.reference.proofs.New.{NewStep, new-step}
+use Rattle.reference.proofs.New.{AllocateStep, new-step, point-step}
 use Rattle.reference.proofs.Plain.{plain-observed, plain-model}
 
 -- The first number of an answer is observed, unless it is the visits of an allocation.
@@ -39,35 +38,34 @@ pub data Verdict (N L : ℕ) (c : Call) (w : List ℕ) (m : Model) : Type 0 wher
   apart : distinguishes N L c m ≡ true → (status (observed ((callOf c w) .0)) ≡ status ((modelOf L c m) .0) → ⊥) → Verdict N L c w m
 
 module _ {N : ℕ} (L : ℕ) {w : List ℕ} {m : Model} (inv : Invariant N w) (rep : Represents w m) where
-  new-verdict : (r a b v : ℕ) → Verdict N L (call.New r a b v) w m
-  new-verdict r a b v = go (areRegisters (names r a b)) refl
+  -- A call that allocates, where the model appends the cell e.
+  allocate-verdict : (c : Call) (r : ℕ) (e : Entry) → allocates c ≡ true → modelBody L c m ≡ appendBelow L m r e
+      → (Registers (registersOf c) → AllocateStep N w m r e (bodyOf c N w)) → Verdict N L c w m
+  allocate-verdict c r e allocating model-does step = go (areRegisters (registersOf c)) refl
     where
-      asked : callOf (call.New r a b v) w ≡ cond (areRegisters (names r a b)) (newIn N w r a b v) (refused 2, w)
-      asked = called (inv .pool) (call.New r a b v)
+      asked : callOf c w ≡ cond (areRegisters (registersOf c)) (bodyOf c N w) (refused 2, w)
+      asked = called (inv .pool) c
 
-      tests : (s t u : Bool) → areRegisters (names r a b) ≡ s → leb (min N L) (live m) ≡ t → ltb (live m) (max N L) ≡ u
-          → distinguishes N L (call.New r a b v) m ≡ (s && t && u)
-      tests s t u p q k = rw (p, q, k)
+      tests : (s t u : Bool) → areRegisters (registersOf c) ≡ s → leb (min N L) (live m) ≡ t → ltb (live m) (max N L) ≡ u → distinguishes N L c m ≡ (s && t && u)
+      tests s t u p q k = rw (allocating, p, q, k)
 
-      ask : areRegisters (names r a b) ≡ true → NewStep N w m r a b v → Dec (live m < L) → Verdict N L (call.New r a b v) w m
-      ask e (NewStep.accepted few next) (yes below) =
-          alike (tests true false _ e (lt-leb (min N L) (live m) (omega arith)) refl) (rw (asked, e, lt-leb L (live m) below) next)
-          (rw (asked, e, next .answer))
-      ask e (NewStep.accepted few next) (no above) =
-          apart (tests true true true e (le-leb (min N L) (live m) (omega arith)) (lt-ltb (live m) (max N L) (omega arith)))
-          (rw (asked, e, le-leb L (live m) (omega arith), next .answer) (λ k. omega arith))
-      ask e (NewStep.full many out) (yes below) =
-          apart (tests true true true e (le-leb (min N L) (live m) (omega arith)) (lt-ltb (live m) (max N L) (omega arith)))
-          (rw (asked, e, lt-leb L (live m) below, out) (λ k. omega arith))
-      ask e (NewStep.full many out) (no above) =
-          alike (tests true true false e (le-leb (min N L) (live m) (omega arith)) (le-ltb (live m) (max N L) (omega arith)))
-          (rw (asked, e, le-leb L (live m) (omega arith), out) (unchanged (inv .pool) rep _)) (rw (asked, e, out))
+      ask : areRegisters (registersOf c) ≡ true → AllocateStep N w m r e (bodyOf c N w) → Dec (live m < L) → Verdict N L c w m
+      ask there (AllocateStep.accepted few next) (yes below) =
+          alike (tests true false _ there (lt-leb (min N L) (live m) (omega arith)) refl) (rw (asked, there, model-does, lt-leb L (live m) below) next)
+          (rw (allocating, asked, there, next .answer))
+      ask there (AllocateStep.accepted few next) (no above) =
+          apart (tests true true true there (le-leb (min N L) (live m) (omega arith)) (lt-ltb (live m) (max N L) (omega arith)))
+          (rw (asked, there, model-does, le-leb L (live m) (omega arith), next .answer) (λ k. omega arith))
+      ask there (AllocateStep.full many out) (yes below) =
+          apart (tests true true true there (le-leb (min N L) (live m) (omega arith)) (lt-ltb (live m) (max N L) (omega arith)))
+          (rw (asked, there, model-does, lt-leb L (live m) below, out) (λ k. omega arith))
+      ask there (AllocateStep.full many out) (no above) =
+          alike (tests true true false there (le-leb (min N L) (live m) (omega arith)) (le-ltb (live m) (max N L) (omega arith)))
+          (rw (asked, there, model-does, le-leb L (live m) (omega arith), out) (unchanged (inv .pool) rep _)) (rw (allocating, asked, there, out))
 
-      go : (t : Bool) → areRegisters (names r a b) ≡ t → Verdict N L (call.New r a b v) w m
-      go true e =
-          let there = registers-there (names r a b) e in
-          ask e (new-step inv rep r a b v (there .first) (there .second) (there .third)) (decLt (live m) L)
-      go false e = alike (tests false _ _ e refl refl) (rw (asked, e) (unchanged (inv .pool) rep _)) (rw (asked, e))
+      go : (t : Bool) → areRegisters (registersOf c) ≡ t → Verdict N L c w m
+      go true there = ask there (step (registers-there (registersOf c) there)) (decLt (live m) L)
+      go false there = alike (tests false _ _ there refl refl) (rw (asked, there) (unchanged (inv .pool) rep _)) (rw (allocating, asked, there))
 
   -- A call that does not allocate: both refuse it with 2, or both run it, and all of what the model answers is observed.
   plain-verdict : (c : Call) → allocates c ≡ false → (Registers (registersOf c) → Step (bodyOf c N w) (modelBody L c m)) → Verdict N L c w m
@@ -88,7 +86,8 @@ module _ {N : ℕ} (L : ℕ) {w : List ℕ} {m : Model} (inv : Invariant N w) (r
   pub verdict : (c : Call) → Verdict N L c w m
   verdict (call.Copy r a) = plain-verdict (call.Copy r a) refl λ h. copy-step (inv .pool) rep r a (h .first) (h .second)
   verdict (call.Clear r) = plain-verdict (call.Clear r) refl λ h. clear-step (inv .pool) rep r (h .first)
-  verdict (call.New r a b v) = new-verdict r a b v
+  verdict (call.New r a b v) =
+      allocate-verdict (call.New r a b v) r _ refl refl λ h. new-step inv rep r a b v (h .first) (h .second) (h .third)
   verdict (call.Left r a) = plain-verdict (call.Left r a) refl λ h. follow-step (inv .pool) rep Field.left (omega arith) r a (h .first) (h .second)
   verdict (call.Right r a) = plain-verdict (call.Right r a) refl λ h. follow-step (inv .pool) rep Field.right (omega arith) r a (h .first) (h .second)
   verdict (call.SetLeft a b) = plain-verdict (call.SetLeft a b) refl λ h. link-step (inv .pool) rep Field.left (omega arith) a b (h .first) (h .second)
@@ -97,6 +96,9 @@ module _ {N : ℕ} (L : ℕ) {w : List ℕ} {m : Model} (inv : Invariant N w) (r
   verdict (call.Value a) = plain-verdict (call.Value a) refl λ h. value-step (inv .pool) rep a (h .first)
   verdict (call.Same a b) = plain-verdict (call.Same a b) refl λ h. same-step (inv .pool) rep a b (h .first) (h .second)
   verdict call.Collect = plain-verdict call.Collect refl λ h. collect-step (inv .pool) rep
+  verdict (call.Point r v x y) = allocate-verdict (call.Point r v x y) r _ refl refl λ h. point-step inv rep r v x y (h .first)
+  verdict (call.East a) = plain-verdict (call.East a) refl λ h. coordinate-step (inv .pool) rep Field.left a (h .first)
+  verdict (call.North a) = plain-verdict (call.North a) refl λ h. coordinate-step (inv .pool) rep Field.right a (h .first)
 
 -- Where no call distinguishes the two, the answers to a list of calls are equal; where one does, not even their words are.
 pub record Compared (N L : ℕ) (calls : List Call) (w : List ℕ) (m : Model) : Type 0 where

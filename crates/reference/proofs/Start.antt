@@ -42,4 +42,4 @@ module _ (N e : ℕ) (lent : List ℕ) (fits : LengthOf registerCount N e (lengt
       })
       (record { registers = refl; roots = λ k. omega (arith, all-nil k); cells = λ x. omega arith })
       (λ k below. (link-nil (fresh-inv N e lent fits .pool .well .registers k below), all-nil k))
-      (λ x y a hx hy f. absurd (omega arith))
+      (λ x y a hx hy. absurd (omega arith))

@@ -15,8 +15,8 @@ use Rattle.calls.specs.declared.Call.{Call}
 use Rattle.calls.specs.Calls.{registersOf, allocates, callOf}
 use Rattle.reference.specs.Model.{Model, empty, live, modelOf}
 
--- What is observed of a call's answer, and compared with the reference model's: "An answer is done (an accepted "new" too, its visits left out), the
--- number or numbers given, or the refusal."
+-- What is observed of a call's answer, and compared with the reference model's: "An answer is done (an accepted "new" too, its visits left out)", and so
+-- a "point", "the number or numbers given, or the refusal."
 abbrev pub observed : Outcome → Outcome
 observed (answered numbers) = answered numbers
 observed (allocated visits) = answered []
@@ -32,8 +32,8 @@ unfoldable pub modelAnswers : ℕ → List Call → Model → List Outcome
 modelAnswers L [] m = []
 modelAnswers L (c ∷ cs) m = (modelOf L c m) .0 ∷ modelAnswers L cs ((modelOf L c m) .1)
 
--- Does this call distinguish a pool of N cells from a model with limit L? Demand 3: a "new" with valid registers does, where it finds at least the
--- smaller and fewer than the larger of N and L live cells.
+-- Does this call distinguish a pool of N cells from a model with limit L? Demand 3: a "new" with valid registers does, and so a "point",
+-- "counting as a "new"" (02, S-8), where it finds at least the smaller and fewer than the larger of N and L live cells.
 abbrev pub distinguishes : ℕ → ℕ → Call → Model → Bool
 distinguishes N L c m = allocates c && areRegisters (registersOf c) && leb (min N L) (live m) && ltb (live m) (max N L)
 
@@ -42,9 +42,10 @@ unfoldable pub noneDistinguishes : ℕ → ℕ → List Call → Model → Bool
 noneDistinguishes N L [] m = true
 noneDistinguishes N L (c ∷ cs) m = not (distinguishes N L c m) && noneDistinguishes N L cs ((modelOf L c m) .1)
 
--- Demand 3: the answers of a pool of N cells equal those of the ledger with limit L exactly when no "new" with valid registers finds at least the
--- smaller and fewer than the larger of N and L live cells. One statement about the whole list, for every N, L and list. "Scripts on a pool with leftovers
--- get the ledger's answers for N" (02, S-6): so it is with every e words behind the cells, whatever they hold; with e = 0 there are none.
+-- Demand 3: the answers of a pool of N cells equal those of the ledger with limit L exactly when no "new" or "point" with valid registers finds at least
+-- the smaller and fewer than the larger of N and L live cells: "lists of all fourteen calls are compared" (02, S-8). One statement about the whole list,
+-- for every N, L and list. "Scripts on a pool with leftovers get the ledger's answers for N" (02, S-6): so it is with every e words behind the cells,
+-- whatever they hold; with e = 0 there are none.
 abbrev pub Equivalence : Type 0
 Equivalence =
     (N e L : ℕ) (lent : List ℕ) (calls : List Call) → LengthOf registerCount N e (length lent)

@@ -1,5 +1,5 @@
 -- The cells that the visits follow links to: of a run all that it newly marks but its first cell, of all the runs those at which no run begins.
-use Prim.Native.Nat.{ℕ, suc, _+_, _*_, _≤_}
+use Prim.Native.Nat.{ℕ, suc, _+_, _≤_}
 use native.Mathlib.Omega.{arith}
 use mathlib.Core.Path.{_≡_, refl, sym, ap, _∙_}
 use mathlib.Core.Logic.{⊎-elim}
@@ -15,12 +15,12 @@ use Rattle.graph.proofs.Lists.{Each, has-none, distinct-parts}
 use Rattle.graph.proofs.Theorems.{preorder-distinct}
 use Rattle.graph.proofs.Congruence.{dfs-all-alike}
 use Rattle.graph.proofs.Depth.{order-dfs}
-use Rattle.pool.specs.Layout.{poolLength, graphOf, rootsOf}
+use Rattle.pool.specs.Layout.{poolLength, isPointAt, graphOf, rootsOf}
 use Rattle.questions.specs.Validity.{wellFormed}
 use Rattle.questions.proofs.WellFormed.{well-formed-read}
 use Rattle.questions.proofs.PoolGraph.{pool-within}
 use Rattle.reversal.specs.Reversal.{Run, MarkRoots}
-use Rattle.reversal.specs.Reached.{reachedCells, reachedCount, visitsOf}
+use Rattle.reversal.specs.Reached.{reachedCells, reachedCount, pairCount, visitsOf}
 use Rattle.reversal.specs.ReversalTheorem.{markAll, Agreement}
 use Rattle.reversal.specs.Cases.{traceRun, traceRoots, begins, followed, fourWays, without}
 use Rattle.reversal.specs.CaseTheorem.{RunFollows, FollowedOnce, FollowedCount}
@@ -28,15 +28,16 @@ use Rattle.reversal.proofs.Agreement.{unmarked-true, unmarked-false, ag
 use Rattle.reversal.proofs.PoolMarks.{agreement, alike}
 use Rattle.reversal.proofs.Run.{run}
 use Rattle.reversal.proofs.RunLoop.{run-same, run-length}
+use Rattle.reversal.proofs.VisitCount.{pairs-append}
 use Rattle.reversal.proofs.Trace.{followed-append, fourWays-append}
 
 -- a run's end and visits, whatever run it is
-run-made : (R n : ℕ) (g : Graph) {m : ℕ → ℕ} {p : ℕ} {s end : ℕ × List ℕ} {new : List ℕ} → Agreement R n g m (s .1) → Dfs g m p new → m p ≡ 0
+run-made : (R n : ℕ) (g : Graph) (point : ℕ → Bool) {m : ℕ → ℕ} {p : ℕ} {s end : ℕ × List ℕ} {new : List ℕ} → Agreement R n g point m (s .1) → Dfs g m p new → m p ≡ 0
     → (r : Run R n p s end)
-    → (f : List ℕ) × (p ∷ f ≡ new) × (end .1 ≡ markAll R (s .1) new) × (followed (traceRun r) ≡ f) × (fourWays (traceRun r) ≡ 2 * length f + 1)
-run-made R n g {p = p} {s = s} {new = new} a d e r =
-    let (f, same, made) = run R n g d e (s .1) a (suc n) (s .0) in
-    let r′ : Run R n p s (s .0 + visitsOf new, markAll R (s .1) new) = (visitsOf new, p, made .visits) in
+    → (f : List ℕ) × (p ∷ f ≡ new) × (end .1 ≡ markAll R (s .1) new) × (followed (traceRun r) ≡ f) × (fourWays (traceRun r) ≡ pairCount point new + length f)
+run-made R n g point {p = p} {s = s} {new = new} a d e r =
+    let (f, same, made) = run R n g point d e (s .1) a (suc n) (s .0) in
+    let r′ : Run R n p s (s .0 + visitsOf point new, markAll R (s .1) new) = (visitsOf point new, p, made .visits) in
     let many = run-length R n r r′ in
     (f, same, ap (λ (x : ℕ × List ℕ). x .1) (run-same R n r r′), rw many (made .followed), rw many (made .fourWays))
 
@@ -45,8 +46,8 @@ unmarked-first (Dfs.stop h) e = absurd (nil≢cons e)
 unmarked-first (Dfs.step e a b) same = e
 
 pub run-follows : RunFollows
-run-follows R n g m p t c w end a d r =
-    let (f, same, ends, goes, four) = run-made R n g a d (unmarked-first d refl) r in
+run-follows R n g point m p t c w end a d r =
+    let (f, same, ends, goes, four) = run-made R n g point a d (unmarked-first d refl) r in
     let rest : f ≡ t = tail-eq-of-cons-eq same in
     (goes ∙ rest, omega (arith, four, ap length rest))
 
@@ -77,32 +78,32 @@ module _ {R n : ℕ} where
   order (MarkRoots.skip h rest) = order rest
   order (MarkRoots.run {p = p} h r rest) = p ∷ (followed (traceRun r) ++ order rest)
 
-module _ (R n : ℕ) (g : Graph) where
-  -- that order is what the depth-first visits newly mark; each of its cells has two four-way exchanges, but for one less in every run
-  order-dfs-all : {m : ℕ → ℕ} {ps t : List ℕ} → DfsAll g m ps t → {s end : ℕ × List ℕ} → Agreement R n g m (s .1) → ((x : ℕ) → List·Memᴰ x ps → x ≤ n)
-      → (d : MarkRoots R n ps s end) → (order d ≡ t) × (fourWays (traceRoots d) + length (begins d) ≡ 2 * length t)
-  unfolding marks markAll order traceRoots begins fourWays
+module _ (R n : ℕ) (g : Graph) (point : ℕ → Bool) where
+  -- that order is what the depth-first visits newly mark; each of its pairs has two four-way exchanges and each point one, but for one less in every run
+  order-dfs-all : {m : ℕ → ℕ} {ps t : List ℕ} → DfsAll g m ps t → {s end : ℕ × List ℕ} → Agreement R n g point m (s .1) → ((x : ℕ) → List·Memᴰ x ps → x ≤ n)
+      → (d : MarkRoots R n ps s end) → (order d ≡ t) × (fourWays (traceRoots d) + length (begins d) ≡ pairCount point t + length t)
+  unfolding marks markAll order traceRoots begins fourWays pairCount
   order-dfs-all DfsAll.none a bound MarkRoots.none = (refl, refl)
   order-dfs-all (DfsAll.next (Dfs.stop marked) rest) a bound (MarkRoots.skip h d) = order-dfs-all rest a (λ x mem. bound x (List·Memᴰ·tail mem)) d
   order-dfs-all (DfsAll.next {p = p} (Dfs.stop marked) rest) a bound (MarkRoots.run h r d) =
-      absurd (false≢true (sym (unmarked-false R n g a p (bound p (List·Memᴰ·head refl)) marked) ∙ h))
-  order-dfs-all (DfsAll.next (Dfs.step {p = p} e dl dr) rest) a bound (MarkRoots.skip h d) = absurd (true≢false (sym (unmarked-true R n g a p e) ∙ h))
+      absurd (false≢true (sym (unmarked-false R n g point a p (bound p (List·Memᴰ·head refl)) marked) ∙ h))
+  order-dfs-all (DfsAll.next (Dfs.step {p = p} e dl dr) rest) a bound (MarkRoots.skip h d) = absurd (true≢false (sym (unmarked-true R n g point a p e) ∙ h))
   order-dfs-all (DfsAll.next {t = new} {u = v} (Dfs.step e dl dr) rest) a bound (MarkRoots.run h r d) =
       let visit = Dfs.step e dl dr in
-      let (f, same, ends, goes, four) = run-made R n g a visit e r in
-      let (later, others) = order-dfs-all rest (rw ends (agreement-dfs R n g a visit)) (λ x mem. bound x (List·Memᴰ·tail mem)) d in (
+      let (f, same, ends, goes, four) = run-made R n g point a visit e r in
+      let (later, others) = order-dfs-all rest (rw ends (agreement-dfs R n g point a visit)) (λ x mem. bound x (List·Memᴰ·tail mem)) d in (
         rw (goes, later) (ap (λ (l : List ℕ). l ++ v) same),
-        omega (arith, others, four, fourWays-append (traceRun r) (traceRoots d), ap length same, length-append new v),
+        omega (arith, others, four, fourWays-append (traceRun r) (traceRoots d), ap length same, length-append new v, pairs-append point new v),
       )
 
 -- of a pool it is that of the reached cells, depth first
 order-pool : (R n : ℕ) (w : List ℕ) → poolLength R n ≤ length w → wellFormed R n w ≡ true → {end : ℕ × List ℕ}
     → (d : MarkRoots R n (rootsOf R w) (0, w) end)
-    → (order d ≡ reachedCells R n w) × (fourWays (traceRoots d) + length (begins d) ≡ 2 * reachedCount R n w)
+    → (order d ≡ reachedCells R n w) × (fourWays (traceRoots d) + length (begins d) ≡ pairCount (isPointAt R w) (reachedCells R n w) + reachedCount R n w)
 order-pool R n w room well d =
     let facts = well-formed-read R n w well in
     let within = pool-within facts in
-    order-dfs-all R n (graphOf R w) (dfs-all-alike (alike R n w facts) (order-dfs n (graphOf R w) (rootsOf R w) within)) (agreement R n w facts room)
+    order-dfs-all R n (graphOf R w) (isPointAt R w) (dfs-all-alike (alike R n w facts) (order-dfs n (graphOf R w) (rootsOf R w) within)) (agreement R n w facts room)
     (within .root) d
 
 module _ {R n : ℕ} where

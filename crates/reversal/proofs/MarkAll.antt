@@ -7,9 +7,10 @@ use mathlib.Core.Logic.{_⊎_, inl, inr, ⊎-elim}
 use mathlib.Core.List.{List, [], _∷_, _++_, List·Memᴰ, List·Memᴰ·head, List·Memᴰ·tail, List·Memᴰ·cases-cons, Memᴰ·cast, List·Memᴰ·not-nil}
 use mathlib.Core.Bool.{true}
 use lib.ListN.{length}
-use Rattle.pool.specs.Layout.{poolLength, cell, setCell, state, register, setNode}
-use Rattle.pool.specs.States.{isMarked, asMarked, markCell}
-use Rattle.pool.proofs.States.{marked-marked, marked-again}
+use Rattle.pool.specs.Layout.{poolLength, cell, setCell, state, register, setNode, markCell, isPointAt, linkOf}
+use Rattle.pool.specs.States.{isPoint, isMarked, asMarked}
+use Rattle.pool.proofs.States.{marked-marked, marked-again, point-marked}
+use Rattle.pool.proofs.Links.{link-same}
 use Rattle.pool.proofs.Laws.{length-setCell, register-setCell, cell-same, cell-other, setCell-comm}
 use Rattle.reversal.specs.ReversalTheorem.{markAll}
 
@@ -40,7 +41,9 @@ module _ (R : ℕ) where
   markAll-setCell i f v hi hf [] away w = refl
   markAll-setCell i f v hi hf (x ∷ xs) away w =
       let here = away x (List·Memᴰ·head refl) in
-      ap (λ w. markAll R w xs) (setCell-comm R w i f v x 0 (asMarked (state R w x)) hi hf (here .0) (omega arith) λ e. here .1 (omega arith))
+      ap (λ w. markAll R w xs)
+      (ap (λ (s : ℕ). setCell R (setCell R w i f v) x 0 (asMarked s)) (cell-other R w i f v x 0 hi hf (here .0) (omega arith) λ e. here .1 (omega arith))
+      ∙ setCell-comm R w i f v x 0 (asMarked (state R w x)) hi hf (here .0) (omega arith) λ e. here .1 (omega arith))
       ∙ markAll-setCell i f v hi hf xs (λ y mem. away y (List·Memᴰ·tail mem)) (markCell R w x)
 
   -- a field that is no state of a cell of the list is as before
@@ -91,6 +94,25 @@ module _ (R : ℕ) where
   pub state-markAll-same : (i : ℕ) → 0 < i → (t : List ℕ) → ((x : ℕ) → List·Memᴰ x t → 0 < x) → List·Memᴰ i t → (w : List ℕ)
       → poolLength R i ≤ length w → isMarked (state R (markAll R w t) i) ≡ true
   state-markAll-same i hi t cells mem w room = ap isMarked (state-markAll i hi t cells mem w room) ∙ marked-marked (state R w i)
+
+  -- no kind changes, so no link does
+  pub kind-markAll : (i : ℕ) → 0 < i → (t : List ℕ) → ((x : ℕ) → List·Memᴰ x t → 0 < x) → (w : List ℕ) → poolLength R i ≤ length w
+      → isPointAt R (markAll R w t) i ≡ isPointAt R w i
+  unfolding markAll
+  kind-markAll i hi [] cells w room = refl
+  kind-markAll i hi (x ∷ xs) cells w room =
+      kind-markAll i hi xs (λ y m. cells y (List·Memᴰ·tail m)) (markCell R w x) (simp length-setCell room) ∙ first (ℕ-discrete i x)
+    where
+      first : Dec (i ≡ x) → isPointAt R (markCell R w x) i ≡ isPointAt R w i
+      first (yes e) =
+          ap isPoint (rw (← e) (cell-same R w i 0 (asMarked (state R w i)) hi (omega arith) room)) ∙ point-marked (state R w i)
+      first (no apart) =
+          ap isPoint (cell-other R w x 0 (asMarked (state R w x)) i 0 (cells x (List·Memᴰ·head refl)) (omega arith) hi (omega arith) (λ e′. apart (omega arith)))
+
+  pub link-markAll : (i f : ℕ) → 0 < i → 0 < f → f < 4 → (t : List ℕ) → ((x : ℕ) → List·Memᴰ x t → 0 < x) → (w : List ℕ) → poolLength R i ≤ length w
+      → linkOf R (markAll R w t) i f ≡ linkOf R w i f
+  link-markAll i f hi hf hf′ t cells w room =
+      link-same R (markAll R w t) w i i f (kind-markAll i hi t cells w room) (field-markAll i f hi hf hf′ t cells w)
 
   -- a cell that is not in the list can be written before or after
   pub markAll-setNode : (p s l r : ℕ) → 0 < p → (t : List ℕ) → ((x : ℕ) → List·Memᴰ x t → (0 < x) × (x ≡ p → ⊥)) → (w : List ℕ)

@@ -11,10 +11,9 @@ use borrow.Author.Tests.{le-leb, lt-leb, leb-true}
 use Rattle.graph.specs.Marking.{outside}
 use Rattle.graph.proofs.Marks.{outside-nil, outside-cell, zero-or-above}
 use Rattle.graph.proofs.Congruence.{Alike}
-use Rattle.pool.specs.Layout.{poolLength, state, graphOf, rootsOf}
+use Rattle.pool.specs.Layout.{poolLength, state, isPointAt, graphOf, rootsOf}
 use Rattle.pool.specs.States.{isUsed}
 use Rattle.pool.proofs.Sizes.{both}
-use Rattle.pool.proofs.States.{used-is}
 use Rattle.questions.proofs.WellFormed.{WellFormed}
 use Rattle.questions.proofs.PoolGraph.{Used, link-bound, used-links, reached-used}
 use Rattle.reversal.specs.ReversalTheorem.{Agreement}
@@ -58,7 +57,7 @@ module _ (R n : ℕ) (w : List ℕ) where
 
   module _ (well : WellFormed R n w) where
     -- the words agree with their own graph, and their states as marks
-    pub agreement : poolLength R n ≤ length w → Agreement R n (graphOf R w) (stateMarks R n w) w
+    pub agreement : poolLength R n ≤ length w → Agreement R n (graphOf R w) (isPointAt R w) (stateMarks R n w) w
     agreement room =
         record {
           room = room;
@@ -68,7 +67,7 @@ module _ (R n : ℕ) (w : List ℕ) where
               λ x e.
               let used = unmarked-used x e in
               let links = used-links well used in
-              record { state = used-is (state R w x) (used .state); left = refl; right = refl; left-bound = link-bound (links .0); right-bound = link-bound (links .1) };
+              record { state = used .state; kind = refl; left = refl; right = refl; left-bound = link-bound (links .0); right-bound = link-bound (links .1) };
           marked = marked-other;
         }
 

@@ -8,28 +8,27 @@ use mathlib.Core.Bool.{true, false, true≢false, false≢true}
 use lib.ListN.{length, drop}
 use lib.Seq.{drop-cons, drop-length}
 use Rattle.graph.proofs.Theorems.{preorder-length}
-use Rattle.pool.specs.Layout.{cellLimit, poolLength, register, setCell, rootsOf, graphOf}
+use Rattle.pool.specs.Layout.{cellLimit, poolLength, register, setCell, isPointAt, rootsOf, graphOf}
 use Rattle.questions.specs.Validity.{wellFormed}
 use Rattle.pool.proofs.Every.{length-tabulate, getD-tabulate, member-tabulate}
 use Rattle.pool.proofs.Laws.{register-setCell, length-setCell}
 use Rattle.questions.proofs.WellFormed.{well-formed-read}
 use Rattle.questions.proofs.PoolGraph.{pool-within}
 use Rattle.reversal.specs.declared.Marker.{Marker}
-use Rattle.reversal.specs.Reversal.{unmarked, visitOf, Visits, Run, MarkRoots}
+use Rattle.reversal.specs.Reversal.{unmarked, Visits, Run, MarkRoots}
 use Rattle.reversal.specs.Steps.{EndingRun}
 use Rattle.reversal.specs.ReversalTheorem.{markedOf}
-use Rattle.reversal.proofs.RunLoop.{counted}
+use Rattle.reversal.proofs.RunLoop.{visit-keeps, counted}
 use Rattle.reversal.specs.Reached.{reachedCells}
-use Rattle.reversal.proofs.VisitCount.{visits-three}
+use Rattle.reversal.proofs.VisitCount.{visits-most}
 use Rattle.reversal.proofs.Roots.{run-over-pool}
 
 module _ (R n : ℕ) where
   -- a part of the words that no write to a cell changes is as it was after the visits
   visits-keep : {A : Type 0} (part : List ℕ → A) → ((w : List ℕ) (i f v : ℕ) → part (setCell R w i f v) ≡ part w) → {k : ℕ} {s t : Marker × List ℕ}
       → Visits R n k s t → part (t .1) ≡ part (s .1)
-  unfolding visitOf
   visits-keep part same Visits.done = refl
-  visits-keep part same (Visits.more {s = s} v rest) = visits-keep part same rest ∙ simp same
+  visits-keep part same (Visits.more {s = s} v rest) = visits-keep part same rest ∙ visit-keeps R s part same
 
   -- the first of several roots: a run from it where it is unmarked, and nothing otherwise
   roots-next : {l : List ℕ} {s t : ℕ × List ℕ} → MarkRoots R n l s t → (p : ℕ) (ps : List ℕ) → l ≡ p ∷ ps
@@ -91,7 +90,7 @@ module _ (R n : ℕ) where
       marking-ends limit e =
           let (u, run, rest) = next .0 e in
           let most = preorder-length n (graphOf R w₀) (rootsOf R w₀) (pool-within (well-formed-read R n w₀ well)) in
-          record { last = u; run = run; fits = omega (arith, roots-more rest, visits-three (reachedCells R n w₀)) }
+          record { last = u; run = run; fits = omega (arith, roots-more rest, visits-most (isPointAt R w₀) (reachedCells R n w₀)) }
 
       pub marking-run : (visits' : ℕ) (w' : List ℕ) → unmarked R w p ≡ true
           → ((u : ℕ × List ℕ) → Run R n p (visits, w) u → _≡_ {A = ℕ × List ℕ} (visits', w') u) → Marking w₀ w' visits' (k + 1)

@@ -5,30 +5,51 @@ use mathlib.Core.Path.{_≡_, refl, ap, _∙_}
 use mathlib.Core.List.{List}
 use mathlib.Core.Bool.{Bool, true, false, cond, _||_}
 use lib.ListN.{length}
-use Rattle.pool.specs.Layout.{poolLength, setCell, state, left}
+use Rattle.pool.specs.Layout.{poolLength, setCell, state, left, right, isPointAt}
 use Rattle.pool.specs.States.{isMarked}
 use Rattle.pool.proofs.Laws.{length-setCell}
 use Rattle.reversal.specs.declared.Marker.{Marker}
 use Rattle.reversal.specs.Reversal.{unmarked, visitOf, Visitable, Visits, marker, Run}
 use Rattle.reversal.specs.Steps.{EndingRun}
 
-length-visit : (R : ℕ) (s : Marker × List ℕ) → length (visitOf R s .1) ≡ length (s .1)
-unfolding visitOf
-length-visit R s = simp length-setCell
+module _ (R : ℕ) (s : Marker × List ℕ) where
+  abbrev p : ℕ
+  p = s .0 .cell
 
-visits-visit : (R : ℕ) (s : Marker × List ℕ) → visitOf R s .0 .visits ≡ suc (s .0 .visits)
-unfolding visitOf
-visits-visit R s = go (isMarked (state R w p) || unmarked R w (left R (s .1) p))
-  where
-    p : ℕ
-    p = s .0 .cell
+  abbrev w : List ℕ
+  w = setCell R (s .1) p 0 (suc (state R (s .1) p))
 
-    w : List ℕ
-    w = setCell R (s .1) p 0 (suc (state R (s .1) p))
+  -- what a visit of a point, and of a pair, gives
+  abbrev of-point : Marker × List ℕ
+  of-point = (marker (s .0 .previous) p (suc (s .0 .visits)), w)
 
-    go : (on : Bool) → (cond on (marker (left R (s .1) p) p (suc (s .0 .visits))) (marker p (left R (s .1) p) (suc (s .0 .visits)))) .visits ≡ suc (s .0 .visits)
-    go true = refl
-    go false = refl
+  abbrev of-pair : Marker × List ℕ
+  of-pair = (
+    cond (isMarked (state R w p) || unmarked R w (left R (s .1) p)) (marker (left R (s .1) p) p (suc (s .0 .visits))) (marker p (left R (s .1) p) (suc (s .0 .visits))),
+    setCell R (setCell R w p 1 (right R w p)) p 2 (s .0 .previous),
+  )
+
+  -- a part of the words that no write to a cell changes is as it was
+  pub visit-keeps : {A : Type 0} (part : List ℕ → A) → ((v : List ℕ) (i f x : ℕ) → part (setCell R v i f x) ≡ part v) → part (visitOf R s .1) ≡ part (s .1)
+  unfolding visitOf
+  visit-keeps part same = go (isPointAt R w p)
+    where
+      go : (t : Bool) → part ((cond t of-point of-pair) .1) ≡ part (s .1)
+      go true = same (s .1) p 0 (suc (state R (s .1) p))
+      go false = same _ p 2 (s .0 .previous) ∙ (same w p 1 (right R w p) ∙ same (s .1) p 0 (suc (state R (s .1) p)))
+
+  visits-visit : visitOf R s .0 .visits ≡ suc (s .0 .visits)
+  unfolding visitOf
+  visits-visit = go (isPointAt R w p) (isMarked (state R w p) || unmarked R w (left R (s .1) p))
+    where
+      go : (t on : Bool)
+          → (cond t of-point (
+            cond on (marker (left R (s .1) p) p (suc (s .0 .visits))) (marker p (left R (s .1) p) (suc (s .0 .visits))),
+            setCell R (setCell R w p 1 (right R w p)) p 2 (s .0 .previous),
+          )) .0 .visits ≡ suc (s .0 .visits)
+      go true on = refl
+      go false true = refl
+      go false false = refl
 
 module _ (R n : ℕ) where
   -- every visit counts
@@ -100,7 +121,7 @@ module _ {R n p c : ℕ} {w₀ : List ℕ} {top : ℕ} {w : List ℕ} {m : Marke
     in-hand-next =
         let once : m' .visits ≡ suc (m .visits) = ap (λ (s : Marker × List ℕ). s .0 .visits) e ∙ visits-visit R (m, w) in (
           record {
-            len = ap (λ (s : Marker × List ℕ). length (s .1)) e ∙ (length-visit R (m, w) ∙ h .going .len);
+            len = ap (λ (s : Marker × List ℕ). length (s .1)) e ∙ (visit-keeps R (m, w) length (length-setCell R) ∙ h .going .len);
             rest = λ u run.
                 let (k, q, left) = h .going .rest u run in
                 let (v, fewer, (j, others)) = visits-next R n left (omega arith) (h .bounded) in

@@ -1,20 +1,25 @@
 -- One visit as the code makes it, step by step, is the visit of the definition.
-use Prim.Native.Nat.{ℕ, _+_, _≤_}
+use Prim.Native.Nat.{ℕ, _+_, _<_, _≤_}
 use native.Mathlib.Omega.{arith}
 use native.Mathlib.Numerals.{add-one}
 use mathlib.Core.Path.{_≡_, ap, _∙_}
+use mathlib.Core.Logic.{⊎-elim}
 use mathlib.Core.List.{List}
 use mathlib.Core.Bool.{false}
 use lib.ListN.{length}
-use borrow.Author.Tests.{eqb-false}
 use Rattle.pool.specs.Layout.{poolLength, setCell, state, left}
-use Rattle.pool.specs.States.{isMarked, markedState}
+use Rattle.pool.specs.States.{pointState, isMarked}
+use Rattle.pool.proofs.States.{unmarked-other}
 use Rattle.pool.proofs.Laws.{cell-same}
 use Rattle.reversal.specs.declared.Marker.{Marker}
 use Rattle.reversal.specs.declared.VisitCase.{VisitCase}
 use Rattle.reversal.specs.Reversal.{visitOf, Visitable, marker}
 use Rattle.reversal.specs.Cases.{caseOf, actOf, added}
 use Rattle.reversal.proofs.Cases.{next-link, visit-is-by-case}
+
+-- the mark is small
+pub mark-bound : {R n : ℕ} {m : Marker} {w : List ℕ} → Visitable R n (m, w) → state R w (m .cell) < 6
+mark-bound v = ⊎-elim (λ e. omega arith) (λ low. omega arith) (v .early)
 
 -- the addition to the mark
 pub record Added (R n : ℕ) (m : Marker) (w w₁ : List ℕ) : Type 0 where
@@ -26,15 +31,33 @@ module _ {R n : ℕ} {m : Marker} {w w₁ : List ℕ} (h : Added R n m w w₁) w
   written : w₁ ≡ added R (m, w)
   written = h .words ∙ ap (setCell R w (m .cell) 0) (add-one (state R w (m .cell)))
 
-  -- unless this is the third visit, the next link is nil or a cell
-  pub next-bound : isMarked (state R w₁ (m .cell)) ≡ false → left R w₁ (m .cell) ≤ n
+  -- the mark then
+  mark-now : state R w₁ (m .cell) ≡ state R w (m .cell) + 1
+  mark-now =
+      ap (λ (v : List ℕ). state R v (m .cell)) (h .words)
+      ∙ cell-same R w (m .cell) 0 (state R w (m .cell) + 1) (h .visitable .positive) (omega arith) (omega (arith, h .room, h .visitable .bounded))
+
+  -- is not that of a point that is not marked yet
+  not-point : state R w₁ (m .cell) ≡ pointState → ⊥
+  not-point e = ⊎-elim (λ is. omega (arith, mark-now)) (λ low. omega (arith, mark-now)) (h .visitable .early)
+
+  -- unless the cell is marked now, the next link is nil or a cell
+  next-bound : isMarked (state R w₁ (m .cell)) ≡ false → left R w₁ (m .cell) ≤ n
   next-bound other =
       let p = m .cell in
-      let mark : state R w₁ p ≡ state R w p + 1 =
-      ap (λ (v : List ℕ). state R v p) (h .words)
-      ∙ cell-same R w p 0 (state R w p + 1) (h .visitable .positive) (omega arith) (omega (arith, h .room, h .visitable .bounded)) in
+      let mark = mark-now in
       let same : left R w₁ p ≡ left R w p = ap (λ (v : List ℕ). left R v p) written ∙ next-link R (m, w) (h .visitable .positive) in
-      rw same (h .visitable .link (omega (arith, mark, h .visitable .early, eqb-false (state R w₁ p) markedState other)))
+      let (apart, apart') = unmarked-other (state R w₁ p) other in
+      rw same (h .visitable .link (⊎-elim (λ e. absurd (apart' (omega arith))) (λ low. omega (arith, mark, low, apart)) (h .visitable .early)))
+
+  -- so the case can be chosen
+  pub choosable : length w₁ ≡ length w
+      → ((0 < m .cell) × (poolLength R (m .cell) ≤ length w₁) × (state R w₁ (m .cell) ≡ pointState → ⊥))
+      × (isMarked (state R w₁ (m .cell)) ≡ false → poolLength R (left R w₁ (m .cell)) ≤ length w₁)
+  choosable same = (
+    (h .visitable .positive, omega (arith, h .visitable .bounded, h .room, same), not-point),
+    λ other. omega (arith, next-bound other, h .room, same),
+  )
 
   -- the case does what the visit does
   pub visit-made : (case : VisitCase) → case ≡ caseOf R w₁ (m .cell)

@@ -1,10 +1,11 @@
--- The visit by its five cases (02, S-4; Gries 2006, "How the invariant is maintained depends on node p, after 1 is added to m[p]").
+-- The visit by its cases, five of a pair and one of a point (02, S-4 and S-8; Gries 2006, "How the invariant is maintained depends on node p, after 1 is
+-- added to m[p]").
 use Prim.Native.Nat.{ℕ, zero, suc, _+_}
 use mathlib.Core.List.{List, [], _∷_, _++_}
 use mathlib.Core.Bool.{Bool, true, false, cond}
 use lib.Dec.{eqb}
 use Rattle.graph.specs.Preorder.{elem}
-use Rattle.pool.specs.Layout.{state, left, right, setCell}
+use Rattle.pool.specs.Layout.{state, left, right, setCell, isPointAt}
 use Rattle.pool.specs.States.{isMarked}
 use Rattle.reversal.specs.declared.Marker.{Marker}
 use Rattle.reversal.specs.declared.VisitCase.{VisitCase}
@@ -13,12 +14,14 @@ use Rattle.reversal.specs.Reversal.{unmarked, visitOf, marker, Run, Mark
 
 -- The case of the cell p in hand, "chosen by the mark after the addition and the state of the next link": of m[p], which is 1, 2 or 3 then, and of l[p].
 -- 1. m[p] = 3; 2. m[p] = 1, and l[p] is unmarked; 3. m[p] = 1, and l[p] is marked or nil; 4. m[p] = 2, and l[p] is unmarked; 5. m[p] = 2, and l[p] is marked or nil.
+-- A point has a case of its own, in which nothing of l[p] is asked.
 abbrev pub caseOf : ℕ → List ℕ → ℕ → VisitCase
 caseOf R w p =
-    cond (isMarked (state R w p)) visit.Retreat
+    cond (isPointAt R w p) visit.Point
+    (cond (isMarked (state R w p)) visit.Retreat
     (cond (eqb (state R w p) 1)
     (cond (unmarked R w (left R w p)) visit.FollowLeft visit.PassLeft)
-    (cond (unmarked R w (left R w p)) visit.FollowRight visit.PassRight))
+    (cond (unmarked R w (left R w p)) visit.FollowRight visit.PassRight)))
 
 -- Both links of the cell i written.
 abbrev pub setLinks : ℕ → List ℕ → ℕ → ℕ → ℕ → List ℕ
@@ -36,6 +39,10 @@ threeWay R s =
     let p = s .0 .cell in
     (marker p (left R (s .1) p) (s .0 .visits), setLinks R (s .1) p (right R (s .1) p) (s .0 .previous))
 
+-- Of a point: p and q change places, and its words stay.
+abbrev pub twoWay : ℕ → Marker × List ℕ → Marker × List ℕ
+twoWay R s = (marker (s .0 .previous) (s .0 .cell) (s .0 .visits), s .1)
+
 -- What each case does to the cell, to p and to q.
 abbrev pub actOf : ℕ → VisitCase → Marker × List ℕ → Marker × List ℕ
 -- 1. "p should be removed from path P, and its backpointer B_p should become the new node p": it stands in l[p].
@@ -48,6 +55,8 @@ actOf R visit.PassLeft s = threeWay R s
 actOf R visit.FollowRight s = fourWay R s
 -- 5. "there is nothing to do with p's right successor"
 actOf R visit.PassRight s = threeWay R s
+-- "A point is marked by one visit": it has no link to follow, and its predecessor is in hand again.
+actOf R visit.Point s = twoWay R s
 
 -- "add 1 to m[p]": the words then.
 abbrev pub added : ℕ → Marker × List ℕ → List ℕ
@@ -73,6 +82,7 @@ follows visit.FollowLeft = true
 follows visit.PassLeft = false
 follows visit.FollowRight = true
 follows visit.PassRight = false
+follows visit.Point = false
 
 -- The cases that are four-way exchanges, as `actOf` has them: 1, 2 and 4.
 abbrev pub isFourWay : VisitCase → Bool
@@ -81,6 +91,7 @@ isFourWay visit.FollowLeft = true
 isFourWay visit.PassLeft = false
 isFourWay visit.FollowRight = true
 isFourWay visit.PassRight = false
+isFourWay visit.Point = false
 
 -- The cells that the visits of cases 2 and 4 go to, in the order of the visits.
 unfoldable pub followed : List (VisitCase × ℕ) → List ℕ

@@ -1,10 +1,10 @@
 -- The cells that the registers reach, and the visits that marking makes of them.
-use Prim.Native.Nat.{ℕ, _+_}
+use Prim.Native.Nat.{ℕ, _+_, _*_}
 use mathlib.Core.List.{List, [], _∷_}
-use mathlib.Core.Bool.{Bool}
+use mathlib.Core.Bool.{Bool, cond}
 use lib.ListN.{length}
 use Rattle.graph.specs.Preorder.{elem, preorder}
-use Rattle.pool.specs.Layout.{graphOf, rootsOf}
+use Rattle.pool.specs.Layout.{isPointAt, graphOf, rootsOf}
 
 -- The cells that the registers reach, in depth-first preorder.
 abbrev pub reachedCells : ℕ → ℕ → List ℕ → List ℕ
@@ -18,15 +18,19 @@ isReached R n w i = elem i (reachedCells R n w)
 abbrev pub reachedCount : ℕ → ℕ → List ℕ → ℕ
 reachedCount R n w = length (reachedCells R n w)
 
--- The visits that marking makes of a cell: three ("3 × kept").
-abbrev pub cellVisits : ℕ → ℕ
-cellVisits x = 3
+-- How many of several cells are pairs, and how many points, where `point` tells which are points.
+unfoldable pub pairCount : (ℕ → Bool) → List ℕ → ℕ
+pairCount point [] = 0
+pairCount point (x ∷ xs) = cond (point x) 0 1 + pairCount point xs
 
--- The visits of several cells.
-unfoldable pub visitsOf : List ℕ → ℕ
-visitsOf [] = 0
-visitsOf (x ∷ xs) = cellVisits x + visitsOf xs
+unfoldable pub pointCount : (ℕ → Bool) → List ℕ → ℕ
+pointCount point [] = 0
+pointCount point (x ∷ xs) = cond (point x) 1 0 + pointCount point xs
+
+-- The visits that marking makes of several cells: "A point is marked by one visit, so visits are 3 × pairs + points" (02, S-8).
+abbrev pub visitsOf : (ℕ → Bool) → List ℕ → ℕ
+visitsOf point xs = 3 * pairCount point xs + pointCount point xs
 
 -- The visits of all that the registers reach.
 abbrev pub reachedVisits : ℕ → ℕ → List ℕ → ℕ
-reachedVisits R n w = visitsOf (reachedCells R n w)
+reachedVisits R n w = visitsOf (isPointAt R w) (reachedCells R n w)

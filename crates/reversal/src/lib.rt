@@ -6,7 +6,7 @@ ghost use mathlib.Core.List.{List};
 ghost use mathlib.Core.Bool.{true, false};
 ghost use lib.ListN.{length};
 ghost use Rattle.pool.specs.Layout.{registerCount, cellLimit, poolLength, state, left};
-ghost use Rattle.pool.specs.States.{isMarked};
+ghost use Rattle.pool.specs.States.{pointState, isMarked};
 ghost use Rattle.questions.specs.Validity.{wellFormed};
 ghost use Rattle.reversal.specs.Reversal.{unmarked, visitOf, Visitable, Run};
 ghost use Rattle.reversal.specs.Cases.{setLinks, caseOf, actOf};
@@ -31,7 +31,8 @@ pub fn is_unmarked(words: &[u32], x: u32) -> bool
     pool::is_used(pool::read_cell(words, x, Pool::STATE))
 }
 
-// What a visit does: the five cases of Gries 2006, in their order there. m[p] is the mark of the cell p in hand, to which 1 was just added.
+// What a visit does: of a pair the five cases of Gries 2006, in their order there, and the one of a point. m[p] is the mark of the cell p in hand, to which 1
+// was just added.
 pub enum VisitCase {
     // 1. m[p] = 3.
     Retreat,
@@ -43,19 +44,24 @@ pub enum VisitCase {
     FollowRight,
     // 5. m[p] = 2, and the right successor is marked or nil.
     PassRight,
+    // p is a point.
+    Point,
 }
 
 // The case of the cell p, by its mark, to which 1 was added, and by the state of the next link. At the third visit that is the backpointer, of which nothing
-// is read: it may be the virtual root.
+// is read: it may be the virtual root. Nor is anything read of a point's words.
 fn choose(words: &[u32], p: u32) -> VisitCase
-    requires { ⌜ (0 < p) × (poolLength registerCount p ≤ length (now words)) ⌝ }
+    requires { ⌜ (0 < p) × (poolLength registerCount p ≤ length (now words)) × (state registerCount (now words) p ≡ pointState → ⊥) ⌝ }
     requires { ⌜ (isMarked (state registerCount (now words) p) ≡ false → poolLength registerCount (left registerCount (now words) p) ≤ length (now words)) ⌝ }
     ensures { λ r. ⌜ r ≡ caseOf registerCount (now (words .entry)) p ⌝ }
 {
     let mark = pool::read_cell(words, p, Pool::STATE);
     let next = pool::read_cell(words, p, Pool::LEFT);
-    if pool::is_marked(mark) {
+    if mark == Pool::MARKED_PAIR {
         return VisitCase::Retreat;
+    }
+    if mark == Pool::MARKED_POINT {
+        return VisitCase::Point;
     }
     if mark == 1 {
         if is_unmarked(words, next) {
@@ -79,7 +85,7 @@ fn set_links(words: &mut [u32], p: u32, left: u32, right: u32)
 }
 
 impl Marker {
-    // One visit of the cell in hand: 1 is added to its mark, and then one of the five cases acts.
+    // One visit of the cell in hand: 1 is added to its mark, and then one of the cases acts.
     pub fn visit(mut self, words: &mut [u32], n: u32) -> Marker
         requires { ⌜ (Visitable registerCount n (self, now words)) × (poolLength registerCount n ≤ length (now words)) × (self .visits + 1 < 2 ^ 32) ⌝ }
         ensures { λ r. ⌜ (r, now (words .exit)) ≡ visitOf registerCount (self, now (words .entry)) ⌝ }
@@ -92,7 +98,7 @@ impl Marker {
         self.act(words, case)
     }
 
-    // What each case does to the cell p in hand, to p, and to its predecessor q. In every one "the values of l[p], r[p], and q have to be changed because
+    // What each case does to the cell p in hand, to p, and to its predecessor q. In every one of a pair "the values of l[p], r[p], and q have to be changed because
     // 1 was added to m[p]": they hold the left successor L_p, the right one R_p and the backpointer B_p, each moving one place on with every visit.
     fn act(mut self, words: &mut [u32], case: VisitCase) -> Marker
         requires { ⌜ (0 < self .cell) × (poolLength registerCount (self .cell) ≤ length (now words)) ⌝ }
@@ -140,12 +146,22 @@ impl Marker {
                 self.previous = l;
                 self
             }
+            // A point has no link to follow: its only visit marks it, its words stay, and its predecessor is in hand again.
+            VisitCase::Point => {
+                self.cell = q;
+                self.previous = p;
+                self
+            }
         }
     }
 }
 
+// The mark of a pair that was visited twice. A cell in hand that has a higher state is a point.
+const SECOND_MARK: u32 = 2;
+
 // Marks from an unmarked link until the virtual root, which is no cell, is in hand. Gives the visits made so far. Gries makes one visit in a turn of
-// the loop; here a turn makes the visits of one cell as long as it stays in hand, three at most, so that the processor need not store and load its words between them.
+// the loop; here a turn makes the visits of one cell as long as it stays in hand, three at most, so that the processor need not store and load its words between them; a
+// point has one, and is told apart first, so that no visit of a pair asks for it.
 fn mark_from(words: &mut [u32], n: u32, p: u32, visits: u32) -> u32
     requires { ⌜ EndingRun registerCount n p (visits, now words) ⌝ }
     requires { ⌜ (poolLength registerCount n ≤ length (now words)) × (n ≤ cellLimit) ⌝ }
@@ -158,6 +174,10 @@ fn mark_from(words: &mut [u32], n: u32, p: u32, visits: u32) -> u32
     };
     while m.cell <= n {
         let cell = m.cell;
+        if SECOND_MARK < pool::read_cell(words, cell, Pool::STATE) {
+            m = m.visit(words, n);
+            continue;
+        }
         m = m.visit(words, n);
         if m.cell != cell {
             continue;

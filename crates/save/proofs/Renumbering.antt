@@ -1,7 +1,8 @@
 -- The graph of a loaded save: it is paired one-to-one with the saved graph, so its cells are visited in the order of their numbers.
 use Prim.Native.Nat.{ℕ, zero, suc, _-_, _<_, _≤_}
 use native.Mathlib.Omega.{arith}
-use mathlib.Core.Path.{_≡_, sym, ap, _∙_}
+use mathlib.Core.Path.{_≡_, refl, sym, ap, _∙_}
+use mathlib.Core.Bool.{Bool, true, false}
 use mathlib.Core.Logic.{⊎-elim}
 use mathlib.Core.List.{List, List·Memᴰ}
 use lib.ListN.{length, getD}
@@ -13,19 +14,20 @@ use Rattle.graph.proofs.Reached.{reach-above}
 use Rattle.graph.proofs.Theorems.{preorder-reached, preorder-distinct}
 use Rattle.graph.proofs.Pairing.{paired-least, preorder-paired, length-paired, pairing-kept}
 use Rattle.pool.specs.Words.{tabulate}
-use Rattle.pool.specs.Layout.{poolLength, register, cell, left, right, value, graphOf, rootsOf}
+use Rattle.pool.specs.Layout.{poolLength, register, cell, value, isPointAt, linkOf, graphOf, rootsOf}
+use Rattle.pool.proofs.Links.{link-pair, link-point}
 use Rattle.pool.proofs.Every.{length-tabulate, getD-tabulate, tabulate-list}
 use Rattle.questions.proofs.WellFormed.{WellFormed}
 use Rattle.questions.proofs.PoolGraph.{pool-within}
 use Rattle.reversal.specs.Reached.{reachedCells, reachedCount}
 use Rattle.image.specs.declared.ImageCell.{ImageCell}
-use Rattle.image.specs.Image.{numberIn, savedCell, savedImage}
+use Rattle.image.specs.Image.{isPointKind, numberIn, savedWord, savedCell, savedImage}
 use Rattle.image.proofs.Images.{LinksWithin}
 use Rattle.load.specs.Load.{loadedWords}
 use Rattle.load.proofs.Putting.{imageField}
-use Rattle.load.proofs.LoadedPool.{loaded-register, loaded-cell, loaded-well-formed}
-use Rattle.numbering.proofs.Numbering.{place-none, number-member, number-placed, number-at}
-use Rattle.save.proofs.SavedImage.{image-registers, image-cells, image-register, image-cell}
+use Rattle.load.proofs.LoadedPool.{loaded-register, loaded-cell, loaded-kind, loaded-well-formed}
+use Rattle.numbering.proofs.Numbering.{place-none, number-member, Placed, number-placed, number-at}
+use Rattle.save.proofs.SavedImage.{image-registers, image-cells, image-register, image-cell, kind-again}
 
 module _ (R n : ℕ) (w : List ℕ) (m : ℕ) (few : reachedCount R n w ≤ m) (words : List ℕ) (long : poolLength R m ≤ length words) where
   abbrev order : List ℕ
@@ -38,20 +40,26 @@ module _ (R n : ℕ) (w : List ℕ) (m : ℕ) (few : reachedCount R n w ≤ m) (
   room : length (savedImage R w order .cells) ≤ m
   room = omega (arith, image-cells R w order)
 
-  loaded-field : (p f : ℕ) → p < length order → f < 3 → cell R loaded (suc p) (suc f) ≡ imageField (savedCell R w order (getD order p 0)) f
+  loaded-field : (p f : ℕ) → p < length order → suc f < 4 → cell R loaded (suc p) (suc f) ≡ imageField (savedCell R w order (getD order p 0)) (suc f)
   loaded-field p f below hf =
       loaded-cell R m (savedImage R w order) room (image-registers R w order) words long p f (omega (arith, image-cells R w order)) hf
-      ∙ ap (λ (c : ImageCell). imageField c f) (image-cell R w order p below)
+      ∙ ap (λ (c : ImageCell). imageField c (suc f)) (image-cell R w order p below)
+
+  -- A cell is of the kind that it was.
+  pub renumbered-kind : (p : ℕ) → p < length order → isPointAt R loaded (suc p) ≡ isPointAt R w (getD order p 0)
+  renumbered-kind p below =
+      loaded-kind R m (savedImage R w order) room (image-registers R w order) words long p (omega (arith, image-cells R w order))
+      ∙ (ap (λ (c : ImageCell). isPointKind (c .kind)) (image-cell R w order p below) ∙ kind-again (isPointAt R w (getD order p 0)))
 
   pub renumbered-register : (k : ℕ) → k < R → register loaded k ≡ numberIn order (register w k)
   renumbered-register k low =
       loaded-register R m (savedImage R w order) room (image-registers R w order) words long k low ∙ image-register R w order k low
 
-  pub renumbered-link : (p f : ℕ) → p < length order → f < 2
-      → cell R loaded (suc p) (suc f) ≡ numberIn order (cell R w (getD order p 0) (suc f))
-  renumbered-link p zero below hf = loaded-field p 0 below (omega arith)
-  renumbered-link p (suc zero) below hf = loaded-field p 1 below (omega arith)
-  renumbered-link p (suc (suc f)) below hf = absurd (omega arith)
+  pub renumbered-word : (p f : ℕ) → p < length order → f < 2
+      → cell R loaded (suc p) (suc f) ≡ savedWord (isPointAt R w (getD order p 0)) order (cell R w (getD order p 0) (suc f))
+  renumbered-word p zero below hf = loaded-field p 0 below (omega arith)
+  renumbered-word p (suc zero) below hf = loaded-field p 1 below (omega arith)
+  renumbered-word p (suc (suc f)) below hf = absurd (omega arith)
 
   pub renumbered-value : (p : ℕ) → p < length order → value R loaded (suc p) ≡ value R w (getD order p 0)
   renumbered-value p below = loaded-field p 2 below (omega arith)
@@ -104,18 +112,42 @@ module _ (R n : ℕ) (w : List ℕ) (m : ℕ) (few : reachedCount R n w ≤ m) (
         )
 
     links-numbered : (x y : ℕ) → Numbers x y → 0 < x → 0 < y
-        → Numbers (left R w x) (left R loaded y) × Numbers (right R w x) (right R loaded y)
+        → Numbers (linkOf R w x 1) (linkOf R loaded y 1) × Numbers (linkOf R w x 2) (linkOf R loaded y 2)
     links-numbered x y h hx hy =
-        let reach = h .0 hx in
-        let placed = number-placed order x (omega (arith, h .1)) in
-        let p = y - 1 in
-        let here : getD order p 0 ≡ x = ap (λ (k : ℕ). getD order (k - 1) 0) (h .1) ∙ placed .named in
-        let this : y ≡ suc p = omega arith in
-        let below : p < length order = omega (arith, placed .high, h .1) in
-        let link : (f : ℕ) → f < 2 → cell R loaded y (suc f) ≡ numberIn order (cell R w x (suc f)) = λ f hf.
-        ap (λ (k : ℕ). cell R loaded k (suc f)) this
-        ∙ (renumbered-link p f below hf ∙ ap (λ (k : ℕ). numberIn order (cell R w k (suc f))) here) in
-        ((Reach.left reach, link 0 (omega arith)), (Reach.right reach, link 1 (omega arith)))
+        let reach = h .0 hx in ((Reach.left reach, link 0 (omega arith)), (Reach.right reach, link 1 (omega arith)))
+      where
+        p : ℕ
+        p = y - 1
+
+        placed : Placed 1 order x
+        placed = number-placed order x (omega (arith, h .1))
+
+        here : getD order p 0 ≡ x
+        here = ap (λ (k : ℕ). getD order (k - 1) 0) (h .1) ∙ placed .named
+
+        this : y ≡ suc p
+        this = omega arith
+
+        below : p < length order
+        below = omega (arith, placed .high, h .1)
+
+        kind : isPointAt R loaded y ≡ isPointAt R w x
+        kind = ap (isPointAt R loaded) this ∙ (renumbered-kind p below ∙ ap (isPointAt R w) here)
+
+        word : (f : ℕ) → f < 2 → cell R loaded y (suc f) ≡ savedWord (isPointAt R w x) order (cell R w x (suc f))
+        word f hf =
+            ap (λ (k : ℕ). cell R loaded k (suc f)) this
+            ∙ (renumbered-word p f below hf ∙ ap (λ (k : ℕ). savedWord (isPointAt R w k) order (cell R w k (suc f))) here)
+
+        link : (f : ℕ) → f < 2 → linkOf R loaded y (suc f) ≡ numberIn order (linkOf R w x (suc f))
+        link f hf = go (isPointAt R w x) refl
+          where
+            go : (t : Bool) → isPointAt R w x ≡ t → linkOf R loaded y (suc f) ≡ numberIn order (linkOf R w x (suc f))
+            go true is = link-point R loaded y (suc f) (kind ∙ is) ∙ sym (ap (numberIn order) (link-point R w x (suc f) is) ∙ nil-number)
+            go false is =
+                link-pair R loaded y (suc f) (kind ∙ is)
+                ∙ (word f hf
+                ∙ (ap (λ (t : Bool). savedWord t order (cell R w x (suc f))) is ∙ ap (numberIn order) (sym (link-pair R w x (suc f) is))))
 
     same-roots : length (rootsOf R w) ≡ length (rootsOf R loaded)
     same-roots = length-tabulate R (λ k. register w k) ∙ sym (length-tabulate R (λ k. register loaded k))

@@ -1,7 +1,7 @@
 -- The proofs of the statements in `specs/RoundTrip`.
 use Prim.Native.Nat.{ℕ, zero, suc, _+_, _*_, _<_, _≤_}
 use native.Mathlib.Omega.{arith}
-use mathlib.Core.Path.{_≡_, refl, sym, ap, _∙_}
+use mathlib.Core.Path.{_≡_, refl, sym, ap, ap₂, _∙_}
 use mathlib.Core.List.{List, [], _++_}
 use mathlib.Core.Bool.{Bool, true, false}
 use lib.ListN.{length, getD, take, drop}
@@ -9,25 +9,29 @@ use lib.Dec.{leb, ltb}
 use lib.Seq.{drop-append-seam, ext-getD}
 use borrow.Author.Tests.{lt-ltb, le-leb, ltb-true, leb-true}
 use Rattle.graph.specs.Theorems.{Distinct}
-use Rattle.graph.proofs.Theorems.{preorder-distinct, preorder-length}
+use Rattle.graph.proofs.Theorems.{preorder-distinct, preorder-length, preorder-reached}
+use Rattle.graph.proofs.Lists.{getD-member}
 use Rattle.pool.specs.Words.{tabulate}
-use Rattle.pool.specs.Layout.{registerCount, cellLimit, poolLength, cellCountOfLength, cellCount, cell, graphOf, rootsOf}
+use Rattle.pool.specs.Layout.{registerCount, cellLimit, poolLength, cellCountOfLength, cellCount, cell, state, isPointAt, graphOf, rootsOf}
+use Rattle.pool.specs.States.{isUsed}
+use Rattle.pool.proofs.States.{same-state}
 use Rattle.questions.specs.Validity.{wellFormed}
 use Rattle.pool.specs.Retain.{freeCells}
 use Rattle.answers.specs.Outcome.{Outcome, answered, status, given}
 use Rattle.pool.proofs.Every.{length-tabulate, getD-tabulate, tabulate-member}
 use Rattle.pool.proofs.Sizes.{Sized, length-sized, cells-sized}
 use Rattle.questions.proofs.WellFormed.{WellFormed, well-formed-read, well-formed-made}
-use Rattle.questions.proofs.PoolGraph.{pool-within}
+use Rattle.questions.proofs.PoolGraph.{reached-used, pool-within}
 use Rattle.reversal.specs.Reached.{reachedCells, reachedCount}
-use Rattle.image.specs.Image.{numberIn, Image, savedCell, savedImage, imageBytes, imageOf, parsed, readImage}
+use Rattle.image.specs.declared.ImageCell.{ImageCell}
+use Rattle.image.specs.Image.{kindOf, isPointKind, numberIn, savedWord, Image, savedCell, savedImage, imageBytes, imageOf, parsed, readImage}
 use Rattle.image.proofs.Reading.{between-taken, each-at}
 use Rattle.image.proofs.Images as images
 use Rattle.image.proofs.Decoding.{Encodable, encodable-links, image-encoded}
 use Rattle.load.specs.declared.Loaded.{Loaded}
 use Rattle.load.specs.Load.{loadedWords, loadOf}
-use Rattle.load.proofs.Putting.{noCell}
-use Rattle.load.proofs.LoadedPool.{loaded-register, loaded-cell, loaded-cells, loaded-free, loaded-well-formed}
+use Rattle.load.proofs.Putting.{imageField, noCell}
+use Rattle.load.proofs.LoadedPool.{loaded-register, loaded-cell, loaded-kind, loaded-used, loaded-cells, loaded-free, loaded-well-formed}
 use Rattle.save.specs.Save.{saveImage, saveOf}
 use Rattle.save.specs.RoundTrip.{Words, Renumbered, Restored, SaveThenLoad, LoadThenSave}
 use Rattle.numbering.proofs.Numbering.{place-none, number-at}
@@ -63,15 +67,41 @@ module _ (R m : ℕ) (i : Image) (few : length (i .cells) ≤ m) (all : length (
       image-register R pool order k low ∙ (ap (numberIn order) here ∙ own-number _ (each-at (links .registers) k 0 (omega arith)))
 
   same-cell : (p : ℕ) → p < K → savedCell R pool order (suc p) ≡ getD (i .cells) p noCell
-  same-cell p below =
-      let c = each-at (links .cells) p noCell below in
-      let field = loaded-cell R m i few all words long p in
-      let l : numberIn order (cell R pool (suc p) 1) ≡ getD (i .cells) p noCell .left =
-      ap (numberIn order) (field 0 below (omega arith)) ∙ own-number _ (c .left-most) in
-      let r : numberIn order (cell R pool (suc p) 2) ≡ getD (i .cells) p noCell .right =
-      ap (numberIn order) (field 1 below (omega arith)) ∙ own-number _ (c .right-most) in
-      let v : cell R pool (suc p) 3 ≡ getD (i .cells) p noCell .value = field 2 below (omega arith) in
-      λ j. record { left = l j; right = r j; value = v j }
+  same-cell p below = λ j. record { kind = k j; left = l j; right = r j; value = field 2 below (omega arith) j }
+    where
+      c : ImageCell
+      c = getD (i .cells) p noCell
+
+      linked : images.Linked K c
+      linked = each-at (links .cells) p noCell below
+
+      kind : isPointAt R pool (suc p) ≡ isPointKind (c .kind)
+      kind = loaded-kind R m i few all words long p below
+
+      field : (f : ℕ) → p < K → suc f < 4 → cell R pool (suc p) (suc f) ≡ imageField c (suc f)
+      field = loaded-cell R m i few all words long p
+
+      again : (k : ℕ) → k ≤ 1 → kindOf (isPointKind k) ≡ k
+      again zero h = refl
+      again (suc zero) h = refl
+      again (suc (suc k)) h = absurd (omega arith)
+
+      k : kindOf (isPointAt R pool (suc p)) ≡ c .kind
+      k = ap kindOf kind ∙ again (c .kind) (linked .kind-most)
+
+      word : (f : ℕ) → suc f < 4 → (isPointKind (c .kind) ≡ false → imageField c (suc f) ≤ K)
+          → savedWord (isPointAt R pool (suc p)) order (cell R pool (suc p) (suc f)) ≡ imageField c (suc f)
+      word f hf most = ap₂ (λ (t : Bool) (x : ℕ). savedWord t order x) kind (field f below hf) ∙ go (isPointKind (c .kind)) most
+        where
+          go : (t : Bool) → (t ≡ false → imageField c (suc f) ≤ K) → savedWord t order (imageField c (suc f)) ≡ imageField c (suc f)
+          go true h = refl
+          go false h = own-number _ (h refl)
+
+      l : savedWord (isPointAt R pool (suc p)) order (cell R pool (suc p) 1) ≡ c .left
+      l = word 0 (omega arith) (linked .left-most)
+
+      r : savedWord (isPointAt R pool (suc p)) order (cell R pool (suc p) 2) ≡ c .right
+      r = word 1 (omega arith) (linked .right-most)
 
   same-cells : savedImage R pool order .cells ≡ i .cells
   same-cells =
@@ -145,12 +175,24 @@ module _ (n : ℕ) (w words : List ℕ) (some : 0 < cellCountOfLength registerCo
   image-read : (behind : List ℕ) → readImage registerCount m (imageOf registerCount n w ++ behind) ≡ parsed image (length (imageOf registerCount n w))
   image-read behind = image-encoded registerCount m image behind room all encodable
 
+  -- The cells of both are used, so that they have one state where they are of one kind.
+  order-used : (i : ℕ) → i < reachedCount registerCount n w → isUsed (state registerCount w (getD (reachedCells registerCount n w) i 0)) ≡ true
+  order-used i below =
+      reached-used well
+      (preorder-reached n (graphOf registerCount w) (rootsOf registerCount w) (pool-within well) _ .0 (getD-member (reachedCells registerCount n w) i below)) .state
+
+  in-loaded : (i : ℕ) → i < reachedCount registerCount n w → isUsed (state registerCount (loadedWords registerCount m image words) (suc i)) ≡ true
+  in-loaded i below =
+      loaded-used registerCount m image room all words (sized .room) i (omega (arith, image-cells registerCount w (reachedCells registerCount n w)))
+
   renumbered : Renumbered n w m (loadedWords registerCount m image words)
   renumbered =
       record {
         registers = renumbering.renumbered-register registerCount n w m few words (sized .room);
-        lefts = λ i below. renumbering.renumbered-link registerCount n w m few words (sized .room) i 0 below (omega arith);
-        rights = λ i below. renumbering.renumbered-link registerCount n w m few words (sized .room) i 1 below (omega arith);
+        states = λ i below.
+            same-state _ _ (in-loaded i below) (order-used i below) (renumbering.renumbered-kind registerCount n w m few words (sized .room) i below);
+        lefts = λ i below. renumbering.renumbered-word registerCount n w m few words (sized .room) i 0 below (omega arith);
+        rights = λ i below. renumbering.renumbered-word registerCount n w m few words (sized .room) i 1 below (omega arith);
         values = renumbering.renumbered-value registerCount n w m few words (sized .room);
         order = renumbering.renumbered-order registerCount n w m few words (sized .room) well (encodable-links encodable);
       }

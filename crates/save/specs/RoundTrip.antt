@@ -6,13 +6,13 @@ use mathlib.Core.Bool.{true}
 use lib.ListN.{length, getD, take, drop, replicate}
 use lib.Dec.{leb}
 use Rattle.pool.specs.Words.{tabulate}
-use Rattle.pool.specs.Layout.{registerCount, cellCountOfLength, cellCount, register, left, right, value}
+use Rattle.pool.specs.Layout.{registerCount, cellCountOfLength, cellCount, register, state, left, right, value, isPointAt}
 use Rattle.questions.specs.Validity.{wellFormed}
 use Rattle.pool.specs.Retain.{freeList, freeCells}
 use Rattle.answers.specs.Outcome.{answered}
 use Rattle.reversal.specs.Reached.{reachedCells, reachedCount}
 use Rattle.leb128.specs.Leb128.{Bytes}
-use Rattle.image.specs.Image.{numberIn, Image, parsed, readImage}
+use Rattle.image.specs.Image.{numberIn, savedWord, Image, parsed, readImage}
 use Rattle.load.specs.Load.{loadOf}
 use Rattle.save.specs.Save.{saveImage, saveOf}
 
@@ -21,13 +21,16 @@ abbrev pub Words : List ℕ → Type 0
 Words w = (i : ℕ) → getD w i 0 < 2 ^ 32
 
 -- From the words w of a pool of n cells to those, v, of a pool of m cells. "So a loaded save has as cell i the i-th cell visited, links and
--- registers renumbered alike."
+-- registers renumbered alike": a pair's links are renumbered; a point is a point again, with its x, y and value (02, S-8).
 pub record Renumbered (n : ℕ) (w : List ℕ) (m : ℕ) (v : List ℕ) : Type 0 where
   pub registers : (k : ℕ) → k < registerCount → register v k ≡ numberIn (reachedCells registerCount n w) (register w k)
+  pub states : (i : ℕ) → i < reachedCount registerCount n w → state registerCount v (suc i) ≡ state registerCount w (getD (reachedCells registerCount n w) i 0)
   pub lefts : (i : ℕ) → i < reachedCount registerCount n w
-      → left registerCount v (suc i) ≡ numberIn (reachedCells registerCount n w) (left registerCount w (getD (reachedCells registerCount n w) i 0))
+      → let x = getD (reachedCells registerCount n w) i 0 in
+      left registerCount v (suc i) ≡ savedWord (isPointAt registerCount w x) (reachedCells registerCount n w) (left registerCount w x)
   pub rights : (i : ℕ) → i < reachedCount registerCount n w
-      → right registerCount v (suc i) ≡ numberIn (reachedCells registerCount n w) (right registerCount w (getD (reachedCells registerCount n w) i 0))
+      → let x = getD (reachedCells registerCount n w) i 0 in
+      right registerCount v (suc i) ≡ savedWord (isPointAt registerCount w x) (reachedCells registerCount n w) (right registerCount w x)
   pub values : (i : ℕ) → i < reachedCount registerCount n w
       → value registerCount v (suc i) ≡ value registerCount w (getD (reachedCells registerCount n w) i 0)
   -- The cells are now visited as 1, 2, ..: the i-th cell visited is cell i.

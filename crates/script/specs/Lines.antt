@@ -46,13 +46,15 @@ isNumber [] = false
 isNumber (b ∷ word) = all isDigit (b ∷ word) && ltb (decimalValue (b ∷ word)) (2 ^ 32)
 
 -- What a letter with its numbers says: "f N is fresh, n new, c copy, z clear, l left, r right, L setleft, R setright, v value, V setvalue,
--- s same, g collect, arguments as above".
+-- s same, g collect, arguments as above"; and for point, east and north "the letters are p, e and o, in that order" (02, S-8).
 unfoldable pub command : ℕ → List ℕ → Line
 command letter [] = cond (eqb letter (code "g")) (line.Run call.Collect) line.Bad
 command letter (x ∷ []) =
     cond (eqb letter (code "f")) (line.Fresh x)
     (cond (eqb letter (code "z")) (line.Run (call.Clear x))
-    (cond (eqb letter (code "v")) (line.Run (call.Value x)) line.Bad))
+    (cond (eqb letter (code "v")) (line.Run (call.Value x))
+    (cond (eqb letter (code "e")) (line.Run (call.East x))
+    (cond (eqb letter (code "o")) (line.Run (call.North x)) line.Bad))))
 command letter (x ∷ y ∷ []) =
     cond (eqb letter (code "c")) (line.Run (call.Copy x y))
     (cond (eqb letter (code "l")) (line.Run (call.Left x y))
@@ -62,7 +64,9 @@ command letter (x ∷ y ∷ []) =
     (cond (eqb letter (code "V")) (line.Run (call.SetValue x y))
     (cond (eqb letter (code "s")) (line.Run (call.Same x y)) line.Bad))))))
 command letter (x ∷ y ∷ z ∷ []) = line.Bad
-command letter (x ∷ y ∷ z ∷ v ∷ []) = cond (eqb letter (code "n")) (line.Run (call.New x y z v)) line.Bad
+command letter (x ∷ y ∷ z ∷ v ∷ []) =
+    cond (eqb letter (code "n")) (line.Run (call.New x y z v))
+    (cond (eqb letter (code "p")) (line.Run (call.Point x y z v)) line.Bad)
 command letter (x ∷ y ∷ z ∷ v ∷ more ∷ numbers) = line.Bad
 
 -- What words say: the first is a letter, the others are its numbers.

@@ -259,6 +259,8 @@ fn one(letter: u8, x: u32) -> Line
         b'f' => Line::Fresh(x),
         b'z' => Line::Run(Call::Clear { r: x }),
         b'v' => Line::Run(Call::Value { a: x }),
+        b'e' => Line::Run(Call::East { a: x }),
+        b'o' => Line::Run(Call::North { a: x }),
         _ => Line::Bad,
     }
 }
@@ -289,6 +291,12 @@ fn four(letter: u8, x: u32, y: u32, z: u32, v: u32) -> Line
             a: y,
             b: z,
             v,
+        }),
+        b'p' => Line::Run(Call::Point {
+            r: x,
+            v: y,
+            x: z,
+            y: v,
         }),
         _ => Line::Bad,
     }

@@ -16,14 +16,15 @@ use Rattle.graph.proofs.Lists.{Each, has-member, member-has}
 use Rattle.graph.proofs.Reached.{reach-above, reach-within}
 use Rattle.graph.proofs.Marks.{marks-member, marks-cases, marks-keeps}
 use Rattle.graph.proofs.Count.{marked-same}
-use Rattle.pool.specs.Layout.{poolLength, cell, left, right, state, graphOf, rootsOf}
+use Rattle.pool.specs.Layout.{poolLength, cell, state, isPointAt, linkOf, graphOf, rootsOf}
 use Rattle.pool.specs.States.{isUsed}
 use Rattle.pool.proofs.States.{marked-not-used}
+use Rattle.pool.proofs.Links.{link-pair, link-point}
 use Rattle.questions.proofs.WellFormed.{WellFormed, well-formed-read}
 use Rattle.questions.proofs.PoolGraph.{Used, reached-used, pool-within}
 use Rattle.reversal.specs.Reversal.{unmarked}
 use Rattle.reversal.specs.ReversalTheorem.{markAll}
-use Rattle.reversal.proofs.MarkAll.{markAll-append, length-markAll, field-markAll, state-markAll-same, state-markAll-other}
+use Rattle.reversal.proofs.MarkAll.{markAll-append, length-markAll, link-markAll, state-markAll-same, state-markAll-other}
 use Rattle.reversal.proofs.PoolMarks.{stateMarks, stateMarks-used, stateMarks-other}
 use Rattle.stack_algorithm.specs.Stack.{isUnmarked, unmarkedLinks, onward}
 use Rattle.stack_algorithm.specs.Steps.{Going}
@@ -32,15 +33,23 @@ use Rattle.stack_algorithm.proofs.Going.{turn}
 use Rattle.stack_check.specs.Steps.{onwardIn, Pending}
 
 -- the two tests decide which links the marker goes on to
-pub look-made : (R p : ℕ) (w : List ℕ) (l r : ℕ) {a b : Bool} → l ≡ left R w p → r ≡ right R w p → a ≡ unmarked R w l → b ≡ unmarked R w r
+pub look-made : (R p : ℕ) (w : List ℕ) (l r : ℕ) {a b : Bool} → l ≡ linkOf R w p 1 → r ≡ linkOf R w p 2 → a ≡ unmarked R w l → b ≡ unmarked R w r
     → unmarkedLinks a b l r ≡ onwardIn R w p
 look-made R p w l r el er ea eb = rw (ea, eb, el, er)
 
+-- a point has none
+pub look-point : (R p : ℕ) (w : List ℕ) → isPointAt R w p ≡ true → [] ≡ onwardIn R w p
+look-point R p w e = look-made R p w 0 0 {a = false} {b = false} (sym (link-point R w p 1 e)) (sym (link-point R w p 2 e)) refl refl
+
+-- and a pair those that its fields hold
+pub look-read : (R p : ℕ) (w : List ℕ) {t : Bool} → t ≡ isPointAt R w p → t ≡ false → (f : ℕ) {l : ℕ} → l ≡ cell R w p f → l ≡ linkOf R w p f
+look-read R p w asked other f e = e ∙ sym (link-pair R w p f (sym asked ∙ other))
+
 -- where both are unmarked, whether they are equal does
-pub look-equal : (R p : ℕ) (w : List ℕ) (l r : ℕ) → l ≡ left R w p → r ≡ right R w p → true ≡ unmarked R w l → l ≡ r → l ∷ [] ≡ onwardIn R w p
+pub look-equal : (R p : ℕ) (w : List ℕ) (l r : ℕ) → l ≡ linkOf R w p 1 → r ≡ linkOf R w p 2 → true ≡ unmarked R w l → l ≡ r → l ∷ [] ≡ onwardIn R w p
 look-equal R p w l r el er ea same = rw (eq-eqb l r same) at (look-made R p w l r {a = true} {b = true} el er ea (ea ∙ ap (unmarked R w) same))
 
-pub look-both : (R p : ℕ) (w : List ℕ) (l r : ℕ) → l ≡ left R w p → r ≡ right R w p → true ≡ unmarked R w l → true ≡ unmarked R w r → (l ≡ r → ⊥)
+pub look-both : (R p : ℕ) (w : List ℕ) (l r : ℕ) → l ≡ linkOf R w p 1 → r ≡ linkOf R w p 2 → true ≡ unmarked R w l → true ≡ unmarked R w r → (l ≡ r → ⊥)
     → l ∷ r ∷ [] ≡ onwardIn R w p
 look-both R p w l r el er ea eb apart = rw (ne-eqb l r apart) at (look-made R p w l r {a = true} {b = true} el er ea eb)
 
@@ -77,11 +86,12 @@ module _ (R n : ℕ) (pool : List ℕ) (well : WellFormed R n pool) (room : pool
 
   links : (seen : List ℕ) → Each (Reach (graphOf R pool) (rootsOf R pool)) seen → (p : ℕ) → Reach (graphOf R pool) (rootsOf R pool) p → onwardIn R (markAll R pool seen) p ≡ onward (graphOf R pool) seen p
   links seen cells p reach =
+      let fits : poolLength R p ≤ length pool = omega (arith, reach-within within reach) in
       rw (
-        field-markAll R p 1 (reach-above reach) (omega arith) (omega arith) seen (λ y mem. reach-above (cells y mem)) pool,
-        field-markAll R p 2 (reach-above reach) (omega arith) (omega arith) seen (λ y mem. reach-above (cells y mem)) pool,
-        test seen cells (left R pool p) (Reach.left reach),
-        test seen cells (right R pool p) (Reach.right reach),
+        link-markAll R p 1 (reach-above reach) (omega arith) (omega arith) seen (λ y mem. reach-above (cells y mem)) pool fits,
+        link-markAll R p 2 (reach-above reach) (omega arith) (omega arith) seen (λ y mem. reach-above (cells y mem)) pool fits,
+        test seen cells (linkOf R pool p 1) (Reach.left reach),
+        test seen cells (linkOf R pool p 2) (Reach.right reach),
       )
 
   module _ {w : List ℕ} where
@@ -93,12 +103,12 @@ module _ (R n : ℕ) (pool : List ℕ) (well : WellFormed R n pool) (room : pool
     pending-reached {p} s = s .going .cells p (s .going .held p (List·Memᴰ·head refl))
 
     pub pending-cell : {p : ℕ} {others : List ℕ} → Marked R pool w (p ∷ others)
-        → (0 < p) × (p ≤ n) × (left R w p ≤ n) × (right R w p ≤ n) × (poolLength R n ≤ length w)
+        → (0 < p) × (p ≤ n) × (linkOf R w p 1 ≤ n) × (linkOf R w p 2 ≤ n) × (poolLength R n ≤ length w)
     pending-cell {p} s =
         let reach = pending-reached s in
-        let link : (f : ℕ) → 0 < f → f < 4 → cell R w p f ≡ cell R pool p f = λ f low high.
-        ap (λ (v : List ℕ). cell R v p f) (s .words)
-        ∙ field-markAll R p f (reach-above reach) low high (s .seen) (λ y mem. reach-above (s .going .cells y mem)) pool in (
+        let link : (f : ℕ) → 0 < f → f < 4 → linkOf R w p f ≡ linkOf R pool p f = λ f low high.
+        ap (λ (v : List ℕ). linkOf R v p f) (s .words)
+        ∙ link-markAll R p f (reach-above reach) low high (s .seen) (λ y mem. reach-above (s .going .cells y mem)) pool (omega (arith, reach-within within reach)) in (
           reach-above reach,
           reach-within within reach,
           rw (link 1 (omega arith) (omega arith)) (within .left p reach),

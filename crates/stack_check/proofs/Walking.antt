@@ -6,8 +6,7 @@ use mathlib.Core.List.{List, [], _∷_, _++_, List·Memᴰ, List·Memᴰ·head}
 use lib.ListN.{length, length-append}
 use borrow.Author.Tests.{ne-eqb}
 use Rattle.graph.proofs.Count.{marked-le}
-use Rattle.pool.specs.Layout.{poolLength, left, right, graphOf}
-use Rattle.pool.specs.States.{markCell}
+use Rattle.pool.specs.Layout.{poolLength, linkOf, graphOf, markCell}
 use Rattle.questions.proofs.PoolGraph.{pool-within}
 use Rattle.reversal.specs.ReversalTheorem.{markAll}
 use Rattle.reversal.proofs.PoolMarks.{stateMarks}
@@ -49,7 +48,7 @@ module _ (R n entry : ℕ) (w₀ : List ℕ) (room : poolLength R n ≤ length w
 
   module _ {w : List ℕ} {p : ℕ} (s : WalkLoop R n entry w₀ w p) where
     module _ (h : Walkable R n w₀ entry) where
-      pub walk-cell : (0 < p) × (p ≤ n) × (left R w p ≤ n) × (right R w p ≤ n) × (poolLength R n ≤ length w)
+      pub walk-cell : (0 < p) × (p ≤ n) × (linkOf R w p 1 ≤ n) × (linkOf R w p 2 ≤ n) × (poolLength R n ≤ length w)
       walk-cell = pending-cell R n (h .1 .pool) (pending-well (h .1)) (pool-room h) (s h .marked)
 
       pub walk-length : length w ≡ length w₀

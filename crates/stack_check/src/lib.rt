@@ -3,7 +3,7 @@ use pool::Pool;
 ghost use mathlib.Core.Path.{_≡_};
 ghost use Prim.Native.Nat.{_<_, _≤_};
 ghost use lib.ListN.{length};
-ghost use Rattle.pool.specs.Layout.{registerCount, poolLength, left, right};
+ghost use Rattle.pool.specs.Layout.{registerCount, poolLength, linkOf};
 ghost use Rattle.stack_check.specs.Steps.{linksOf, onwardIn, entries, entryOf, withoutNil, Walkable, walkIn, Checkable, checkIn};
 
 // Where the marker goes on to from a cell: with two links unmarked it goes to the left one and pushes the right one.
@@ -15,11 +15,14 @@ pub enum Onward {
 
 // Looks at both links of a cell. Two equal unmarked links are one.
 pub fn look(words: &[u32], n: u32, p: u32) -> Onward
-    requires { ⌜ (0 < p) × (p ≤ n) × (left registerCount (now words) p ≤ n) × (right registerCount (now words) p ≤ n) × (poolLength registerCount n ≤ length (now words)) ⌝ }
+    requires { ⌜ (0 < p) × (p ≤ n) × (linkOf registerCount (now words) p 1 ≤ n) × (linkOf registerCount (now words) p 2 ≤ n) × (poolLength registerCount n ≤ length (now words)) ⌝ }
     ensures { λ r. ⌜ linksOf r ≡ onwardIn registerCount (now (words .entry)) p ⌝ }
 {
-    let left = pool::link_of(words, p, Pool::LEFT);
-    let right = pool::link_of(words, p, Pool::RIGHT);
+    if pool::is_point_at(words, p) {
+        return Onward::Nowhere;
+    }
+    let left = pool::read_cell(words, p, Pool::LEFT);
+    let right = pool::read_cell(words, p, Pool::RIGHT);
     if reversal::is_unmarked(words, left) {
         if left == right {
             Onward::To(left)

@@ -27,6 +27,9 @@ fn answer(call: Call, words: &mut [u32]) -> Answer
         Call::Value { a } => calls::value(words, a),
         Call::Same { a, b } => calls::same(words, a, b),
         Call::Collect => calls::collect(words),
+        Call::Point { r, v, x, y } => calls::point(words, r, v, x, y),
+        Call::East { a } => calls::east(words, a),
+        Call::North { a } => calls::north(words, a),
     }
 }
 

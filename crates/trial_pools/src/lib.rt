@@ -68,6 +68,36 @@ fn is_used(n: u32, seed: u32, i: u32) -> bool {
     seed / 8 % 4 <= draw(seed, i) % 8
 }
 
+// How many of sixteen used cells are points: none in three pools of eight, and all in one.
+fn point_rate(seed: u32) -> u32 {
+    match draw(seed, 9003) % 8 {
+        3 => 1,
+        4 => 2,
+        5 => 4,
+        6 => 8,
+        7 => 16,
+        _ => 0,
+    }
+}
+
+// Is the cell, where it is used, a point?
+fn is_point(seed: u32, i: u32) -> bool {
+    draw(seed, std::num::wrapping_add_u32(30000, i)) % 16 < point_rate(seed)
+}
+
+// Is the number a pair, a used cell that is no point?
+fn is_pair(n: u32, seed: u32, i: u32) -> bool {
+    is_used(n, seed, i) && !is_point(seed, i)
+}
+
+// The state of a cell: 0 of a pair, 4 of a free cell, 5 of a point.
+fn state(n: u32, seed: u32, i: u32) -> u32 {
+    if !is_used(n, seed, i) {
+        return 4;
+    }
+    if is_point(seed, i) { 5 } else { 0 }
+}
+
 // The link if it leads to a used cell, and nil otherwise.
 fn valid(n: u32, seed: u32, link: u32) -> u32 {
     if is_used(n, seed, link) { link } else { 0 }
@@ -105,17 +135,16 @@ fn link(n: u32, seed: u32, i: u32, field: u32, x: u32) -> u32 {
     }
 }
 
-// A word of a cell. The links and the value of a free cell are any numbers, and so are words past the last cell.
+// A word of a cell. The links and the value of a free cell are any numbers, and so are a point's coordinates and words past the last cell.
 fn cell_word(n: u32, seed: u32, i: u32, field: u32, x: u32) -> u32 {
     if n < i {
         return x;
     }
-    let used = is_used(n, seed, i);
     match field {
-        0 => { if used { 0 } else { 4 } }
+        0 => state(n, seed, i),
         3 => x,
         _ => {
-            if used {
+            if is_pair(n, seed, i) {
                 valid(n, seed, link(n, seed, i, field, x))
             } else {
                 x
@@ -151,13 +180,13 @@ pub fn fill(words: &mut [u32], n: u32, seed: u32)
     }
 }
 
-// Where a pool is damaged: in a register, in a link of a used cell, or in a state. Register k is word 2 + k; cell i's words begin at word 14 + 4 × i with
+// Where a pool is damaged: in a register, in a link of a pair, or in a state. Register k is word 2 + k; cell i's words begin at word 14 + 4 × i with
 // its state, and its links follow.
 fn damaged_place(n: u32, seed: u32, i: u32, x: u32) -> usize {
     if x % 3 == 0 {
         return 2 + (x / 3 % 16) as usize;
     }
-    if x % 3 == 1 && is_used(n, seed, i) {
+    if x % 3 == 1 && is_pair(n, seed, i) {
         return 15 + 4 * (i as usize) + (x / 3 % 2) as usize;
     }
     14 + 4 * (i as usize)

@@ -66,7 +66,8 @@ fn free_cell(words: &mut [u32], i: u32, next: u32) {
     put_cell(words, i, 3, 0);
 }
 
-// Makes the words what a collection has to leave of them, by the marks alone. Gives the number of marked cells. (State 0 is used; word 1 is the head.)
+// Makes the words of a well-formed pool what a collection has to leave of them, by the marks alone: a marked cell stays as it is. Gives the number of marked cells.
+// (Word 1 is the head.)
 pub fn keep_marked(words: &mut [u32], n: u32, marks: &[u32]) -> u32
     requires { ⌜ n < length (now marks) ⌝ }
 {
@@ -79,11 +80,24 @@ pub fn keep_marked(words: &mut [u32], n: u32, marks: &[u32]) -> u32
             next = i;
             i -= 1;
         } else {
-            put_cell(words, i, 0, 0);
             kept += 1;
             i -= 1;
         }
     }
     put(words, 1, next);
     kept
+}
+
+// How many of the cells are points. (State 5 is a point.)
+pub fn points(words: &[u32], n: u32) -> u32 {
+    let mut count = 0;
+    let mut i = n;
+    while 0 < i {
+        let k = 14 + 4 * (i as usize);
+        if k < words.len() && words[k] == 5 {
+            count = std::num::wrapping_add_u32(count, 1);
+        }
+        i -= 1;
+    }
+    count
 }

@@ -43,10 +43,11 @@ struct Said {
     checks: u32,
 }
 
-// How a trial went: whether the answer and all words were as expected, the kept cells that were expected, and the answer's further numbers.
+// How a trial went: whether the answer and all words were as expected, the kept cells that were expected, how many of them are points, and the answer's further numbers.
 struct Outcome {
     agreed: bool,
     kept: u32,
+    points: u32,
     more: u32,
     checks: u32,
 }
@@ -145,9 +146,9 @@ fn expect(after: &mut [u32], trial: Trial) -> u32
     trial_words::keep_marked(after, trial.n, &marks)
 }
 
-// Is it what has to be said: the kept cells, and the visits; with as many stack words as cells, that they were enough, without a check; with none, that they were
+// Is it what has to be said: the kept cells, and the visits, three a pair and one a point; with as many stack words as cells, that they were enough, without a check; with none, that they were
 // enough exactly where no check was made, and there is one at most?
-fn is_expected(said: Said, trial: Trial, kept: u32) -> bool {
+fn is_expected(said: Said, trial: Trial, kept: u32, points: u32) -> bool {
     if said.status != refusal_of(trial) {
         return false;
     }
@@ -159,7 +160,7 @@ fn is_expected(said: Said, trial: Trial, kept: u32) -> bool {
     }
     let marker = trial.marker;
     match marker {
-        REVERSAL | RECURSIVE => said.more as u64 == 3 * (kept as u64),
+        REVERSAL | RECURSIVE => said.more as u64 + 2 * (points as u64) == 3 * (kept as u64),
         N_WORDS => said.more == 1 && said.checks == 0,
         NO_WORDS => said.more as u64 + said.checks as u64 == 1,
         _ => true,
@@ -181,15 +182,17 @@ fn run(words: &mut [u32], after: &mut [u32], stack: &mut [u32], trial: Trial) ->
     ensures { λ r. ⌜ (r .agreed ≡ true → now (words .exit) ≡ now (after .exit)) ⌝ }
 {
     let kept = expect(after, trial);
+    let points = trial_words::points(after, trial.n);
     make(words, trial);
     trial_words::set_all(stack, 7);
     let said = collect(words, stack, trial.marker);
-    let is_answer = is_expected(said, trial, kept);
+    let is_answer = is_expected(said, trial, kept, points);
     let is_stack = is_stack_expected(stack, trial);
     let is_same = trial_words::same(words, after);
     Outcome {
         agreed: is_answer & is_stack & is_same,
         kept,
+        points,
         more: said.more,
         checks: said.checks,
     }
@@ -213,7 +216,7 @@ fn main() {
     let mut words = [0u32; 16021];
     let mut after = [0u32; 16021];
     let mut stack = [0u32; 4000];
-    let mut t = [0u32; 23];
+    let mut t = [0u32; 24];
     let mut number = SEEDS * 2 * MARKERS;
     while 0 < number {
         number -= 1;
@@ -226,6 +229,7 @@ fn main() {
             trial.n,
             trial.leftover,
             outcome.kept,
+            outcome.points,
         );
         totals::count_trial(
             &mut t,
@@ -237,6 +241,6 @@ fn main() {
     }
     totals::print(
         &t,
-        b"well-formed pools: #\ncells: #\nkept cells: #\nmalformed pools: #\nreversal: agreed #, differed #, visits #\nrecursive marker: agreed #, differed #, visits #\nstack of no words: agreed #, differed #, enough #\nstack of one word: agreed #, differed #, enough #\nstack of N words: agreed #, differed #, enough #\nchecks with no words: #\nchecks with one word: #\nchecks with N words: #\nwords behind the cells: #\n",
+        b"well-formed pools: #\ncells: #\nkept cells: #\nmalformed pools: #\nreversal: agreed #, differed #, visits #\nrecursive marker: agreed #, differed #, visits #\nstack of no words: agreed #, differed #, enough #\nstack of one word: agreed #, differed #, enough #\nstack of N words: agreed #, differed #, enough #\nchecks with no words: #\nchecks with one word: #\nchecks with N words: #\nwords behind the cells: #\nkept points: #\n",
     );
 }

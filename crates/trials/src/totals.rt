@@ -3,8 +3,8 @@ use libc::STDOUT_FILENO;
 
 // The number of well-formed pools, of their cells and of the kept cells, of malformed pools; then for each marker on how many pools it agreed, on how
 // many it differed, and the sum of its visits, or of the pools for which its stack was enough; then for each marker with a stack its checks; then the words
-// behind the cells.
-pub type Totals = [u32; 23];
+// behind the cells, and the kept points.
+pub type Totals = [u32; 24];
 
 fn get(t: &Totals, place: usize) -> u32 {
     if place < t.len() { t[place] } else { 0 }
@@ -16,8 +16,16 @@ fn count(t: &mut Totals, place: usize, x: u32) {
     }
 }
 
-// A pool of n cells of which some are kept, and some words behind them; once for all markers.
-pub fn count_pool(t: &mut Totals, marker: u32, malformed: bool, n: u32, leftover: u32, kept: u32) {
+// A pool of n cells of which some are kept, some of these points, and some words behind them; once for all markers.
+pub fn count_pool(
+    t: &mut Totals,
+    marker: u32,
+    malformed: bool,
+    n: u32,
+    leftover: u32,
+    kept: u32,
+    points: u32,
+) {
     if marker != 0 {
         return;
     }
@@ -28,6 +36,7 @@ pub fn count_pool(t: &mut Totals, marker: u32, malformed: bool, n: u32, leftover
         count(t, 0, 1);
         count(t, 1, n);
         count(t, 2, kept);
+        count(t, POINTS, points);
     }
 }
 
@@ -38,6 +47,9 @@ const FIRST_CHECKS: usize = 19;
 
 // The place of the words behind the cells, of all pools.
 const LEFTOVER: usize = 22;
+
+// The place of the kept points.
+const POINTS: usize = 23;
 
 // A trial of a marker.
 pub fn count_trial(t: &mut Totals, marker: u32, agreed: bool, more: u32, checks: u32) {

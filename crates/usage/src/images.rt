@@ -1,7 +1,7 @@
 // Two images stand behind each other, and three bytes behind them. `load::load` hands back the part of the bytes behind the image that it read: the next
 // load reads that part, and no offset is counted.
-// An image of one cell is 1 + 16 + 3 numbers, here of a byte each: 27 of 47 bytes are behind it. An image of two cells is 1 + 16 + 6 numbers, of which 300
-// takes two bytes: 3 of 27 bytes are behind it. Three bytes 0 are K and two registers; the next number is missing: refused 6, with the empty part, and the
+// An image of one cell is 1 + 16 + 4 numbers, here of a byte each: 29 of 50 bytes are behind it. An image of two cells is 1 + 16 + 8 numbers, of which 300
+// takes two bytes: 3 of 29 bytes are behind it. Three bytes 0 are K and two registers; the next number is missing: refused 6, with the empty part, and the
 // words are as they were.
 use answers::Answer;
 use pool::Pool;
@@ -15,12 +15,13 @@ fn size(saved: Saved) -> usize {
     }
 }
 
-// Saves a pool of one cell with value 7, and then a pool with a second cell, both of whose links are to the first, with value 300; both in a pool of two.
+// Saves a pool of one point, at x = 8, y = 9, with value 7, and then a pool with a pair too, both of whose links are to the point, with value 300; both in a
+// pool of two.
 fn save_two(bytes: &mut [u8]) {
     let mut words = [0u32; 26];
     let mut scratch = [0u32; 4];
     Pool::fresh(&mut words);
-    calls::new(&mut words, 0, 0, 0, 7);
+    calls::point(&mut words, 0, 7, 8, 9);
     let first = size(save::save(&words, &mut scratch, bytes));
     calls::new(&mut words, 1, 0, 0, 300);
     if first <= bytes.len() {
@@ -59,7 +60,7 @@ fn load_each(words: &mut [u32], bytes: &[u8]) {
 }
 
 pub fn load_in_turn() {
-    let mut bytes = [0u8; 47];
+    let mut bytes = [0u8; 50];
     let mut words = [0u32; 26];
     save_two(&mut bytes);
     load_each(&mut words, &bytes);

@@ -1,5 +1,5 @@
--- The starred cases of document 01 ("Strips flown on paper") and its lengths, those that 02 names, and examples of its S-5, S-6 and S-7, as one table, and the sentence
--- that every case of it holds.
+-- The starred cases of document 01 ("Strips flown on paper") and its lengths, those that 02 names, and examples of its S-5 to S-8, as one table, and the
+-- sentence that every case of it holds.
 use Prim.Native.Nat.{ℕ}
 use mathlib.Core.Path.{_≡_}
 use mathlib.Core.List.{List, [], _∷_, _++_}
@@ -51,6 +51,18 @@ selfLinked = (1 ∷ 0 ∷ 1 ∷ []) ++ replicate 15 0 ++ (0 ∷ 1 ∷ 1 ∷ 7 �
 abbrev pub unreached : List ℕ
 unreached = (2 ∷ 0 ∷ []) ++ replicate 16 0 ++ (0 ∷ 2 ∷ 0 ∷ 7 ∷ []) ++ (0 ∷ 0 ∷ 0 ∷ 8 ∷ [])
 
+-- 02, S-8: a pool of one point, with register 0 leading to it, whose x is the greatest number.
+abbrev pub onePoint : List ℕ
+onePoint = (1 ∷ 0 ∷ 1 ∷ []) ++ replicate 15 0 ++ (5 ∷ 4294967295 ∷ 12 ∷ 7 ∷ [])
+
+-- A pair with a point on each side, whose x are numbers of cells, and register 0 leading to the pair.
+abbrev pub betweenPoints : List ℕ
+betweenPoints = (3 ∷ 0 ∷ 1 ∷ []) ++ replicate 15 0 ++ (0 ∷ 2 ∷ 3 ∷ 7 ∷ []) ++ (5 ∷ 1 ∷ 9 ∷ 8 ∷ []) ++ (5 ∷ 3 ∷ 2 ∷ 9 ∷ [])
+
+-- What stands before the cells in an image of one cell, which register 0 holds: K and the registers.
+abbrev pub beforeCells : List ℕ
+beforeCells = (0x01 ∷ 0x01 ∷ []) ++ replicate 15 0x00
+
 abbrev pub table : List Case
 table =
     -- "127 is 7F", "128 is 80 01", "300 is AC 02", "4294967295 is FF FF FF FF 0F", "a fifth byte 10 is refused 7"
@@ -70,6 +82,16 @@ table =
     -- "N = 1, one cell linked to itself: kept 1, visits 3", "All registers nil: 0, 0"
     ∷ collection selfLinked 1 3
     ∷ collection unreached 0 0
+    -- 02, S-8: "A point is marked by one visit, so visits are 3 × pairs + points"
+    ∷ collection onePoint 1 1
+    ∷ collection betweenPoints 3 5
+    -- 02, S-8: "In an image each cell begins with kind 0 or 1 (1 a point)", a point's x and y are any numbers and a pair's links are not, "14 for another
+    -- kind number, after 12", and "an image saved before, with cells and no byte behind it, is refused"
+    ∷ checked (beforeCells ++ (0x01 ∷ 0xFF ∷ 0xFF ∷ 0xFF ∷ 0xFF ∷ 0x0F ∷ 0x02 ∷ 0x07 ∷ [])) 0
+    ∷ checked (beforeCells ++ (0x00 ∷ 0x01 ∷ 0x02 ∷ 0x07 ∷ [])) 8
+    ∷ checked (beforeCells ++ (0x02 ∷ 0x00 ∷ 0x00 ∷ 0x07 ∷ [])) 14
+    ∷ checked (beforeCells ++ (0x82 ∷ 0x00 ∷ 0x00 ∷ 0x00 ∷ 0x07 ∷ [])) 12
+    ∷ checked (beforeCells ++ (0x00 ∷ 0x00 ∷ 0x01 ∷ [])) 6
     -- "A cell with both links to one leaf: one stack word is enough", and 02, S-2: "the case of the leaf with two equal links becomes enough with none"
     ∷ stack leafPool 1 2 1 0
     ∷ stack leafPool 0 2 1 0

@@ -10,10 +10,12 @@ use Rattle.graph.specs.Graph.{Reach, Within}
 use Rattle.graph.specs.Compare.{Agree}
 use Rattle.pool.specs.Words.{tabulate}
 use Rattle.pool.specs.Layout.{registerCount, firstRegister, poolLength, cellCountOfLength, count, head, register, setRegister, cell, state, linkOf, graphOf, rootsOf}
-use Rattle.pool.specs.States.{usedState, isUsed}
+use Rattle.pool.specs.States.{pairState, isUsed}
 use Rattle.pool.specs.Retain.{blankWords}
 use Rattle.answers.specs.Outcome.{Outcome, answered}
 use Rattle.pool.proofs.Laws.{length-setRegister, register-same, register-other, head-setRegister, count-setRegister}
+use Rattle.pool.proofs.States.{pair-is}
+use Rattle.pool.proofs.Links.{link-pair}
 use Rattle.pool.proofs.Node.{written}
 use Rattle.pool.proofs.Every.{tabulate-first}
 use Rattle.pool.proofs.FreshPool.{blank-length, blank-count, blank-zero, blank-register}
@@ -46,17 +48,23 @@ module _ (R n : ℕ) (w : List ℕ) (room : poolLength R n ≤ length w) where
 
   -- the cells
   built-cell : (i f : ℕ) → 0 < i → i ≤ n → f < 4
-      → cell R (worstCaseWords R n w) i f ≡ written usedState (combLink n i 2) (combLink n i 1) 0 f
+      → cell R (worstCaseWords R n w) i f ≡ written pairState (combLink n i 2) (combLink n i 1) 0 f
   built-cell i f low high hf = comb-cell R n n start i f low high hf (omega (arith, start-length))
 
-  pub built-used : (i : ℕ) → 0 < i → i ≤ n → isUsed (state R (worstCaseWords R n w) i) ≡ true
-  built-used i low high = rw (built-cell i 0 low high (omega arith)) refl
+  pub built-pair : (i : ℕ) → 0 < i → i ≤ n → state R (worstCaseWords R n w) i ≡ pairState
+  built-pair i low high = built-cell i 0 low high (omega arith)
+
+  built-used : (i : ℕ) → 0 < i → i ≤ n → isUsed (state R (worstCaseWords R n w) i) ≡ true
+  built-used i low high = pair-is _ (built-pair i low high) .0
 
   pub built-value : (i : ℕ) → 0 < i → i ≤ n → cell R (worstCaseWords R n w) i 3 ≡ 0
   built-value i low high = built-cell i 3 low high (omega arith)
 
   pub built-links : (i : ℕ) → 0 < i → i ≤ n → Agree (graphOf R (worstCaseWords R n w)) (comb n) i
-  built-links i low high = record { left = built-cell i 1 low high (omega arith); right = built-cell i 2 low high (omega arith) }
+  built-links i low high = record { left = link 1 (omega arith); right = link 2 (omega arith) }
+    where
+      link : (f : ℕ) → f < 4 → linkOf R (worstCaseWords R n w) i f ≡ written pairState (combLink n i 2) (combLink n i 1) 0 f
+      link f hf = link-pair R (worstCaseWords R n w) i f (pair-is _ (built-pair i low high) .1) ∙ built-cell i f low high hf
 
   -- word 0, the head and the registers
   pub built-count : count (worstCaseWords R n w) ≡ n

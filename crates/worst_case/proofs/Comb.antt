@@ -6,7 +6,7 @@ use mathlib.Core.Path.{_≡_, refl, _∙_}
 use mathlib.Core.List.{List}
 use lib.ListN.{length, getD}
 use Rattle.pool.specs.Layout.{poolLength, cell, putCell}
-use Rattle.pool.specs.States.{usedState}
+use Rattle.pool.specs.States.{pairState}
 use Rattle.pool.proofs.Node.{written, length-putCell, cell-putCell, cell-putCell-other}
 use Rattle.pool.proofs.Retained.{Elsewhere, putCell-elsewhere}
 use Rattle.stack_algorithm.specs.Comb.{combLink}
@@ -34,7 +34,7 @@ module _ (R n : ℕ) where
       ∙ cell-putCell-other R w (suc k) (omega arith) _ _ _ _ i f (omega arith) hf (λ e. omega arith)
 
   pub comb-cell : (k : ℕ) (w : List ℕ) (i f : ℕ) → 0 < i → i ≤ k → f < 4 → poolLength R k ≤ length w
-      → cell R (putComb R n k w) i f ≡ written usedState (combLink n i 2) (combLink n i 1) 0 f
+      → cell R (putComb R n k w) i f ≡ written pairState (combLink n i 2) (combLink n i 1) 0 f
   unfolding putComb
   comb-cell zero w i f low high hf room = absurd (omega arith)
   comb-cell (suc k) w i f low high hf room = go (λ below. comb-cell k put i f low below hf (omega (arith, long))) (ℕ-discrete i (suc k))
@@ -45,8 +45,8 @@ module _ (R n : ℕ) where
       long : length put ≡ length w
       long = length-putCell R w (suc k) (omega arith) _ _ _ _
 
-      go : (i ≤ k → cell R (putComb R n k put) i f ≡ written usedState (combLink n i 2) (combLink n i 1) 0 f) → Dec (i ≡ suc k)
-          → cell R (putComb R n k put) i f ≡ written usedState (combLink n i 2) (combLink n i 1) 0 f
+      go : (i ≤ k → cell R (putComb R n k put) i f ≡ written pairState (combLink n i 2) (combLink n i 1) 0 f) → Dec (i ≡ suc k)
+          → cell R (putComb R n k put) i f ≡ written pairState (combLink n i 2) (combLink n i 1) 0 f
       go rest (yes e) = rw e (comb-above k put (suc k) f (omega arith) hf ∙ cell-putCell R w (suc k) (omega arith) _ _ _ _ f hf room)
       go rest (no other) = rest (omega (arith, other))
 
@@ -57,16 +57,16 @@ pub record Putting (R n : ℕ) (w₀ w : List ℕ) (i : ℕ) : Type 0 where
   pub same : putComb R n i w ≡ putComb R n n w₀
 
 pub putting-turn : (R n : ℕ) {w₀ w w' : List ℕ} {i l r : ℕ} → Putting R n w₀ w i → 0 < i → l ≡ combLink n i 2 → r ≡ combLink n i 1
-    → w' ≡ putCell R w i usedState l r 0 → Putting R n w₀ w' (i - 1)
+    → w' ≡ putCell R w i pairState l r 0 → Putting R n w₀ w' (i - 1)
 unfolding putComb
 putting-turn R n {w₀} {w} {w'} {i} {l} {r} p some left right put =
     record {
       few = omega (arith, p .few);
-      len = rw put (length-putCell R w i some usedState l r 0 ∙ p .len);
+      len = rw put (length-putCell R w i some pairState l r 0 ∙ p .len);
       same = step i some left right put ∙ p .same;
     }
   where
-    step : (i : ℕ) → 0 < i → l ≡ combLink n i 2 → r ≡ combLink n i 1 → w' ≡ putCell R w i usedState l r 0 → putComb R n (i - 1) w' ≡ putComb R n i w
+    step : (i : ℕ) → 0 < i → l ≡ combLink n i 2 → r ≡ combLink n i 1 → w' ≡ putCell R w i pairState l r 0 → putComb R n (i - 1) w' ≡ putComb R n i w
     step zero h el er e = absurd (omega arith)
     step (suc k) h el er e = let less : suc k - 1 ≡ k = omega arith in rw (less, e, el, er)
 

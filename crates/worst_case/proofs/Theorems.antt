@@ -27,7 +27,7 @@ use Rattle.stack_algorithm.proofs.CombChecks.{elem-replicate}
 use Rattle.stack_marker.specs.StackCollect.{lentRun, stackOf}
 use Rattle.worst_case.specs.WorstCase.{worstCaseWords, worstCaseOf}
 use Rattle.worst_case.specs.WorstCaseTheorem.{WorstCase, WorstCaseBuilt, NoPoolHoldsMore, HalfIsEnough, FewerAreChecked, NoneIsNotEnough, OneLessIsChecked}
-use Rattle.worst_case.proofs.Built.{built-length, built-used, built-value, built-links, built-count, built-head, built-nil, built-well-formed, built-reached, built-entries, built-checks, built-without-words}
+use Rattle.worst_case.proofs.Built.{built-length, built-pair, built-value, built-links, built-count, built-head, built-nil, built-well-formed, built-reached, built-entries, built-checks, built-without-words}
 
 -- the words that are built hold that pool
 module _ (w : List ℕ) (some : 0 < cellCountOfLength registerCount (length w)) where
@@ -49,7 +49,7 @@ module _ (w : List ℕ) (some : 0 < cellCountOfLength registerCount (length w)) 
       record {
         cells = same-count registerCount builtOf (built-count registerCount cellsOf w fits ∙ sym cells) ∙ cells;
         well-formed = well-formed-made registerCount cellsOf builtOf (built-well-formed registerCount cellsOf w fits some);
-        used = built-used registerCount cellsOf w fits;
+        pairs = built-pair registerCount cellsOf w fits;
         reached = built-reached registerCount cellsOf w fits (omega arith);
         entries = built-entries registerCount cellsOf w fits some (omega arith);
         values = built-value registerCount cellsOf w fits;

@@ -5,14 +5,14 @@ use mathlib.Core.Bool.{cond}
 use lib.ListN.{length}
 use lib.Dec.{ltb}
 use Rattle.pool.specs.Layout.{registerCount, cellCountOfLength, setRegister, putCell}
-use Rattle.pool.specs.States.{usedState}
+use Rattle.pool.specs.States.{pairState}
 use Rattle.pool.specs.Retain.{blankWords}
 use Rattle.answers.specs.Outcome.{Outcome, answered, refused}
 use Rattle.stack_algorithm.specs.Comb.{combLink}
 
 -- The words with cell i of a left comb of n cells: it is used, with its two links, and "Values .. are 0".
 abbrev pub putCombCell : ℕ → ℕ → List ℕ → ℕ → List ℕ
-putCombCell R n w i = putCell R w i usedState (combLink n i 2) (combLink n i 1) 0
+putCombCell R n w i = putCell R w i pairState (combLink n i 2) (combLink n i 1) 0
 
 -- The words with its cells k to 1.
 unfoldable pub putComb : ℕ → ℕ → ℕ → List ℕ → List ℕ

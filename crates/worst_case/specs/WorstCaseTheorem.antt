@@ -8,7 +8,7 @@ use lib.Dec.{leb}
 use Rattle.graph.specs.Graph.{Reach}
 use Rattle.graph.specs.Compare.{Agree}
 use Rattle.pool.specs.Layout.{registerCount, cellCountOfLength, cellCount, head, register, state, value, graphOf, rootsOf}
-use Rattle.pool.specs.States.{isUsed}
+use Rattle.pool.specs.States.{pairState}
 use Rattle.questions.specs.Validity.{wellFormed}
 use Rattle.answers.specs.Outcome.{answered}
 use Rattle.reversal.specs.Reached.{reachedCount}
@@ -20,10 +20,10 @@ use Rattle.worst_case.specs.WorstCase.{worstCaseOf}
 
 -- The words w hold the pool of n cells that is built.
 pub record WorstCase (n : ℕ) (w : List ℕ) : Type 0 where
-  -- "build a pool of N used cells", which is well-formed
+  -- "build a pool of N used cells", which is well-formed; each is a pair
   pub cells : cellCount registerCount w ≡ n
   pub well-formed : wellFormed registerCount n w ≡ true
-  pub used : (i : ℕ) → 0 < i → i ≤ n → isUsed (state registerCount w i) ≡ true
+  pub pairs : (i : ℕ) → 0 < i → i ≤ n → state registerCount w i ≡ pairState
   -- "all reached from register 0", from it alone
   pub reached : (i : ℕ) → 0 < i → i ≤ n → Reach (graphOf registerCount w) (register w 0 ∷ []) i
   -- "for which the stack marker of S-2 holds the most entries. That number is (N − 1) / 2 rounded down"

@@ -26,12 +26,12 @@ fn put_comb(words: &mut [u32], n: u32)
     let mut i = n;
     while 0 < i {
         if i % 2 == 0 {
-            pool::put_cell(words, i, Pool::USED, 0, 0, 0);
+            pool::put_cell(words, i, Pool::PAIR, 0, 0, 0);
             i -= 1;
         } else {
             let left = or_nil(n, i + 2);
             let right = or_nil(n, i + 1);
-            pool::put_cell(words, i, Pool::USED, left, right, 0);
+            pool::put_cell(words, i, Pool::PAIR, left, right, 0);
             i -= 1;
         }
     }

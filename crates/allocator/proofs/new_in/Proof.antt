@@ -1,11 +1,9 @@
--- `allocator::new_in` meets its contract: both registers are read first, and r is written last.
+-- `allocator::new_in` meets its contract: both registers are read first, and then the head decides.
 use borrow.Author.Needs.{needs}
 use Rattle.allocator.proofs.new_in.Statement.{statement}
 use Rattle.allocator.proofs.new_in.Tie as tie
-use native.Mathlib.Omega.{arith}
-use mathlib.Core.Path.{sym, _∙_}
 use Rattle.questions.proofs.RegisterLinks.{holds, holds-none}
-use Rattle.allocator.proofs.Allocation.{good-bound, new-malformed, new-collected, new-taken, new-refused}
+use Rattle.allocator.proofs.Allocation.{allocate-collected, allocate-free, new-malformed, new-made}
 
 read-link-requires : tie.Need-read-link-requires
 read-link-requires c κs = search needs
@@ -53,34 +51,22 @@ returns-3 c =
     let at-if1 = c .before .before .before .before in
     let at-y = at-if1 .before .before .before .before in
     let at-x = at-y .before .before .before .before .before in
-    new-collected _ _ (holds _ _ _ (at-x .before .before .read-link .ensures) (at-x .x .given .1)) _ _ (holds _ _ _ (at-y .before .before .read-link2 .ensures) (at-y .y .given .1)) (at-if1 .before .read-head .ensures) (at-if1 .if1 .taken) (c .before .before .take-collected .ensures)
+    new-made _ _ (holds _ _ _ (at-x .before .before .read-link .ensures) (at-x .x .given .1)) _ _ (holds _ _ _ (at-y .before .before .read-link2 .ensures) (at-y .y .given .1))
+    (allocate-collected _ _ _ _ _ _ _ (at-if1 .before .read-head .ensures) (at-if1 .if1 .taken) (c .before .before .take-collected .ensures))
 
-good-head-requires : tie.Need-good-head-requires
-good-head-requires c κs = search needs
-
-take-head-requires : tie.Need-take-head-requires
-take-head-requires c κs = omega (arith, c .before .before .before .before .before .read-head .ensures, good-bound _ _ (sym (c .before .before .good-head .ensures) ∙ c .before .if2 .taken))
+take-free-requires : tie.Need-take-free-requires
+take-free-requires c κs = search needs
 
 same-length-4 : tie.Need-same-length-4
 same-length-4 c = search needs
 
 returns-4 : tie.Need-returns-4
 returns-4 c =
-    let at-if2 = c .before .before .before .before in
-    let at-if1 = at-if2 .before .before .before in
+    let at-if1 = c .before .before .before .before in
     let at-y = at-if1 .before .before .before .before in
     let at-x = at-y .before .before .before .before .before in
-    new-taken _ _ (holds _ _ _ (at-x .before .before .read-link .ensures) (at-x .x .given .1)) _ _ (holds _ _ _ (at-y .before .before .read-link2 .ensures) (at-y .y .given .1)) (at-if1 .before .read-head .ensures) (at-if1 .if1 .left) (sym (at-if2 .before .good-head .ensures) ∙ at-if2 .if2 .taken) (c .before .before .take-head .ensures)
-
-same-length-5 : tie.Need-same-length-5
-same-length-5 c = search needs
-
-returns-5 : tie.Need-returns-5
-returns-5 c =
-    let at-read-head = c .before .before .before .before in
-    let at-y = at-read-head .before .before .before in
-    let at-x = at-y .before .before .before .before .before in
-    new-refused _ _ (holds _ _ _ (at-x .before .before .read-link .ensures) (at-x .x .given .1)) _ _ (holds _ _ _ (at-y .before .before .read-link2 .ensures) (at-y .y .given .1)) (at-read-head .read-head .ensures) (c .before .before .before .if1 .left) (sym (c .before .good-head .ensures) ∙ c .if2 .left)
+    new-made _ _ (holds _ _ _ (at-x .before .before .read-link .ensures) (at-x .x .given .1)) _ _ (holds _ _ _ (at-y .before .before .read-link2 .ensures) (at-y .y .given .1))
+    (allocate-free _ _ _ _ _ _ _ (at-if1 .before .read-head .ensures) (at-if1 .if1 .left) (c .before .before .take-free .ensures))
 
 pub new-in-spec : {M : Type 1} → statement M
 new-in-spec =
@@ -100,9 +86,6 @@ new-in-spec =
     take-collected-requires
     same-length-3
     returns-3
-    good-head-requires
-    take-head-requires
+    take-free-requires
     same-length-4
-    returns-4
-    same-length-5
-    returns-5)
+    returns-4)

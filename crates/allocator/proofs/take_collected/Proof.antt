@@ -15,7 +15,7 @@ same-length : tie.Need-same-length
 same-length c = search needs
 
 returns : tie.Need-returns
-returns c = take-refused _ _ _ (c .before .before .before .before .collect-in .ensures) _ _ _ _ (c .before .status .ensures) (c .if1 .taken)
+returns c = take-refused _ _ _ (c .before .before .before .before .collect-in .ensures) _ _ _ _ _ (c .before .status .ensures) (c .if1 .taken)
 
 read-head-requires : tie.Need-read-head-requires
 read-head-requires c κs = search needs
@@ -29,7 +29,7 @@ returns-2 c =
     let at-collect-in = at-if1 .before .before .before .before in
     let at-pre = at-collect-in .before .before .before in
     let collected = swept _ _ _ (at-collect-in .collect-in .ensures) (at-if1 .before .status .ensures) (omega (arith, at-if1 .if1 .left)) in
-    take-full _ _ collected _ _ _ _ (at-pre .pre .1) (at-pre .pre .0) (at-pre .pre .4) (c .before .read-head .ensures) (omega (arith, c .if2 .taken))
+    take-full _ _ collected _ _ _ _ _ (at-pre .pre .1) (at-pre .pre .0) (at-pre .pre .4) (c .before .read-head .ensures) (omega (arith, c .if2 .taken))
 
 take-head-requires : tie.Need-take-head-requires
 take-head-requires c κs =
@@ -51,7 +51,7 @@ returns-3 c =
     let at-if1 = at-if2 .before .before .before in
     let at-collect-in = at-if1 .before .before .before .before in
     let collected = swept _ _ _ (at-collect-in .collect-in .ensures) (at-if1 .before .status .ensures) (omega (arith, at-if1 .if1 .left)) in
-    take-done _ _ collected _ _ _ _ (at-if2 .before .read-head .ensures) (λ z. omega (arith, at-if2 .if2 .left)) (c .before .before .before .take-head .ensures) (c .second .ensures)
+    take-done _ _ collected _ _ _ _ _ (at-if2 .before .read-head .ensures) (λ z. omega (arith, at-if2 .if2 .left)) (c .before .before .before .take-head .ensures) (c .second .ensures)
 
 pub take-collected-spec : {M : Type 1} → statement M
 take-collected-spec =

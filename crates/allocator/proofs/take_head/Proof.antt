@@ -29,7 +29,7 @@ returns c =
     let at-put-cell = at-write-head .before .before .before .before in
     let at-read-cell = at-put-cell .before .before in
     let at-read-head = at-read-cell .before .before in
-    taken _ _ _ _ _ (at-read-head .read-head .ensures) (at-read-cell .read-cell .ensures) (at-put-cell .put-cell .ensures) (at-write-head .write-head .ensures) (at-write-register .write-register .ensures)
+    taken _ _ _ _ _ _ (at-read-head .read-head .ensures) (at-read-cell .read-cell .ensures) (at-put-cell .put-cell .ensures) (at-write-head .write-head .ensures) (at-write-register .write-register .ensures)
 
 pub take-head-spec : {M : Type 1} → statement M
 take-head-spec =

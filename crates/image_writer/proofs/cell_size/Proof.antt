@@ -15,7 +15,7 @@ number-size-requires-2 c κs = search needs
 add-result : tie.Need-add-result
 add-result c =
     let cell = c .before .before .args .cell in
-    omega (arith, c .number-size2 .ensures, c .before .number-size .ensures, encode-size (cell .left), encode-size (cell .right))
+    omega (arith, c .number-size2 .ensures, c .before .number-size .ensures, encode-size (cell .kind), encode-size (cell .left))
 
 number-size-requires-3 : tie.Need-number-size-requires-3
 number-size-requires-3 c κs = search needs
@@ -28,6 +28,24 @@ add-result-2 c =
       c .number-size3 .ensures,
       c .before .number-size2 .ensures,
       c .before .before .number-size .ensures,
+      encode-size (cell .kind),
+      encode-size (cell .left),
+      encode-size (cell .right),
+    )
+
+number-size-requires-4 : tie.Need-number-size-requires-4
+number-size-requires-4 c κs = search needs
+
+add-result-3 : tie.Need-add-result-3
+add-result-3 c =
+    let cell = c .before .before .before .before .args .cell in
+    omega (
+      arith,
+      c .number-size4 .ensures,
+      c .before .number-size3 .ensures,
+      c .before .before .number-size2 .ensures,
+      c .before .before .before .number-size .ensures,
+      encode-size (cell .kind),
       encode-size (cell .left),
       encode-size (cell .right),
       encode-size (cell .value),
@@ -37,10 +55,11 @@ returns : tie.Need-returns
 returns c =
     omega (
       arith,
-      c .number-size3 .ensures,
-      c .before .number-size2 .ensures,
-      c .before .before .number-size .ensures,
-      cell-length (c .before .before .before .args .cell),
+      c .number-size4 .ensures,
+      c .before .number-size3 .ensures,
+      c .before .before .number-size2 .ensures,
+      c .before .before .before .number-size .ensures,
+      cell-length (c .before .before .before .before .args .cell),
     )
 
 pub cell-size-spec : {M : Type 1} → statement M
@@ -52,4 +71,6 @@ cell-size-spec =
     add-result
     number-size-requires-3
     add-result-2
+    number-size-requires-4
+    add-result-3
     returns)

@@ -9,9 +9,9 @@ use lib.ListN.{getD}
 use denote.Ref.{now}
 use Rattle.pool.specs.Layout.{registerCount}
 use Rattle.questions.proofs.PoolGraph.{Used}
-use Rattle.image_writer.specs.Steps.{numberAt}
+use Rattle.image_writer.specs.Steps.{wordAt}
 use Rattle.numbering.proofs.Ordering.{few-kept}
-use Rattle.image_writer.proofs.ImageNumber.{cell-used, left-bound, right-bound, cell-saved}
+use Rattle.image_writer.proofs.ImageNumber.{cell-used, word-bound, cell-saved}
 
 add-cell : tie.Need-add-cell
 add-cell c = search needs
@@ -33,45 +33,62 @@ used c =
     let at-start = c .before .before .before in
     cell-used registerCount _ _ (now (at-start .args .scratch)) (at-start .pre .0) (at-start .pre .1) _ (at-start .pre .2)
 
-read-cell-requires : tie.Need-read-cell-requires
-read-cell-requires c κs = omega (arith, used c, c .before .before .before .pre .0 .room)
+is-point-at-requires : tie.Need-is-point-at-requires
+is-point-at-requires c κs = omega (arith, used c, c .before .before .before .pre .0 .room)
 
-link-number-requires : tie.Need-link-number-requires
-link-number-requires c κs =
-    let at-start = c .before .before .before .before in
+kind-number-requires : tie.Need-kind-number-requires
+kind-number-requires c κs = search needs
+
+read-cell-requires : tie.Need-read-cell-requires
+read-cell-requires c κs =
+    let at-cell = c .before .before in omega (arith, used at-cell, at-cell .before .before .before .pre .0 .room)
+
+saved-word-requires : tie.Need-saved-word-requires
+saved-word-requires c κs =
+    let at-point = c .before .before in
+    let at-start = at-point .before .before .before .before in
+    λ pair.
     omega (
       arith,
       c .read-cell .ensures,
-      left-bound registerCount _ (now (at-start .args .words)) (now (at-start .args .scratch)) (at-start .pre .0) (at-start .pre .1) _ (at-start .pre .2),
+      word-bound registerCount _ (now (at-start .args .words)) (now (at-start .args .scratch)) (at-start .pre .0) (at-start .pre .1) _ (at-start .pre .2)
+          (at-point .is-point-at .ensures) 0 (omega arith) pair,
       at-start .pre .0 .scratch,
     )
 
 read-cell-requires-2 : tie.Need-read-cell-requires-2
-read-cell-requires-2 c κs = omega (arith, used (c .before .before), c .before .before .before .before .before .pre .0 .room)
+read-cell-requires-2 c κs =
+    let at-cell = c .before .before .before .before in omega (arith, used at-cell, at-cell .before .before .before .pre .0 .room)
 
-link-number-requires-2 : tie.Need-link-number-requires-2
-link-number-requires-2 c κs =
-    let at-start = c .before .before .before .before .before .before in
+saved-word-requires-2 : tie.Need-saved-word-requires-2
+saved-word-requires-2 c κs =
+    let at-point = c .before .before .before .before in
+    let at-start = at-point .before .before .before .before in
+    λ pair.
     omega (
       arith,
       c .read-cell2 .ensures,
-      right-bound registerCount _ (now (at-start .args .words)) (now (at-start .args .scratch)) (at-start .pre .0) (at-start .pre .1) _ (at-start .pre .2),
+      word-bound registerCount _ (now (at-start .args .words)) (now (at-start .args .scratch)) (at-start .pre .0) (at-start .pre .1) _ (at-start .pre .2)
+          (at-point .is-point-at .ensures) 1 (omega arith) pair,
       at-start .pre .0 .scratch,
     )
 
 read-cell-requires-3 : tie.Need-read-cell-requires-3
 read-cell-requires-3 c κs =
-    let at-cell = c .before .before .before .before in omega (arith, used at-cell, at-cell .before .before .before .pre .0 .room)
+    let at-cell = c .before .before .before .before .before .before in omega (arith, used at-cell, at-cell .before .before .before .pre .0 .room)
 
 returns : tie.Need-returns
 returns c =
     let at-right = c .before in
     let at-left = at-right .before .before in
-    let at-start = at-left .before .before .before .before .before in
-    let number = numberAt (now (at-start .args .scratch)) in
-    cell-saved registerCount _ _ (now (at-start .args .scratch)) (at-start .pre .0) (at-start .pre .1) _ (at-start .pre .2) _ _ _
-    (at-left .link-number .ensures ∙ ap number (at-left .before .read-cell .ensures))
-    (at-right .link-number2 .ensures ∙ ap number (at-right .before .read-cell2 .ensures)) (c .read-cell3 .ensures)
+    let at-kind = at-left .before .before in
+    let at-point = at-kind .before in
+    let at-start = at-point .before .before .before .before in
+    let word = wordAt (at-point .is-point-at .result) (now (at-start .args .scratch)) in
+    cell-saved registerCount _ _ (now (at-start .args .scratch)) (at-start .pre .0) (at-start .pre .1) _ (at-start .pre .2) _ _ _ _ _
+    (at-point .is-point-at .ensures) (at-kind .kind-number .ensures)
+    (at-left .saved-word .ensures ∙ ap word (at-left .before .read-cell .ensures))
+    (at-right .saved-word2 .ensures ∙ ap word (at-right .before .read-cell2 .ensures)) (c .read-cell3 .ensures)
 
 pub saved-cell-spec : {M : Type 1} → statement M
 saved-cell-spec =
@@ -80,9 +97,11 @@ saved-cell-spec =
     add-cell
     mul-cell
     shared-slice-read-cell
+    is-point-at-requires
+    kind-number-requires
     read-cell-requires
-    link-number-requires
+    saved-word-requires
     read-cell-requires-2
-    link-number-requires-2
+    saved-word-requires-2
     read-cell-requires-3
     returns)

@@ -4,7 +4,9 @@ use Rattle.load.proofs.mark_first.Tie as tie
 use native.Mathlib.Omega.{arith}
 use borrow.Author.Tests.{le-leb, lt-leb}
 use Rattle.pool.specs.Layout.{registerCount}
+use mathlib.Core.Path.{refl}
 use Rattle.pool.proofs.Laws.{cell-same}
+use Rattle.pool.proofs.States.{marked-marked, point-marked, free-not-marked}
 use Rattle.load.proofs.Marking.{Marking, marking-first, marking-turn, marking-last}
 
 abbrev Inv-loop : tie.InvT-loop
@@ -16,8 +18,8 @@ abbrev μ-loop : tie.MeasureT-loop
 loop-holds : tie.Need-loop-holds Inv-loop μ-loop
 loop-holds c = marking-first registerCount _ _ _
 
-write-cell-requires : tie.Need-write-cell-requires Inv-loop μ-loop
-write-cell-requires c κs = let at-loop = c .before .before .before in omega (arith, at-loop .loop .inv .few, at-loop .loop .inv .len, at-loop .before .before .pre)
+mark-cell-requires : tie.Need-mark-cell-requires Inv-loop μ-loop
+mark-cell-requires c κs = let at-loop = c .before .before .before in omega (arith, at-loop .loop .inv .few, at-loop .loop .inv .len, at-loop .before .before .pre)
 
 sub-i : tie.Need-sub-i Inv-loop μ-loop
 sub-i c = omega arith
@@ -32,11 +34,12 @@ loop-again c =
     let at-loop = at-test .before .before in
     let some = at-test .before .loop-test .taken in
     let m = at-loop .loop .inv in
-    marking-turn registerCount _ _ _ _ _ m _ _ some (at-write .write-cell .ensures)
-    (rw (cell-same registerCount (at-loop .loop .words) _ 0 _ some (omega arith) (omega (arith, m .few, m .len, at-loop .before .before .pre)), le-leb _ _ (at-test .if1 .taken)))
+    marking-turn registerCount _ _ _ _ _ m _ _ some (at-write .mark-cell .ensures)
+    (rw (cell-same registerCount (at-loop .loop .words) _ 0 _ some (omega arith) (omega (arith, m .few, m .len, at-loop .before .before .pre)), le-leb _ _ (at-test .if1 .taken)) (marked-marked _))
+    (λ inside. rw (cell-same registerCount (at-loop .loop .words) _ 0 _ some (omega arith) (omega (arith, m .few, m .len, at-loop .before .before .pre))) (point-marked _))
 
-write-cell-requires-2 : tie.Need-write-cell-requires-2 Inv-loop μ-loop
-write-cell-requires-2 c κs = let at-loop = c .before .before .before in omega (arith, at-loop .loop .inv .few, at-loop .loop .inv .len, at-loop .before .before .pre)
+write-cell-requires : tie.Need-write-cell-requires Inv-loop μ-loop
+write-cell-requires c κs = let at-loop = c .before .before .before in omega (arith, at-loop .loop .inv .few, at-loop .loop .inv .len, at-loop .before .before .pre)
 
 sub-i-2 : tie.Need-sub-i-2 Inv-loop μ-loop
 sub-i-2 c = omega arith
@@ -51,8 +54,9 @@ loop-again-2 c =
     let at-loop = at-test .before .before in
     let some = at-test .before .loop-test .taken in
     let m = at-loop .loop .inv in
-    marking-turn registerCount _ _ _ _ _ m _ _ some (at-write .write-cell2 .ensures)
-    (rw (cell-same registerCount (at-loop .loop .words) _ 0 _ some (omega arith) (omega (arith, m .few, m .len, at-loop .before .before .pre)), lt-leb _ _ (at-test .if1 .left)))
+    marking-turn registerCount _ _ _ _ _ m _ _ some (at-write .write-cell .ensures)
+    (rw (cell-same registerCount (at-loop .loop .words) _ 0 _ some (omega arith) (omega (arith, m .few, m .len, at-loop .before .before .pre)), lt-leb _ _ (at-test .if1 .left)) (free-not-marked _ refl))
+    (λ inside. absurd (omega (arith, at-test .if1 .left)))
 
 same-length : tie.Need-same-length Inv-loop μ-loop
 same-length c = c .before .loop .inv .len
@@ -67,11 +71,11 @@ mark-first-spec =
     Inv-loop
     μ-loop
     loop-holds
-    write-cell-requires
+    mark-cell-requires
     sub-i
     loop-less
     loop-again
-    write-cell-requires-2
+    write-cell-requires
     sub-i-2
     loop-less-2
     loop-again-2

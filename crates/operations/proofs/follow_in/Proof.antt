@@ -4,16 +4,16 @@ use Rattle.operations.proofs.follow_in.Statement.{statement}
 use Rattle.operations.proofs.follow_in.Tie as tie
 use native.Mathlib.Omega.{arith}
 use mathlib.Core.Path.{sym, _∙_}
-use Rattle.operations.proofs.Bodies.{cell-there, with-cell, with-none, followed, follow-malformed}
+use Rattle.operations.proofs.Bodies.{kind-there, with-cell, with-none, followed, follow-malformed}
 
-held-cell-requires : tie.Need-held-cell-requires
-held-cell-requires c κs = search needs
+held-kind-requires : tie.Need-held-kind-requires
+held-kind-requires c κs = search needs
 
 enum-known-x : tie.Need-enum-known-x
 enum-known-x c = search needs
 
 read-cell-requires : tie.Need-read-cell-requires
-read-cell-requires c κs = omega (arith, cell-there _ _ _ (c .before .before .before .before .held-cell .ensures) (c .before .before .x .given .1))
+read-cell-requires c κs = omega (arith, kind-there _ _ _ _ (c .before .before .before .before .held-kind .ensures) (c .before .before .x .given .1))
 
 valid-link-requires : tie.Need-valid-link-requires
 valid-link-requires c κs = search needs
@@ -32,7 +32,7 @@ returns c =
     let at-if1 = c .before .before .before .before in
     let at-read-cell = at-if1 .before .before .before in
     let at-x = at-read-cell .before .before .before in
-    with-cell _ _ _ (at-x .before .before .held-cell .ensures) _ (at-x .x .given .1)
+    with-cell _ (at-x .before .before .held-kind .ensures) _ (at-x .x .given .1)
     (followed _ _ _ _ _ (at-read-cell .read-cell .ensures) (sym (at-if1 .before .valid-link .ensures) ∙ at-if1 .if1 .taken) (c .before .before .write-register .ensures))
 
 same-length-2 : tie.Need-same-length-2
@@ -42,20 +42,20 @@ returns-2 : tie.Need-returns-2
 returns-2 c =
     let at-read-cell = c .before .before .before in
     let at-x = at-read-cell .before .before .before in
-    with-cell _ _ _ (at-x .before .before .held-cell .ensures) _ (at-x .x .given .1)
+    with-cell _ (at-x .before .before .held-kind .ensures) _ (at-x .x .given .1)
     (follow-malformed _ _ _ _ _ (at-read-cell .read-cell .ensures) (sym (c .before .valid-link .ensures) ∙ c .if1 .left))
 
 same-length-3 : tie.Need-same-length-3
 same-length-3 c = search needs
 
 returns-3 : tie.Need-returns-3
-returns-3 c = with-none _ _ _ (c .before .before .before .held-cell .ensures) _ (c .before .k .given .1)
+returns-3 c = with-none _ (c .before .before .before .held-kind .ensures) _ (c .before .k .given .1)
 
 pub follow-in-spec : {M : Type 1} → statement M
 follow-in-spec =
     tie.close
     (tie.spec
-    held-cell-requires
+    held-kind-requires
     enum-known-x
     read-cell-requires
     valid-link-requires

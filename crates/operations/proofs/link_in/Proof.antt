@@ -4,7 +4,7 @@ use Rattle.operations.proofs.link_in.Statement.{statement}
 use Rattle.operations.proofs.link_in.Tie as tie
 use native.Mathlib.Omega.{arith}
 use Rattle.questions.proofs.RegisterLinks.{holds, holds-none}
-use Rattle.operations.proofs.Bodies.{stored, cell-there, with-cell, with-none}
+use Rattle.operations.proofs.Bodies.{stored, kind-there, with-cell, with-none}
 
 read-link-requires : tie.Need-read-link-requires
 read-link-requires c κs = search needs
@@ -21,14 +21,14 @@ same-length c = search needs
 returns : tie.Need-returns
 returns c = simp (holds-none _ _ _ (c .before .before .read-link .ensures) (c .enum-told .given .1))
 
-held-cell-requires : tie.Need-held-cell-requires
-held-cell-requires c κs = search needs
+held-kind-requires : tie.Need-held-kind-requires
+held-kind-requires c κs = search needs
 
 enum-known-x : tie.Need-enum-known-x
 enum-known-x c = search needs
 
 write-cell-requires : tie.Need-write-cell-requires
-write-cell-requires c κs = omega (arith, cell-there _ _ _ (c .before .before .before .before .held-cell .ensures) (c .before .before .x .given .1))
+write-cell-requires c κs = omega (arith, kind-there _ _ _ _ (c .before .before .before .before .held-kind .ensures) (c .before .before .x .given .1))
 
 enum-known-k : tie.Need-enum-known-k
 enum-known-k c = search needs
@@ -39,20 +39,20 @@ same-length-2 c = search needs
 returns-2 : tie.Need-returns-2
 returns-2 c =
     let at-x = c .before .before .before .before .before in
-    let at-held-cell = at-x .before .before in
-    let at-y = at-held-cell .before .before .before in
+    let at-held-kind = at-x .before .before in
+    let at-y = at-held-kind .before .before .before in
     stored _ _ (holds _ _ _ (at-y .before .before .read-link .ensures) (at-y .y .given .1)) _ _
-    (with-cell _ _ _ (at-held-cell .held-cell .ensures) _ (at-x .x .given .1) (simp (c .before .before .write-cell .ensures)))
+    (with-cell _ (at-held-kind .held-kind .ensures) _ (at-x .x .given .1) (simp (c .before .before .write-cell .ensures)))
 
 same-length-3 : tie.Need-same-length-3
 same-length-3 c = search needs
 
 returns-3 : tie.Need-returns-3
 returns-3 c =
-    let at-held-cell = c .before .before .before in
-    let at-y = at-held-cell .before .before .before in
+    let at-held-kind = c .before .before .before in
+    let at-y = at-held-kind .before .before .before in
     stored _ _ (holds _ _ _ (at-y .before .before .read-link .ensures) (at-y .y .given .1)) _ _
-    (with-none _ _ _ (at-held-cell .held-cell .ensures) _ (c .before .k .given .1))
+    (with-none _ (at-held-kind .held-kind .ensures) _ (c .before .k .given .1))
 
 pub link-in-spec : {M : Type 1} → statement M
 link-in-spec =
@@ -63,7 +63,7 @@ link-in-spec =
     enum-told
     same-length
     returns
-    held-cell-requires
+    held-kind-requires
     enum-known-x
     write-cell-requires
     enum-known-k

@@ -23,13 +23,13 @@ same-length c = search needs
 returns : tie.Need-returns
 returns c =
     let at-x = c .before .before .before .before .before in
-    with-cell _ _ _ (at-x .before .before .held-cell .ensures) _ (at-x .x .given .1) (simp (c .before .before .write-cell .ensures))
+    with-cell _ (at-x .before .before .held-cell .ensures) _ (at-x .x .given .1) (simp (c .before .before .write-cell .ensures))
 
 same-length-2 : tie.Need-same-length-2
 same-length-2 c = search needs
 
 returns-2 : tie.Need-returns-2
-returns-2 c = with-none _ _ _ (c .before .before .before .held-cell .ensures) _ (c .before .k .given .1)
+returns-2 c = with-none _ (c .before .before .before .held-cell .ensures) _ (c .before .k .given .1)
 
 pub set-value-in-spec : {M : Type 1} → statement M
 set-value-in-spec =

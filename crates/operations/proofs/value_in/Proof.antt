@@ -18,10 +18,10 @@ enum-known-k : tie.Need-enum-known-k
 enum-known-k c = search needs
 
 returns : tie.Need-returns
-returns c = with-cell _ _ _ (c .before .before .before .before .held-cell .ensures) _ (c .before .before .x .given .1) (simp (c .read-cell .ensures))
+returns c = with-cell _ (c .before .before .before .before .held-cell .ensures) _ (c .before .before .x .given .1) (simp (c .read-cell .ensures))
 
 returns-2 : tie.Need-returns-2
-returns-2 c = with-none _ _ _ (c .before .before .before .held-cell .ensures) _ (c .before .k .given .1)
+returns-2 c = with-none _ (c .before .before .before .held-cell .ensures) _ (c .before .k .given .1)
 
 pub value-in-spec : {M : Type 1} → statement M
 value-in-spec =

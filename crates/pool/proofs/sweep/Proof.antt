@@ -1,10 +1,11 @@
 -- `pool::sweep` meets its contract: each turn is a turn of the definition's (`Turn`), from the highest cell down.
 use Rattle.pool.proofs.sweep.Statement.{statement}
 use Rattle.pool.proofs.sweep.Tie as tie
-use borrow.Author.Needs.{needs}
 use native.Mathlib.Omega.{arith}
-use mathlib.Core.Path.{sym, _∙_}
-use Rattle.pool.specs.Layout.{registerCount}
+use mathlib.Core.Path.{sym, ap, _∙_}
+use Rattle.pool.specs.Layout.{registerCount, setCell}
+use Rattle.pool.specs.States.{asUsed}
+use Rattle.pool.proofs.States.{marked-pair-is, marked-point-is, other-unmarked}
 use Rattle.pool.proofs.Retained.{Turn, turn-first, turn-kept, turn-free, turn-last}
 
 abbrev Inv-loop : tie.InvT-loop
@@ -19,18 +20,14 @@ loop-holds c = turn-first registerCount _ _ (c .before .pre)
 read-cell-requires : tie.Need-read-cell-requires Inv-loop μ-loop
 read-cell-requires c κs = omega (arith, c .before .before .loop .inv .swept .len)
 
-is-marked-requires : tie.Need-is-marked-requires Inv-loop μ-loop
-is-marked-requires c κs = search needs
-
-unmark-cell-requires : tie.Need-unmark-cell-requires Inv-loop μ-loop
-unmark-cell-requires c κs =
-    let at-loop = c .before .before .before .before .before .before in
+write-cell-requires : tie.Need-write-cell-requires Inv-loop μ-loop
+write-cell-requires c κs =
+    let at-loop = c .before .before .before .before .before in
     omega (arith, at-loop .loop .inv .swept .len)
 
 add-kept : tie.Need-add-kept Inv-loop μ-loop
 add-kept c =
-    let at-read-cell = c .before .before .before .before .before .before in
-    let at-loop = at-read-cell .before .before .before in
+    let at-loop = c .before .before .before .before .before .before .before .before in
     omega (arith, at-loop .loop .inv .few)
 
 sub-i : tie.Need-sub-i Inv-loop μ-loop
@@ -41,20 +38,26 @@ loop-less c = omega arith
 
 loop-again : tie.Need-loop-again Inv-loop μ-loop
 loop-again c =
-    let at-unmark-cell = c .before .before in
-    let at-if1 = at-unmark-cell .before .before in
-    let at-is-marked = at-if1 .before in
-    let at-read-cell = at-is-marked .before in
+    let at-write-cell = c .before .before in
+    let at-if1 = at-write-cell .before .before in
+    let at-read-cell = at-if1 .before in
     let at-loop-test = at-read-cell .before .before in
     let at-loop = at-loop-test .before in
     let at-start = at-loop .before .before in
+    let is = marked-pair-is _ (at-if1 .if1 .taken) in
     turn-kept registerCount _ _ (at-start .pre) _ _ _ _ (at-loop-test .loop-test .taken) (at-loop .loop .inv) _ _
-    (at-read-cell .read-cell .ensures) (sym (at-is-marked .is-marked .ensures) ∙ at-if1 .if1 .taken) (at-unmark-cell .unmark-cell .ensures)
+    (at-read-cell .read-cell .ensures) (is .0)
+    (at-write-cell .write-cell .ensures ∙ ap (setCell registerCount _ _ 0) (sym (ap asUsed (sym (at-read-cell .read-cell .ensures)) ∙ is .2)))
 
-put-cell-requires : tie.Need-put-cell-requires Inv-loop μ-loop
-put-cell-requires c κs =
+write-cell-requires-2 : tie.Need-write-cell-requires-2 Inv-loop μ-loop
+write-cell-requires-2 c κs =
     let at-loop = c .before .before .before .before .before .before in
     omega (arith, at-loop .loop .inv .swept .len)
+
+add-kept-2 : tie.Need-add-kept-2 Inv-loop μ-loop
+add-kept-2 c =
+    let at-loop = c .before .before .before .before .before .before .before .before .before in
+    omega (arith, at-loop .loop .inv .few)
 
 sub-i-2 : tie.Need-sub-i-2 Inv-loop μ-loop
 sub-i-2 c = omega arith
@@ -64,15 +67,38 @@ loop-less-2 c = omega arith
 
 loop-again-2 : tie.Need-loop-again-2 Inv-loop μ-loop
 loop-again-2 c =
+    let at-write-cell = c .before .before in
+    let at-if2 = at-write-cell .before .before in
+    let at-read-cell = at-if2 .before .before in
+    let at-loop-test = at-read-cell .before .before in
+    let at-loop = at-loop-test .before in
+    let at-start = at-loop .before .before in
+    let is = marked-point-is _ (at-if2 .if2 .taken) in
+    turn-kept registerCount _ _ (at-start .pre) _ _ _ _ (at-loop-test .loop-test .taken) (at-loop .loop .inv) _ _
+    (at-read-cell .read-cell .ensures) (is .0)
+    (at-write-cell .write-cell2 .ensures ∙ ap (setCell registerCount _ _ 0) (sym (ap asUsed (sym (at-read-cell .read-cell .ensures)) ∙ is .2)))
+
+put-cell-requires : tie.Need-put-cell-requires Inv-loop μ-loop
+put-cell-requires c κs =
+    let at-loop = c .before .before .before .before .before .before in
+    omega (arith, at-loop .loop .inv .swept .len)
+
+sub-i-3 : tie.Need-sub-i-3 Inv-loop μ-loop
+sub-i-3 c = omega arith
+
+loop-less-3 : tie.Need-loop-less-3 Inv-loop μ-loop
+loop-less-3 c = omega arith
+
+loop-again-3 : tie.Need-loop-again-3 Inv-loop μ-loop
+loop-again-3 c =
     let at-put-cell = c .before .before in
-    let at-if1 = at-put-cell .before .before in
-    let at-is-marked = at-if1 .before in
-    let at-read-cell = at-is-marked .before in
+    let at-if2 = at-put-cell .before .before in
+    let at-read-cell = at-if2 .before .before in
     let at-loop-test = at-read-cell .before .before in
     let at-loop = at-loop-test .before in
     let at-start = at-loop .before .before in
     turn-free registerCount _ _ (at-start .pre) _ _ _ _ (at-loop-test .loop-test .taken) (at-loop .loop .inv) _ _
-    (at-read-cell .read-cell .ensures) (sym (at-is-marked .is-marked .ensures) ∙ at-if1 .if1 .left) (at-put-cell .put-cell .ensures)
+    (at-read-cell .read-cell .ensures) (other-unmarked _ (at-if2 .before .if1 .left) (at-if2 .if2 .left)) (at-put-cell .put-cell .ensures)
 
 write-head-requires : tie.Need-write-head-requires Inv-loop μ-loop
 write-head-requires c κs = omega (arith, c .before .before .loop .inv .swept .len)
@@ -93,16 +119,20 @@ sweep-spec =
     μ-loop
     loop-holds
     read-cell-requires
-    is-marked-requires
-    unmark-cell-requires
+    write-cell-requires
     add-kept
     sub-i
     loop-less
     loop-again
-    put-cell-requires
+    write-cell-requires-2
+    add-kept-2
     sub-i-2
     loop-less-2
     loop-again-2
+    put-cell-requires
+    sub-i-3
+    loop-less-3
+    loop-again-3
     write-head-requires
     same-length
     returns)

@@ -5,7 +5,6 @@ use Rattle.reversal.proofs.choose.Tie as tie
 use Rattle.reversal.proofs.choose.Reads as reads
 use Rattle.reversal.proofs.choose.Lts as lts
 use Rattle.pool.proofs.read_cell.Reads as read-cell-reads
-use Rattle.pool.proofs.is_marked.Reads as is-marked-reads
 use Rattle.reversal.proofs.is_unmarked.Reads as is-unmarked-reads
 use denote.Ref.{now}
 use Prim.Native.Nat.{_≤_}
@@ -16,16 +15,38 @@ use lib.ListN.{length}
 use lib.Dec.{eqb}
 use borrow.Author.Tests.{eq-eqb, ne-eqb}
 use Rattle.pool.specs.Layout.{registerCount, poolLength}
-use Rattle.pool.specs.States.{isMarked}
+use Rattle.pool.specs.States.{isPoint, isMarked}
+use Rattle.pool.proofs.States.{neither-point, marked-pair-is, marked-point-is, other-unmarked}
 use Rattle.reversal.specs.Reversal.{unmarked}
 use Rattle.reversal.specs.Cases.{caseOf}
 use Rattle.reversal.proofs.Cases.{chosen, case-told}
 
--- what is known where the mark is not 3
-abbrev Other : Type 0
-Other =
-    lts.Else1 (read-cell-reads.Asked, read-cell-reads.Learnt, is-marked-reads.Asked, is-marked-reads.Learnt, is-unmarked-reads.Asked, is-unmarked-reads.Learnt)
-    reads.Pre reads.Post
+-- what is known once the mark and the next link are read
+abbrev Read : Type 0
+Read = lts.After-read-cell2 (read-cell-reads.Asked, read-cell-reads.Learnt, is-unmarked-reads.Asked, is-unmarked-reads.Learnt) reads.Pre reads.Post
+
+-- a mark that is neither 3 nor 6 is that of a pair, and not 3
+pair-mark : (c : Read) → (c .before .read-cell .result ≡ 3 → ⊥) → (c .before .read-cell .result ≡ 6 → ⊥)
+    → (isPoint (c .before .read-cell .result) ≡ false) × (isMarked (c .before .read-cell .result) ≡ false)
+pair-mark c pair point = (
+  neither-point _ (λ e. c .before .before .before .pre .0 .2 (sym (c .before .read-cell .ensures) ∙ e)) point,
+  other-unmarked _ pair point,
+)
+
+-- unless the cell is marked: the next link is nil or a cell
+bound : (c : Read) → isMarked (c .before .read-cell .result) ≡ false
+    → poolLength registerCount (c .read-cell2 .result) ≤ length (now (c .before .before .before .args .words))
+bound c other =
+    let at-mark = c .before in
+    let within = at-mark .before .before .pre .1 (ap isMarked (sym (at-mark .read-cell .ensures)) ∙ other) in
+    omega (arith, c .read-cell2 .ensures)
+
+-- the tests tell the case
+told : (c : Read) {point third first onward : Bool} → isPoint (c .before .read-cell .result) ≡ point → isMarked (c .before .read-cell .result) ≡ third
+    → eqb (c .before .read-cell .result) 1 ≡ first
+    → unmarked registerCount (now (c .before .before .before .args .words)) (c .read-cell2 .result) ≡ onward
+    → chosen point third first onward ≡ caseOf registerCount (now (c .before .before .before .args .words)) (c .before .before .before .args .p)
+told c e-point e-third e-first e-onward = case-told _ _ _ (c .before .read-cell .ensures) (c .read-cell2 .ensures) e-point e-third e-first e-onward
 
 read-cell-requires : tie.Need-read-cell-requires
 read-cell-requires c κs = search needs
@@ -33,57 +54,51 @@ read-cell-requires c κs = search needs
 read-cell-requires-2 : tie.Need-read-cell-requires-2
 read-cell-requires-2 c κs = search needs
 
-is-marked-requires : tie.Need-is-marked-requires
-is-marked-requires c κs = search needs
-
 returns : tie.Need-returns
-returns c =
-    let at-is-marked = c .before in
-    let at-next = at-is-marked .before in
-    case-told _ _ _ (at-next .before .read-cell .ensures) (at-next .read-cell2 .ensures) (sym (at-is-marked .is-marked .ensures) ∙ c .if1 .taken) refl refl
-
--- unless this is the third visit: the next link is nil or a cell
-bound : (c : Other) → poolLength registerCount (c .before .before .read-cell2 .result) ≤ length (now (c .before .before .before .before .before .args .words))
-bound c =
-    let at-next = c .before .before in
-    let at-mark = at-next .before in
-    let within = at-mark .before .before .pre .1 (ap isMarked (sym (at-mark .read-cell .ensures)) ∙ (sym (c .before .is-marked .ensures) ∙ c .if1 .left)) in
-    omega (arith, at-next .read-cell2 .ensures)
-
--- and the further tests tell the case
-told : (c : Other) {first onward : Bool} → eqb (c .before .before .before .read-cell .result) 1 ≡ first
-    → unmarked registerCount (now (c .before .before .before .before .before .args .words)) (c .before .before .read-cell2 .result) ≡ onward
-    → chosen false first onward
-    ≡ caseOf registerCount (now (c .before .before .before .before .before .args .words)) (c .before .before .before .before .before .args .p)
-told c e-first e-onward =
-    let at-next = c .before .before in
-    case-told _ _ _ (at-next .before .read-cell .ensures) (at-next .read-cell2 .ensures) (sym (c .before .is-marked .ensures) ∙ c .if1 .left) e-first e-onward
-
-is-unmarked-requires : tie.Need-is-unmarked-requires
-is-unmarked-requires c κs = bound (c .before)
+returns c = let is = marked-pair-is _ (c .if1 .taken) in told (c .before) (is .1) (is .0) refl refl
 
 returns-2 : tie.Need-returns-2
-returns-2 c =
-    let at-if2 = c .before .before in
-    told (at-if2 .before) (eq-eqb _ _ (at-if2 .if2 .taken)) (sym (c .before .is-unmarked .ensures) ∙ c .if3 .taken)
+returns-2 c = told (c .before .before) (marked-point-is _ (c .if2 .taken) .1) refl refl refl
+
+is-unmarked-requires : tie.Need-is-unmarked-requires
+is-unmarked-requires c κs =
+    let at-if2 = c .before in
+    let at-if1 = at-if2 .before in
+    bound (at-if1 .before) (pair-mark (at-if1 .before) (at-if1 .if1 .left) (at-if2 .if2 .left) .1)
 
 returns-3 : tie.Need-returns-3
 returns-3 c =
-    let at-if2 = c .before .before in
-    told (at-if2 .before) (eq-eqb _ _ (at-if2 .if2 .taken)) (sym (c .before .is-unmarked .ensures) ∙ c .if3 .left)
-
-is-unmarked-requires-2 : tie.Need-is-unmarked-requires-2
-is-unmarked-requires-2 c κs = bound (c .before)
+    let at-if3 = c .before .before in
+    let at-if1 = at-if3 .before .before in
+    let is = pair-mark (at-if1 .before) (at-if1 .if1 .left) (at-if3 .before .if2 .left) in
+    told (at-if1 .before) (is .0) (is .1) (eq-eqb _ _ (at-if3 .if3 .taken)) (sym (c .before .is-unmarked .ensures) ∙ c .if4 .taken)
 
 returns-4 : tie.Need-returns-4
 returns-4 c =
-    let at-if2 = c .before .before in
-    told (at-if2 .before) (ne-eqb _ _ (at-if2 .if2 .left)) (sym (c .before .is-unmarked2 .ensures) ∙ c .if4 .taken)
+    let at-if3 = c .before .before in
+    let at-if1 = at-if3 .before .before in
+    let is = pair-mark (at-if1 .before) (at-if1 .if1 .left) (at-if3 .before .if2 .left) in
+    told (at-if1 .before) (is .0) (is .1) (eq-eqb _ _ (at-if3 .if3 .taken)) (sym (c .before .is-unmarked .ensures) ∙ c .if4 .left)
+
+is-unmarked-requires-2 : tie.Need-is-unmarked-requires-2
+is-unmarked-requires-2 c κs =
+    let at-if2 = c .before in
+    let at-if1 = at-if2 .before in
+    bound (at-if1 .before) (pair-mark (at-if1 .before) (at-if1 .if1 .left) (at-if2 .if2 .left) .1)
 
 returns-5 : tie.Need-returns-5
 returns-5 c =
-    let at-if2 = c .before .before in
-    told (at-if2 .before) (ne-eqb _ _ (at-if2 .if2 .left)) (sym (c .before .is-unmarked2 .ensures) ∙ c .if4 .left)
+    let at-if3 = c .before .before in
+    let at-if1 = at-if3 .before .before in
+    let is = pair-mark (at-if1 .before) (at-if1 .if1 .left) (at-if3 .before .if2 .left) in
+    told (at-if1 .before) (is .0) (is .1) (ne-eqb _ _ (at-if3 .if3 .left)) (sym (c .before .is-unmarked2 .ensures) ∙ c .if5 .taken)
+
+returns-6 : tie.Need-returns-6
+returns-6 c =
+    let at-if3 = c .before .before in
+    let at-if1 = at-if3 .before .before in
+    let is = pair-mark (at-if1 .before) (at-if1 .if1 .left) (at-if3 .before .if2 .left) in
+    told (at-if1 .before) (is .0) (is .1) (ne-eqb _ _ (at-if3 .if3 .left)) (sym (c .before .is-unmarked2 .ensures) ∙ c .if5 .left)
 
 pub choose-spec : {M : Type 1} → statement M
 choose-spec =
@@ -91,11 +106,11 @@ choose-spec =
     (tie.spec
     read-cell-requires
     read-cell-requires-2
-    is-marked-requires
     returns
-    is-unmarked-requires
     returns-2
+    is-unmarked-requires
     returns-3
-    is-unmarked-requires-2
     returns-4
-    returns-5)
+    is-unmarked-requires-2
+    returns-5
+    returns-6)

@@ -18,7 +18,22 @@ returns-3 c = simp (c .match .keys3)
 
 returns-4 : tie.Need-returns-4
 unfolding command
-returns-4 c = simp (ne-eqb _ _ (c .match .rest .1), ne-eqb _ _ (c .match .rest .0 .1), ne-eqb _ _ (c .match .rest .0 .0 .1))
+returns-4 c = simp (c .match .keys4)
+
+returns-5 : tie.Need-returns-5
+unfolding command
+returns-5 c = simp (c .match .keys5)
+
+returns-6 : tie.Need-returns-6
+unfolding command
+returns-6 c =
+    simp (
+      ne-eqb _ _ (c .match .rest .1),
+      ne-eqb _ _ (c .match .rest .0 .1),
+      ne-eqb _ _ (c .match .rest .0 .0 .1),
+      ne-eqb _ _ (c .match .rest .0 .0 .0 .1),
+      ne-eqb _ _ (c .match .rest .0 .0 .0 .0 .1),
+    )
 
 pub one-spec : {M : Type 1} → statement M
-one-spec = tie.close (tie.spec returns returns-2 returns-3 returns-4)
+one-spec = tie.close (tie.spec returns returns-2 returns-3 returns-4 returns-5 returns-6)

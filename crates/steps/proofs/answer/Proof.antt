@@ -69,6 +69,24 @@ enum-told c = search needs
 collect-requires : tie.Need-collect-requires
 collect-requires c κs = search needs
 
+enum-known-call-11 : tie.Need-enum-known-call-11
+enum-known-call-11 c = search needs
+
+point-requires : tie.Need-point-requires
+point-requires c κs = search needs
+
+enum-known-call-12 : tie.Need-enum-known-call-12
+enum-known-call-12 c = search needs
+
+east-requires : tie.Need-east-requires
+east-requires c κs = search needs
+
+enum-known-call-13 : tie.Need-enum-known-call-13
+enum-known-call-13 c = search needs
+
+north-requires : tie.Need-north-requires
+north-requires c κs = search needs
+
 same-length : tie.Need-same-length
 same-length c = search needs
 
@@ -135,6 +153,24 @@ same-length-11 c = search needs
 returns-11 : tie.Need-returns-11
 returns-11 c = rw (c .before .before .before .before .enum-told .given .1) (c .before .before .collect .ensures)
 
+same-length-12 : tie.Need-same-length-12
+same-length-12 c = search needs
+
+returns-12 : tie.Need-returns-12
+returns-12 c = rw (c .before .before .before .before .before .call11 .given .1) (c .before .before .point .ensures)
+
+same-length-13 : tie.Need-same-length-13
+same-length-13 c = search needs
+
+returns-13 : tie.Need-returns-13
+returns-13 c = rw (c .before .before .before .call12 .given .1) (c .east .ensures)
+
+same-length-14 : tie.Need-same-length-14
+same-length-14 c = search needs
+
+returns-14 : tie.Need-returns-14
+returns-14 c = rw (c .before .before .before .call13 .given .1) (c .north .ensures)
+
 pub answer-spec : {M : Type 1} → statement M
 answer-spec =
     tie.close
@@ -161,6 +197,12 @@ answer-spec =
     same-requires
     enum-told
     collect-requires
+    enum-known-call-11
+    point-requires
+    enum-known-call-12
+    east-requires
+    enum-known-call-13
+    north-requires
     same-length
     returns
     same-length-2
@@ -182,4 +224,10 @@ answer-spec =
     same-length-10
     returns-10
     same-length-11
-    returns-11)
+    returns-11
+    same-length-12
+    returns-12
+    same-length-13
+    returns-13
+    same-length-14
+    returns-14)

@@ -36,9 +36,6 @@ loop-less c = search needs
 loop-again : tie.Need-loop-again Inv-loop μ-loop
 loop-again c = search needs
 
-put-cell-requires : tie.Need-put-cell-requires Inv-loop μ-loop
-put-cell-requires c κs = search needs
-
 add-kept : tie.Need-add-kept Inv-loop μ-loop
 add-kept c = search needs
 
@@ -74,7 +71,6 @@ keep-marked-spec =
     sub-i
     loop-less
     loop-again
-    put-cell-requires
     add-kept
     sub-i-2
     loop-less-2

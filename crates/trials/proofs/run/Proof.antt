@@ -8,6 +8,9 @@ use Rattle.trials.proofs.run.Tie as tie
 expect-requires : tie.Need-expect-requires
 expect-requires c κs = search needs
 
+points-requires : tie.Need-points-requires
+points-requires c κs = search needs
+
 make-requires : tie.Need-make-requires
 make-requires c κs = search needs
 
@@ -45,6 +48,7 @@ run-spec =
     tie.close
     (tie.spec
     expect-requires
+    points-requires
     make-requires
     set-all-requires
     collect-requires

@@ -39,6 +39,9 @@ enum-told-5 c = search needs
 set-links-requires-5 : tie.Need-set-links-requires-5
 set-links-requires-5 c κs = search needs
 
+enum-told-6 : tie.Need-enum-told-6
+enum-told-6 c = search needs
+
 same-length : tie.Need-same-length
 same-length c = search needs
 
@@ -84,6 +87,12 @@ returns-5 c =
     let at-read-cell2 = at-set-links .before .before .before .before in
     rw (at-set-links .before .before .enum-told5 .given .1, at-set-links .set-links5 .ensures, at-read-cell2 .read-cell2 .ensures, at-read-cell2 .before .before .read-cell .ensures)
 
+same-length-6 : tie.Need-same-length-6
+same-length-6 c = search needs
+
+returns-6 : tie.Need-returns-6
+returns-6 c = rw (c .enum-told6 .given .1)
+
 pub act-spec : {M : Type 1} → statement M
 act-spec =
     tie.close
@@ -100,6 +109,7 @@ act-spec =
     set-links-requires-4
     enum-told-5
     set-links-requires-5
+    enum-told-6
     same-length
     returns
     same-length-2
@@ -109,4 +119,6 @@ act-spec =
     same-length-4
     returns-4
     same-length-5
-    returns-5)
+    returns-5
+    same-length-6
+    returns-6)

@@ -1,16 +1,16 @@
--- `reversal::Marker::visit` meets its contract: the addition, the choice of the case and what it does are those of the definition (`Added`).
+-- `reversal::Marker::visit` meets its contract: the addition, the choice of the case and what it does are those of the definition (`Added` in `VisitStep`).
 use borrow.Author.Needs.{needs}
 use Rattle.reversal.proofs.Marker.visit.Statement.{statement}
 use Rattle.reversal.proofs.Marker.visit.Tie as tie
 use native.Mathlib.Omega.{arith}
 use mathlib.Core.Path.{refl, _∙_}
-use Rattle.reversal.proofs.VisitStep.{next-bound, visit-made}
+use Rattle.reversal.proofs.VisitStep.{choosable, mark-bound, visit-made}
 
 read-cell-requires : tie.Need-read-cell-requires
 read-cell-requires c κs = search needs
 
 add-mark : tie.Need-add-mark
-add-mark c = search needs
+add-mark c = omega (arith, mark-bound (c .before .before .before .pre .0), c .read-cell .ensures)
 
 write-cell-requires : tie.Need-write-cell-requires
 write-cell-requires c κs = search needs
@@ -20,16 +20,13 @@ choose-requires c κs =
     let at-write-cell = c .before .before .before in
     let at-read-cell = at-write-cell .before .before in
     let at-start = at-read-cell .before .before .before in
-    let bound =
-    next-bound
+    choosable
     (record {
       visitable = at-start .pre .0;
       room = at-start .pre .1;
       words = at-write-cell .write-cell .ensures ∙ rw (at-read-cell .read-cell .ensures) refl;
-    }) in (
-      (at-start .pre .0 .positive, omega (arith, at-start .pre .0 .bounded, at-start .pre .1, at-write-cell .write-cell .kept .0)),
-      λ other. omega (arith, bound other, at-start .pre .1, at-write-cell .write-cell .kept .0),
-    )
+    })
+    (at-write-cell .write-cell .kept .0)
 
 add-self : tie.Need-add-self
 add-self c = search needs
