@@ -111,7 +111,7 @@ impl Bench {
         Bench { pools, samples }
     }
 
-    /// Without an earlier version of the library, whose fresh and collect_stack may have an argument less.
+    /// Without an earlier version of the library, whose fresh may have an argument less.
     fn without_before(&self) -> Bench {
         let pools = self.pools.iter().copied().filter(|(name, _)| *name != "before").collect();
         Bench { pools, samples: self.samples }
@@ -305,19 +305,21 @@ fn collect(bench: &Bench, random: &mut Random) {
 }
 
 fn stack(bench: &Bench, random: &mut Random) {
-    let (n, bench) = (CELLS, bench.without_before());
+    let n = CELLS;
     println!("### Collect with a lent stack, {n} cells\n");
     println!("| graph | stack words | enough | checks | library, µs | library's reversal / stack |{}", bench.others());
     bench.rule(3, 3);
-    for Graphs { name, mut words, .. } in all_graphs(&SHAPES, n, random) {
-        let reversal = bench.collect(&mut words);
+    for mut graphs in all_graphs(&SHAPES, n, random) {
+        let of = graphs.bench(bench);
+        let reversal = of.collect(&mut graphs.words);
         for length in [n, 16] {
-            let (figures, Outcome { enough, checks }) = bench.stack(&mut words, length);
+            let (figures, Outcome { enough, checks }) = of.stack(&mut graphs.words, length);
             println!(
-                "| {name} | {length} | {enough} | {checks} | {:.1} | {:.2} |{}",
+                "| {} | {length} | {enough} | {checks} | {:.1} | {:.2} |{}",
+                graphs.name,
                 figures.library / 1e3,
                 reversal.library / figures.library,
-                figures.ratios()
+                bench.ratios(&figures)
             );
         }
     }
@@ -456,7 +458,7 @@ fn growth(bench: &Bench, random: &mut Random) {
             let (save, images) = bench.save(&mut graphs);
             let load = bench.load(n, &images);
             let collect = bench.collect(&mut graphs);
-            let (stack, _) = bench.without_before().stack(&mut graphs, n);
+            let (stack, _) = bench.stack(&mut graphs, n);
             for (row, figures) in rows.iter_mut().zip([collect, stack, save, load]) {
                 row.1 += &format!(" {:.1} ({:.2}) |", figures.library / n as f64, figures.ratios[0]);
             }

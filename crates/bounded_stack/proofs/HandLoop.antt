@@ -8,7 +8,8 @@ use lib.ListN.{length, getD, set, length-set, length-append}
 use borrow.Author.Tests.{lt-ltb, le-ltb}
 use Rattle.graph.specs.Preorder.{elem}
 use Rattle.graph.proofs.Count.{marked-le}
-use Rattle.pool.specs.Layout.{poolLength, graphOf, rootsOf, markCell, linkOf}
+use Rattle.pool.specs.Layout.{poolLength, state, graphOf, rootsOf, markCell, linkOf}
+use Rattle.pool.specs.States.{isUsed, isMarked}
 use Rattle.questions.proofs.PoolGraph.{pool-within}
 use Rattle.reversal.specs.ReversalTheorem.{markAll}
 use Rattle.reversal.proofs.PoolMarks.{stateMarks}
@@ -18,7 +19,7 @@ use Rattle.stack_algorithm.specs.Check.{check, behind, checkAndPush, push, turn
 use Rattle.stack_algorithm.proofs.Going.{Lasting, seen-most, turn-lasting}
 use Rattle.stack_algorithm.proofs.Checking.{Left, check-left, check-going, limited-none, enough-behind, dropped-some, elem-append}
 use Rattle.stack_check.specs.Steps.{onwardIn, entries, Pending, Checkable, checkIn}
-use Rattle.stack_check.proofs.Marked.{Marked, marked-length, pending-well, pending-length, pending-cell, looked, new-cell, marked-count, unmarkedCount}
+use Rattle.stack_check.proofs.Marked.{Marked, marked-length, pending-well, pending-length, pending-cell, pending-marked, looked, new-cell, marked-count, unmarkedCount}
 use Rattle.stack_check.proofs.Marked as marked
 use Rattle.stack_check.proofs.Entries.{entries-length, entries-push, entries-pop}
 use Rattle.bounded_stack.specs.Steps.{resultIn, runFromCell}
@@ -82,13 +83,20 @@ module _ (R n p : ℕ) (words₀ : List ℕ) (room : poolLength R n ≤ length w
       pub hand-cell : (0 < hand) × (hand ≤ n) × (linkOf R words hand 1 ≤ n) × (linkOf R words hand 2 ≤ n) × (poolLength R n ≤ length words)
       hand-cell = pending-cell R n (h .pool) (pending-well h) (pool-room h) (s .run h .marked)
 
+      pub hand-marked : isMarked (state R words hand) ≡ true
+      hand-marked = pending-marked R n (h .pool) (pending-well h) (pool-room h) (s .run h .marked)
+
+      -- so its state may be read
+      pub hand-read : (0 < hand) × (0 < 4) × (poolLength R hand ≤ length words)
+      hand-read = (hand-cell .0, omega arith, omega (arith, hand-cell .1, hand-cell .4))
+
       pub hand-length : length words ≡ length words₀
       hand-length =
           marked-length R n (h .pool) (pending-well h) (pool-room h) (s .run h .marked) ∙ sym (pending-length h)
 
       module _ (new : List ℕ) (links : new ≡ onwardIn R words hand) where
-        -- the links that the loop goes on to are cells
-        pub hand-new : (x : ℕ) → List·Memᴰ x new → (0 < x) × (x ≤ n)
+        -- the links that the loop goes on to are used cells
+        pub hand-new : (x : ℕ) → List·Memᴰ x new → (0 < x) × (x ≤ n) × (isUsed (state R words x) ≡ true)
         hand-new = new-cell R n (h .pool) (pending-well h) (pool-room h) (s .run h .marked) new links
 
         -- these marked
@@ -202,11 +210,11 @@ module _ (R n p : ℕ) (words₀ : List ℕ) (room : poolLength R n ≤ length w
         ∙ (ap (λ (l : List ℕ). behind dropped (limited (length stack₀) n t (graphOf R (h .pool)) seen l)) (sym (ap (entries stack) none)) ∙ last)) in
         rw (s .run h .marked .words, s .run h .counted) (rw (s .run h .each) at (ap (resultIn R (h .pool)) end))
 
-    module _ (l r : ℕ) (w₁ w₂ : List ℕ) (links : l ∷ r ∷ [] ≡ onwardIn R words hand) (e₁ : w₁ ≡ markCell R words l) (e₂ : w₂ ≡ markCell R w₁ r) where
+    module _ (l r : ℕ) (w₂ : List ℕ) (links : l ∷ r ∷ [] ≡ onwardIn R words hand) (e₂ : w₂ ≡ markCell R (markCell R words l) r) where
       -- both are unmarked: both are marked
       both : w₂ ≡ markAll R words (l ∷ r ∷ [])
       unfolding markAll
-      both = e₂ ∙ ap (λ (v : List ℕ). markCell R v r) e₁
+      both = e₂
 
       -- with room, the right one is pushed and the left one taken in hand
       hand-push : top < length stack → Hand R n p words₀ stack₀ w₂ (set stack top r) l (top + 1) checks

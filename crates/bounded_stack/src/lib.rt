@@ -27,11 +27,11 @@ fn mark_from(words: &mut [u32], n: u32, stack: &mut [u32], p: u32) -> Marking
     let mut hand = p;
     let mut top = 0;
     let mut checks = 0;
+    let mut state = pool::read_cell(words, hand, Pool::STATE);
     loop {
-        match stack_check::look(words, n, hand) {
+        match stack_check::look(words, n, hand, state) {
             Onward::Both(left, right) => {
-                pool::mark_cell(words, left);
-                pool::mark_cell(words, right);
+                pool::mark_both(words, left, right);
                 if top == stack.len() {
                     let remaining = stack_check::check(words, n, stack);
                     checks += 1;
@@ -46,10 +46,12 @@ fn mark_from(words: &mut [u32], n: u32, stack: &mut [u32], p: u32) -> Marking
                 stack[top] = right;
                 top += 1;
                 hand = left;
+                state = pool::read_cell(words, hand, Pool::STATE);
             }
             Onward::To(x) => {
                 pool::mark_cell(words, x);
                 hand = x;
+                state = pool::read_cell(words, hand, Pool::STATE);
             }
             Onward::Nowhere => {
                 if top == 0 {
@@ -60,6 +62,7 @@ fn mark_from(words: &mut [u32], n: u32, stack: &mut [u32], p: u32) -> Marking
                 }
                 top -= 1;
                 hand = stack[top];
+                state = pool::read_cell(words, hand, Pool::STATE);
             }
         }
     }

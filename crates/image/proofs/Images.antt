@@ -1,19 +1,21 @@
 -- The image at the start of the bytes: what is known of one that was read, and what a scan says.
-use Prim.Native.Nat.{ℕ, _≤_}
+use Prim.Native.Nat.{ℕ, _+_, _<_, _≤_}
 use native.Mathlib.Omega.{arith}
 use mathlib.Core.Path.{_≡_, refl, sym, ap, subst, _∙_}
 use mathlib.Core.List.{List}
 use mathlib.Core.Bool.{Bool, true, false, cond}
-use lib.ListN.{length}
+use lib.ListN.{length, getD}
 use lib.Dec.{leb}
 use borrow.Author.Tests.{leb-true, le-leb}
 use Rattle.leb128.specs.Leb128.{encode, Bytes, Between, readAt}
 use Rattle.leb128.specs.declared.Number.{Number}
 use Rattle.leb128.specs.declared.Number.the-variants as number
+use Rattle.leb128.proofs.Reading.{first}
 use Rattle.leb128.proofs.Theorems.{reads-encodings}
 use Rattle.pool.specs.Layout.{cellLimit, registerCount}
 use Rattle.answers.specs.Outcome.{refusalNumber}
 use Rattle.answers.specs.declared.Refusal.{Refusal}
+use Rattle.answers.specs.declared.Refusal.the-variants as refusal
 use Rattle.image.specs.declared.ImageCell.{ImageCell}
 use Rattle.image.specs.declared.Place.the-variants as place
 use Rattle.image.specs.declared.Scan.{Scan}
@@ -21,7 +23,7 @@ use Rattle.image.specs.declared.Scan.the-variants as scan
 use Rattle.image.specs.Image.{isPointKind, Image, cellBytes, imageBytes, Parsed, parsed, fault, anyNumber, readNumber, atMost, readCount, readLink, readKind, readWord, readCell, readEach, readImage}
 use Rattle.image.specs.Check.{verdictOf, checkOf}
 use Rattle.image.specs.OneForm.{ReadsImageBytes, OneImage}
-use Rattle.image.specs.Steps.{placeOf, scanOf}
+use Rattle.image.specs.Steps.{highestWord, placeOf, scanOf}
 use Rattle.image.proofs.Reading.{between-both, between-taken, then-parsed, then-fault, both-parsed, placed, refused, Each, each-length, each-read, each-between}
 
 -- A number that is not refused is there, and one with a bound is within it.
@@ -43,8 +45,19 @@ bounded most over (parsed u after) v next e = go (leb u most) refl e
     go false h e = let z : _≡_ {A = ℕ} 0 1 = cc in absurd (omega arith)
 bounded most over (fault why) v next e = let z : _≡_ {A = ℕ} 0 1 = cc in absurd (omega arith)
 
+-- A bound that no number exceeds refuses none.
+unbounded : (most : ℕ) (over : Refusal) (read : Parsed ℕ) → ((v next : ℕ) → read ≡ parsed v next → v ≤ most) → atMost most over read ≡ read
+unbounded most over (parsed v next) within = rw (le-leb v most (within v next refl)) refl
+unbounded most over (fault why) within = refl
+
 pub count-few : (n : ℕ) (bytes : List ℕ) (K next : ℕ) → readCount n bytes ≡ parsed K next → K ≤ n
 count-few n bytes K next e = bounded n _ (readNumber bytes 0) K next e .within
+
+-- A byte of 0 or 1 is a kind.
+pub kind-byte : (bytes : List ℕ) (at : ℕ) → at < length bytes → getD bytes at 0 ≤ 1 → parsed (getD bytes at 0) (at + 1) ≡ readKind bytes at
+kind-byte bytes at there low =
+    let byte = first bytes at there (omega arith) .ends (omega arith) in
+    rw (← byte, le-leb (getD bytes at 0) 1 low) refl
 
 -- The kind of a cell is one of the two, and the links of a pair are at most K.
 pub record Linked (K : ℕ) (c : ImageCell) : Type 0 where
@@ -58,6 +71,13 @@ module _ (K : ℕ) (bytes : List ℕ) where
 
   word-within : (kind at x next : ℕ) → readWord K kind bytes at ≡ parsed x next → isPointKind kind ≡ false → x ≤ K
   word-within kind at x next e pair = link-within at x next (rw pair at e)
+
+  pub word-there : (kind at x next : ℕ) → readWord K kind bytes at ≡ parsed x next → readNumber bytes at ≡ parsed x next
+  word-there kind at x next e = go (isPointKind kind) e
+    where
+      go : (t : Bool) → cond t (readNumber bytes at) (readLink K bytes at) ≡ parsed x next → readNumber bytes at ≡ parsed x next
+      go true h = h
+      go false h = bounded K _ (readNumber bytes at) x next h .there
 
   -- The numbers of a cell that was read.
   pub record CellRead (at : ℕ) (c : ImageCell) (next : ℕ) : Type 0 where
@@ -113,15 +133,22 @@ module _ (K : ℕ) (bytes : List ℕ) where
     number-between : (at x next : ℕ) → readNumber bytes at ≡ parsed x next → Between bytes at next (encode x)
     number-between at x next e = reads-encodings bytes at x next byte .0 (number-there (readAt bytes at) x next e) .1
 
+    -- So it has 32 bits, and where that is the bound it is not refused.
+    number-within : (at x next : ℕ) → readNumber bytes at ≡ parsed x next → x ≤ 4294967295
+    number-within at x next e = omega (arith, reads-encodings bytes at x next byte .0 (number-there (readAt bytes at) x next e) .0)
+
+    pub word-bound : (kind at most : ℕ) → most ≡ highestWord K kind → atMost most refusal.LinkRange (readNumber bytes at) ≡ readWord K kind bytes at
+    word-bound kind at most e = rw e (go (isPointKind kind))
+      where
+        go : (t : Bool) → atMost (cond t 4294967295 K) refusal.LinkRange (readNumber bytes at) ≡ cond t (readNumber bytes at) (readLink K bytes at)
+        go true = unbounded 4294967295 _ (readNumber bytes at) (number-within at)
+        go false = refl
+
     link-between : (at x next : ℕ) → readLink K bytes at ≡ parsed x next → Between bytes at next (encode x)
     link-between at x next e = number-between at x next (bounded K _ (readNumber bytes at) x next e .there)
 
     word-between : (kind at x next : ℕ) → readWord K kind bytes at ≡ parsed x next → Between bytes at next (encode x)
-    word-between kind at x next e = go (isPointKind kind) e
-      where
-        go : (t : Bool) → cond t (readNumber bytes at) (readLink K bytes at) ≡ parsed x next → Between bytes at next (encode x)
-        go true h = number-between at x next h
-        go false h = link-between at x next h
+    word-between kind at x next e = number-between at x next (word-there kind at x next e)
 
     cell-between : (at : ℕ) (c : ImageCell) (next : ℕ) → readCell K bytes at ≡ parsed c next → Between bytes at next (cellBytes c)
     cell-between at c next e =

@@ -6,7 +6,7 @@ ghost use mathlib.Core.Path.{_≡_};
 ghost use Rattle.pool.specs.Layout.{registerCount};
 ghost use Rattle.image.specs.Image.{atMost, readNumber, readCount, readLink, readKind, readWord, readCell, readEach, readImage};
 ghost use Rattle.image.specs.Check.{checkOf};
-ghost use Rattle.image.specs.Steps.{fieldParsed, placeOf, scanOf};
+ghost use Rattle.image.specs.Steps.{fieldParsed, highestWord, placeOf, scanOf};
 
 // The kinds of a cell in an image.
 pub const PAIR: u32 = 0;
@@ -75,28 +75,47 @@ pub fn read_count(bytes: &[u8], n: u32) -> Field
 }
 
 // A register or a link, of an image of k cells.
-pub fn read_link(bytes: &[u8], at: usize, k: u32) -> Field
+fn read_link(bytes: &[u8], at: usize, k: u32) -> Field
     ensures { λ r. ⌜ fieldParsed r ≡ readLink k (now (bytes .entry)) at ⌝ }
 {
     at_most(read_number(bytes, at), k, Refusal::LinkRange)
 }
 
-// The kind of a cell.
-pub fn read_kind(bytes: &[u8], at: usize) -> Field
+// The kind of a cell: one byte in every image that is accepted, so that byte is asked first.
+fn read_kind(bytes: &[u8], at: usize) -> Field
     ensures { λ r. ⌜ fieldParsed r ≡ readKind (now (bytes .entry)) at ⌝ }
 {
+    if at < bytes.len() {
+        let first = bytes[at] as u32;
+        if first <= POINT {
+            return Field::Value {
+                value: first,
+                next: at + 1,
+            };
+        }
+    }
     at_most(read_number(bytes, at), POINT, Refusal::KindNumber)
 }
 
+// The highest number that may stand to the left or right in a cell of that kind, of an image of k cells.
+fn highest_word(k: u32, kind: u32) -> u32
+    ensures { λ r. ⌜ r ≡ highestWord k kind ⌝ }
+{
+    if kind == POINT {
+        return 4294967295;
+    }
+    k
+}
+
 // The left or right number of a cell of that kind, of an image of k cells: a link of a pair, any number of a point.
-pub fn read_word(bytes: &[u8], at: usize, k: u32, kind: u32) -> Field
+fn read_word(bytes: &[u8], at: usize, k: u32, kind: u32) -> Field
     ensures { λ r. ⌜ fieldParsed r ≡ readWord k kind (now (bytes .entry)) at ⌝ }
 {
-    let number = read_number(bytes, at);
-    if kind == POINT {
-        return number;
-    }
-    at_most(number, k, Refusal::LinkRange)
+    at_most(
+        read_number(bytes, at),
+        highest_word(k, kind),
+        Refusal::LinkRange,
+    )
 }
 
 // Reads a cell of an image of k cells, kind, left, right, value, without a write.

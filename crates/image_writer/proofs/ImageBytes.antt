@@ -7,10 +7,7 @@ use mathlib.Core.Path.{_≡_, refl, sym, ap, ap₂, _∙_}
 use mathlib.Core.List.{List, [], _∷_, _++_, append-nil, append-assoc, map, flatMap}
 use lib.ListN.{length, getD, take, drop, length-append, length-map, take-append-drop, drop-of-length-le}
 use lib.Seq.{length-take-le, take-at, drop-append-add, drop-drop, drop-cons}
-use borrow.Author.Tests.{le-leb}
-use Rattle.leb128.specs.Leb128.{encode, writeAt}
-use Rattle.leb128.specs.declared.Written.{Written}
-use Rattle.leb128.specs.declared.Written.the-variants as written
+use Rattle.leb128.specs.Leb128.{encode}
 use Rattle.leb128.proofs.Encoding.{encode-size}
 use Rattle.pool.specs.Layout.{register, rootsOf}
 use Rattle.pool.proofs.Every.{length-tabulate}
@@ -105,23 +102,6 @@ image-length R n w k e =
     let registers = registerBytes R n w 0 in
     let cells = orderBytes R n w 0 in
     sym (ap length (image-parts R n w k e)) ∙ (length-append (head ++ registers) cells ∙ ap (λ (x : ℕ). x + length cells) (length-append head registers))
-
--- A number that has room is written.
-module _ (out last : List ℕ) (at v : ℕ) (r : Written) (room : at + length (encode v) ≤ length out) where
-  wrote : _≡_ {A = Written × List ℕ} (r, last) (writeAt out at v)
-      → _≡_ {A = Written × List ℕ} (r, last) (written.Next (at + length (encode v)), take at out ++ encode v ++ drop (at + length (encode v)) out)
-  unfolding writeAt
-  wrote e = e ∙ simp (le-leb (at + length (encode v)) (length out) room)
-
-  pub put-next : (next : ℕ) → _≡_ {A = Written × List ℕ} (r, last) (writeAt out at v) → r ≡ written.Next next → PutBytes (encode v) out at next last
-  put-next next e is =
-      let place : written.Next next ≡ written.Next (at + length (encode v)) = sym is ∙ ap (λ x. x .0) (wrote e) in
-      (cc, ap (λ x. x .1) (wrote e))
-
-  pub put-none : _≡_ {A = Written × List ℕ} (r, last) (writeAt out at v) → r ≡ written.NoRoom → ⊥
-  put-none e is =
-      let never : written.NoRoom ≡ written.Next (at + length (encode v)) = sym is ∙ ap (λ x. x .0) (wrote e) in
-      let z : _≡_ {A = ℕ} 0 1 = cc in omega arith
 
 -- Nothing is written; some bytes are, and behind them others.
 pub put-nothing : (out : List ℕ) (at : ℕ) → PutBytes [] out at at out

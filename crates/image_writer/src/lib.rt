@@ -1,13 +1,11 @@
 // The bytes of the image of a pool whose cells are numbered in lent scratch: how many there are, and writing them.
 use image::ImageCell;
-use leb128::Written;
 use pool::Pool;
 ghost use mathlib.Core.Path.{_≡_};
 ghost use mathlib.Core.List.{_++_};
 ghost use mathlib.Core.Bool.{false};
 ghost use Prim.Native.Nat.{_+_, _<_, _≤_};
 ghost use lib.ListN.{length, getD, drop};
-ghost use Rattle.leb128.specs.Leb128.{encode};
 ghost use Rattle.pool.specs.Layout.{registerCount, rootsOf};
 ghost use Rattle.reversal.specs.Reached.{reachedCells, reachedCount};
 ghost use Rattle.image.specs.Image.{kindOf, numberIn, savedCell, cellBytes, imageOf};
@@ -123,17 +121,6 @@ pub fn image_size(words: &[u32], scratch: &[u32], n: u32, k: u32) -> usize
     leb128::number_size(k) + registers_size(words, scratch, n) + cells_size(words, scratch, n, k)
 }
 
-// Writes a number where there is room for it. Gives the place behind it.
-fn put_number(out: &mut [u8], at: usize, v: u32) -> usize
-    requires { ⌜ at + length (encode v) ≤ length (now out) ⌝ }
-    ensures { λ r. ⌜ PutBytes (encode v) (now (out .entry)) at r (now (out .exit)) ⌝ }
-{
-    match leb128::write_number(out, at, v) {
-        Written::Next(next) => next,
-        Written::NoRoom => at,
-    }
-}
-
 // Writes a cell where there is room for it. Gives the place behind it.
 fn put_cell(out: &mut [u8], at: usize, cell: ImageCell) -> usize
     requires { ⌜ at + length (cellBytes cell) ≤ length (now out) ⌝ }
@@ -143,10 +130,10 @@ fn put_cell(out: &mut [u8], at: usize, cell: ImageCell) -> usize
     let left = cell.left;
     let right = cell.right;
     let value = cell.value;
-    let behind_kind = put_number(out, at, kind);
-    let behind_left = put_number(out, behind_kind, left);
-    let behind_right = put_number(out, behind_left, right);
-    put_number(out, behind_right, value)
+    let behind_kind = leb128::write_number(out, at, kind);
+    let behind_left = leb128::write_number(out, behind_kind, left);
+    let behind_right = leb128::write_number(out, behind_left, right);
+    leb128::write_number(out, behind_right, value)
 }
 
 // Writes the registers where there is room for them. Gives the place behind them.
@@ -157,7 +144,7 @@ fn write_registers(words: &[u32], scratch: &[u32], n: u32, out: &mut [u8], start
     let mut at = start;
     let mut j = 0;
     while j < Pool::REGISTERS {
-        at = put_number(out, at, saved_register(words, scratch, n, j));
+        at = leb128::write_number(out, at, saved_register(words, scratch, n, j));
         j += 1;
     }
     at
@@ -189,7 +176,7 @@ pub fn write_image(words: &[u32], scratch: &[u32], n: u32, k: u32, out: &mut [u8
     requires { ⌜ Savable registerCount n (now words) (length (now scratch)) × Ordered registerCount n (now words) (now scratch) × (k ≡ reachedCount registerCount n (now words)) × (length (imageOf registerCount n (now words)) ≤ length (now out)) ⌝ }
     ensures { λ _. ⌜ now (out .exit) ≡ imageOf registerCount n (now (words .entry)) ++ drop (length (imageOf registerCount n (now (words .entry)))) (now (out .entry)) ⌝ }
 {
-    let registers = put_number(out, 0, k);
+    let registers = leb128::write_number(out, 0, k);
     let cells = write_registers(words, scratch, n, out, registers);
     write_cells(words, scratch, n, k, out, cells);
 }

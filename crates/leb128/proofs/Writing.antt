@@ -1,14 +1,12 @@
 -- Writing a number a group at a time: what is left to write always gives the same bytes in the end.
 use Prim.Native.Nat.{ℕ, _+_, _/_, _%_, _^_, _<_, _≤_}
 use mathlib.Core.Path.{_≡_, ap, sym, _∙_}
-use mathlib.Core.List.{List}
+use mathlib.Core.List.{List, _++_}
 use native.Mathlib.Numerals.{add-one}
 use native.Mathlib.Omega.{arith}
-use lib.ListN.{length, set, length-set}
+use lib.ListN.{length, take, drop, set, length-set}
 use lib.Seq.{sets, sets-eq}
-use borrow.Author.Tests.{le-leb, lt-leb}
-use Rattle.leb128.specs.declared.Written.the-variants.{Next, NoRoom}
-use Rattle.leb128.specs.Leb128.{encode, writeAt}
+use Rattle.leb128.specs.Leb128.{encode}
 use Rattle.leb128.proofs.Encoding.{encode-last, encode-more}
 
 -- On the way of writing v into out₀ at a place: `rest` is left to write into `out`, at `i`.
@@ -31,15 +29,8 @@ module _ {out₀ : List ℕ} {at v : ℕ} {out : List ℕ} {rest i : ℕ} (w : W
       }
 
   -- The last group is written.
-  pub written : rest < 128 → at + length (encode v) ≤ length out₀ → (Next (i + 1), set out i rest) ≡ writeAt out₀ at v
-  unfolding writeAt
+  pub written : rest < 128 → at + length (encode v) ≤ length out₀
+      → (i + 1 ≡ at + length (encode v)) × (set out i rest ≡ take at out₀ ++ encode v ++ drop (at + length (encode v)) out₀)
   written small room =
       let e = encode-last rest small in
-      let ends : i + 1 ≡ at + length (encode v) = omega (arith, w .next, ap length e) in
-      let bytes = sym (ap (sets out i) e) ∙ w .bytes ∙ sets-eq (encode v) out₀ at room in
-      rw (le-leb _ _ room) (λ j. (Next (ends j), bytes j))
-
--- Nothing is written where the number would reach past the end.
-pub no-room : (out : List ℕ) (at v : ℕ) → length out < at + length (encode v) → (NoRoom, out) ≡ writeAt out at v
-unfolding writeAt
-no-room out at v short = rw (lt-leb _ _ short)
+      (omega (arith, w .next, ap length e), sym (ap (sets out i) e) ∙ w .bytes ∙ sets-eq (encode v) out₀ at room)

@@ -4,12 +4,10 @@ use mathlib.Core.Path.{_≡_}
 use mathlib.Core.Logic.{_↔_}
 use mathlib.Core.List.{List, [], _∷_, _++_}
 use mathlib.Core.Bool.{true, false, cond}
-use lib.ListN.{length, getD, take, drop}
-use lib.Dec.{eqb, ltb, leb}
+use lib.ListN.{length, getD, drop}
+use lib.Dec.{eqb, ltb}
 use Rattle.leb128.specs.declared.Number.{Number}
 use Rattle.leb128.specs.declared.Number.the-variants.{Value, Missing, OutOfRange, Padded}
-use Rattle.leb128.specs.declared.Written.{Written}
-use Rattle.leb128.specs.declared.Written.the-variants.{Next, NoRoom}
 
 -- What was read, with another value; a refusal stays.
 abbrev pub mapValue : (ℕ → ℕ) → Number → Number
@@ -64,12 +62,6 @@ groups (suc more) v =
 -- The bytes of a number below 2^32: five at most.
 unfoldable pub encode : ℕ → List ℕ
 encode v = groups 4 v
-
--- Writes a number at a place: the answer and the bytes afterwards. Without room for the whole number nothing changes.
-unfoldable pub writeAt : List ℕ → ℕ → ℕ → Written × List ℕ
-writeAt out at v =
-    let next = at + length (encode v) in
-    cond (leb next (length out)) (Next next, take at out ++ encode v ++ drop next out) (NoRoom, out)
 
 -- Every element of the list is a byte (past the end of a list `getD` gives the 0 that is named).
 abbrev pub Bytes : List ℕ → Type 0

@@ -1,7 +1,9 @@
 // Numbers in groups of seven bits, lowest first: unsigned LEB128 of 32 bits.
 ghost use mathlib.Core.Path.{_≡_};
-ghost use lib.ListN.{length};
-ghost use Rattle.leb128.specs.Leb128.{encode, readAt, writeAt};
+ghost use mathlib.Core.List.{_++_};
+ghost use Prim.Native.Nat.{_+_, _≤_};
+ghost use lib.ListN.{length, take, drop};
+ghost use Rattle.leb128.specs.Leb128.{encode, readAt};
 
 // What a reader finds at a place of the bytes.
 pub enum Number {
@@ -13,14 +15,6 @@ pub enum Number {
     OutOfRange,
     // The last group is 0, and not the only one.
     Padded,
-}
-
-// What a writer did.
-pub enum Written {
-    // It wrote the number; the place behind its last byte.
-    Next(usize),
-    // The number does not fit, and nothing was written.
-    NoRoom,
 }
 
 // The weight of the fifth group, 2^28.
@@ -91,17 +85,11 @@ pub fn number_size(v: u32) -> usize
     }
 }
 
-// Writes a number at a place of `out`, if there is room for it.
-pub fn write_number(out: &mut [u8], at: usize, v: u32) -> Written
-    ensures { λ r. ⌜ (r, now (out .exit)) ≡ writeAt (now (out .entry)) at v ⌝ }
+// Writes a number at a place of `out` where there is room for it. Gives the place behind it.
+pub fn write_number(out: &mut [u8], at: usize, v: u32) -> usize
+    requires { ⌜ at + length (encode v) ≤ length (now out) ⌝ }
+    ensures { λ r. ⌜ (r ≡ at + length (encode v)) × (now (out .exit) ≡ take at (now (out .entry)) ++ encode v ++ drop (at + length (encode v)) (now (out .entry))) ⌝ }
 {
-    let size = number_size(v);
-    if out.len() < at {
-        return Written::NoRoom;
-    }
-    if out.len() - at < size {
-        return Written::NoRoom;
-    }
     let mut rest = v;
     let mut i = at;
     while 128 <= rest {
@@ -110,5 +98,5 @@ pub fn write_number(out: &mut [u8], at: usize, v: u32) -> Written
         i += 1;
     }
     out[i] = rest as u8;
-    Written::Next(i + 1)
+    i + 1
 }

@@ -2,11 +2,13 @@
 use Prim.Native.Nat.{ℕ, suc, _+_, _-_, _<_, _≤_}
 use native.Mathlib.Omega.{arith}
 use native.Mathlib.Numerals.{add-one}
-use mathlib.Core.Path.{_≡_, refl, subst}
+use mathlib.Core.Path.{_≡_, refl, subst, _∙_}
 use mathlib.Core.List.{List, []}
 use Rattle.answers.specs.declared.Refusal.{Refusal}
-use Rattle.image.specs.Image.{Parsed, parsed, fault, readEach}
-use Rattle.image.proofs.Reading.{each-first}
+use Rattle.image.specs.declared.ImageCell.{ImageCell}
+use Rattle.image.specs.Image.{Parsed, parsed, fault, andThen, readNumber, readLink, readCell, readEach}
+use Rattle.image.proofs.Reading.{then-parsed, each-first}
+use Rattle.image.proofs.Images.{bounded, word-there, cell-read}
 use Rattle.load.specs.Load.{putEach}
 use Rattle.load.specs.Steps.{WhereRead}
 
@@ -19,6 +21,28 @@ where-parsed p P x next e h y end is =
 
 pub where-fault : {A : Type 0} (p : Parsed A) (P : A → ℕ → Type 0) (why : Refusal) → p ≡ fault why → WhereRead p P
 where-fault p P why e y end is = let z : _≡_ {A = ℕ} 0 1 = cc in absurd (omega arith)
+
+-- Something holds of a link where it holds of the number that is read without a bound; and so of a cell.
+pub where-link : (K : ℕ) (bytes : List ℕ) (at : ℕ) (P : ℕ → ℕ → Type 0) → WhereRead (readNumber bytes at) P → WhereRead (readLink K bytes at) P
+where-link K bytes at P h x end e = h x end (bounded K _ (readNumber bytes at) x end e .there)
+
+-- The four numbers of a cell, without their bounds.
+abbrev pub readNumbers : List ℕ → ℕ → Parsed ImageCell
+readNumbers bytes at =
+    andThen (readNumber bytes at) λ kind behind-kind.
+    andThen (readNumber bytes behind-kind) λ l behind-left.
+    andThen (readNumber bytes behind-left) λ r behind-right.
+    andThen (readNumber bytes behind-right) λ v behind.
+    parsed (record { kind = kind; left = l; right = r; value = v }) behind
+
+pub where-cell : (K : ℕ) (bytes : List ℕ) (at : ℕ) (P : ImageCell → ℕ → Type 0) → WhereRead (readNumbers bytes at) P → WhereRead (readCell K bytes at) P
+where-cell K bytes at P h c end e =
+    let r = cell-read K bytes at c end e in
+    h c end
+    (then-parsed _ (bounded 1 _ (readNumber bytes at) (c .kind) (r .left) (r .kind-there) .there)
+    ∙ (then-parsed _ (word-there K bytes (c .kind) (r .left) (c .left) (r .right) (r .left-there))
+    ∙ (then-parsed _ (word-there K bytes (c .kind) (r .right) (c .right) (r .value) (r .right-there))
+    ∙ then-parsed (λ v behind. parsed (record { kind = c .kind; left = c .left; right = c .right; value = v }) behind) (r .value-there))))
 
 module _ {A : Type 0} (read : ℕ → Parsed A) (put : List ℕ → ℕ → A → List ℕ) where
   -- What is left to read of a list that ends at `end`, put in its places from `place` on, makes of the words w what the whole list makes.

@@ -1,4 +1,4 @@
-pub mod Marking
+pub mod Freeing
 pub mod Filling
 pub mod Putting
 pub mod Loading

@@ -2,7 +2,7 @@
 use Prim.Native.Nat.{ℕ, zero, suc, _+_, _-_, _/_, _%_, _<_, _≤_}
 use native.Mathlib.Omega.{arith}
 use native.Mathlib.Decide.{decLe, decLt, ℕ-discrete}
-use mathlib.Core.Path.{_≡_, refl, sym, ap, subst, _∙_}
+use mathlib.Core.Path.{_≡_, refl, sym, ap, _∙_}
 use mathlib.Core.List.{List, _++_}
 use mathlib.Core.Bool.{Bool, true, false, cond}
 use lib.ListN.{length, getD, take, drop, set, replicate, length-set, length-append, length-drop, length-replicate}
@@ -10,10 +10,10 @@ use lib.Seq.{take-all, getD-set-same, getD-set-other}
 use lib.Dec.{leb, ltb}
 use borrow.Author.Tests.{lt-ltb, leb-true}
 use Rattle.leb128.specs.Leb128.{Bytes}
-use Rattle.pool.specs.Layout.{registerCount, firstRegister, firstCell, poolLength, cellCountOfLength, cellAt, register, setRegister, cell, setCount, isPointAt}
-use Rattle.pool.specs.States.{pairState, pointState, isPoint}
+use Rattle.pool.specs.Layout.{registerCount, firstRegister, firstCell, poolLength, cellCountOfLength, cellAt, register, setRegister, cell, state, setCount, isPointAt}
+use Rattle.pool.specs.States.{pairState, pointState, isPoint, isUsed}
 use Rattle.pool.proofs.States.{pair-is, point-is, used-alike}
-use Rattle.pool.specs.Retain.{blankWords, keptField, retain, markedCell, sweepOf}
+use Rattle.pool.specs.Retain.{blankWords, keptField, retain}
 use Rattle.answers.specs.Outcome.{refusalNumber}
 use Rattle.answers.specs.declared.Refusal.{Refusal}
 use Rattle.pool.proofs.Sizes.{counted-sized}
@@ -27,7 +27,7 @@ use Rattle.image.proofs.Reading.{between-inside}
 use Rattle.image.proofs.Images.{image-read, image-few, image-registers, reads-image-bytes, scanned, scanned-fault}
 use Rattle.load.specs.declared.Loaded.{Loaded}
 use Rattle.load.specs.Load.{putFields, putEach, putImage, loadedWords, loadImage, loadOf}
-use Rattle.load.specs.Steps.{WhereRead, MarkedFirst}
+use Rattle.load.specs.Steps.{WhereRead, FirstUsed}
 use Rattle.load.proofs.Putting.{imageField, noCell, cells-length, cells-at, cells-elsewhere, registers-length, registers-at, registers-elsewhere}
 
 -- The words v hold an image for a pool of n cells: N, the registers, and the fields of its cells. Behind the cells they are the words w.
@@ -41,13 +41,12 @@ pub record Holds (R n : ℕ) (i : Image) (w v : List ℕ) : Type 0 where
 
 module _ (R n : ℕ) (i : Image) (few : length (i .cells) ≤ n) (w : List ℕ) where
   -- Two such lists are the same pool.
-  pub retain-same : (u v : List ℕ) → Holds R n i w u → Holds R n i w v → (keep : ℕ → Bool)
-      → ((j : ℕ) → 0 < j → j ≤ n → keep j ≡ leb j (length (i .cells)))
-      → retain R n keep u ≡ retain R n (λ j. leb j (length (i .cells))) v
+  retain-same : (u v : List ℕ) → Holds R n i w u → Holds R n i w v
+      → retain R n (λ j. leb j (length (i .cells))) u ≡ retain R n (λ j. leb j (length (i .cells))) v
   unfolding register
-  retain-same u v hu hv keep same =
-      retain-cong R n keep (λ j. leb j (length (i .cells))) u v (hu .len ∙ sym (hv .len)) same stay
-      (λ j f low high hf kept. field j f low hf (leb-true j (length (i .cells)) (sym (same j low high) ∙ kept)))
+  retain-same u v hu hv =
+      retain-cong R n (λ j. leb j (length (i .cells))) (λ j. leb j (length (i .cells))) u v (hu .len ∙ sym (hv .len)) (λ j low high. refl) stay
+      (λ j f low high hf kept. field j f low hf (leb-true j (length (i .cells)) kept))
     where
       stay : (k : ℕ) → (k ≡ 1 → ⊥) → Elsewhere R n k → getD u k 0 ≡ getD v k 0
       stay k other away = go (ℕ-discrete k 0) (decLt k (firstCell R)) (decLe (poolLength R n) k)
@@ -96,6 +95,13 @@ module _ (R n : ℕ) (i : Image) (few : length (i .cells) ≤ n) (w : List ℕ) 
         go true = point-is pointState refl .1
         go false = pair-is pairState refl .1
 
+    put-used : (p : ℕ) → p < length (i .cells) → isUsed (state R (putImage R i v) (suc p)) ≡ true
+    put-used p below = ap isUsed (put-field p 0 below (omega arith)) ∙ go (isPointKind (getD (i .cells) p noCell .kind))
+      where
+        go : (t : Bool) → isUsed (cond t pointState pairState) ≡ true
+        go true = point-is pointState refl .0
+        go false = pair-is pairState refl .0
+
     put-behind : (k : ℕ) → poolLength R n ≤ k → getD (putImage R i v) k 0 ≡ getD v k 0
     put-behind k high = put-elsewhere k (λ j f hj top hf e. omega arith) (λ j low e. omega arith)
 
@@ -118,32 +124,39 @@ module _ (R n : ℕ) (i : Image) (few : length (i .cells) ≤ n) (w : List ℕ) 
           behind = λ k high. put-behind all (blankWords R n w) enough k high ∙ blank-behind R n w room k high;
         }
 
-    -- So do the words that load has written before the sweep, in which the cells of the image are marked.
-    module _ (written : List ℕ) (marks : MarkedFirst R (length (i .cells)) n (set (putImage R i w) 0 n) written) where
-      written-elsewhere : (p : ℕ) → 0 < p → ((j : ℕ) → 0 < j → j ≤ n → p ≡ cellAt R j 0 → ⊥) → getD written p 0 ≡ getD (putImage R i w) p 0
-      written-elsewhere p some away = marks .others p away ∙ getD-set-other (putImage R i w) 0 p n 0 (λ e. omega arith)
+    -- So do the words that load has filled, in which the cells of the image are used.
+    abbrev filled : List ℕ
+    filled = set (putImage R i w) 0 n
 
-      -- word 0 is no cell's
-      counted-kind : (p : ℕ) → isPointAt R (set (putImage R i w) 0 n) (suc p) ≡ isPointAt R (putImage R i w) (suc p)
-      unfolding cell
-      counted-kind p = ap isPoint (getD-set-other (putImage R i w) 0 (cellAt R (suc p) 0) n 0 (λ e. omega arith))
+    filled-elsewhere : (p : ℕ) → 0 < p → getD filled p 0 ≡ getD (putImage R i w) p 0
+    filled-elsewhere p some = getD-set-other (putImage R i w) 0 p n 0 (λ e. omega arith)
 
-      written-holds : Holds R n i w written
-      unfolding register cell
-      written-holds =
-          let long = put-length all w room in
-          record {
-            len = marks .len ∙ (length-set (putImage R i w) 0 n ∙ long);
-            number = marks .others 0 (λ j low high e. omega arith) ∙ getD-set-same (putImage R i w) 0 n 0 (omega arith);
-            registers = λ k low. written-elsewhere (firstRegister + k) (omega arith) (λ j some high e. omega arith) ∙ put-register all w room k low;
-            kinds = λ p below. marks .kinds (suc p) (omega arith) (omega arith) below ∙ (counted-kind p ∙ put-kind all w room p below);
-            cells = λ p f below hf.
-                written-elsewhere (cellAt R (suc p) (suc f)) (omega arith) (λ j some high e. omega arith) ∙ put-field all w room p (suc f) below hf;
-            behind = λ k high. written-elsewhere k (omega arith) (λ j some low e. omega arith) ∙ put-behind all w room k high;
-          }
+    filled-cell : (p f : ℕ) → cell R filled (suc p) f ≡ cell R (putImage R i w) (suc p) f
+    unfolding cell
+    filled-cell p f = filled-elsewhere (cellAt R (suc p) f) (omega arith)
 
-      pub written-loaded : retain R n (markedCell R written) written ≡ loadedWords R n i w
-      written-loaded = retain-same written _ written-holds image-holds (markedCell R written) (marks .marked)
+    pub filled-length : length filled ≡ length w
+    filled-length = length-set (putImage R i w) 0 n ∙ put-length all w room
+
+    filled-holds : Holds R n i w filled
+    unfolding register
+    filled-holds =
+        let long = put-length all w room in
+        record {
+          len = filled-length;
+          number = getD-set-same (putImage R i w) 0 n 0 (omega arith);
+          registers = λ k low. filled-elsewhere (firstRegister + k) (omega arith) ∙ put-register all w room k low;
+          kinds = λ p below. ap isPoint (filled-cell p 0) ∙ put-kind all w room p below;
+          cells = λ p f below hf. filled-cell p (suc f) ∙ put-field all w room p (suc f) below hf;
+          behind = λ k high. filled-elsewhere k (omega arith) ∙ put-behind all w room k high;
+        }
+
+    pub filled-used : FirstUsed R (length (i .cells)) filled
+    filled-used zero low high = absurd (omega arith)
+    filled-used (suc p) low high = ap isUsed (filled-cell p 0) ∙ put-used all w room p high
+
+    pub filled-loaded : retain R n (λ j. leb j (length (i .cells))) filled ≡ loadedWords R n i w
+    filled-loaded = retain-same filled _ filled-holds image-holds
 
 -- The image is put where its parts are: nothing is said where K is refused.
 module _ (R n : ℕ) (bytes : List ℕ) where
@@ -176,28 +189,44 @@ module _ (w bytes : List ℕ) (n : ℕ) (cells : n ≡ cellCountOfLength registe
     load-pool : (read : Parsed Image) → readImage registerCount n bytes ≡ read → loadOf w bytes ≡ loadImage registerCount n read (length bytes) w
     load-pool read e = simp (← cells, lt-ltb 0 n (omega (arith, some)), e)
 
+    -- Words v that are filled with an image of K cells.
+    module _ (i : Image) (end : ℕ) (whole : readImage registerCount n bytes ≡ parsed i end) (K : ℕ) (number : length (i .cells) ≡ K) (v : List ℕ)
+        (put : v ≡ putImage registerCount i w) where
+      few : length (i .cells) ≤ n
+      few = image-few registerCount n bytes i end (image-read registerCount n bytes i end whole)
+
+      all : length (i .registers) ≡ registerCount
+      all = image-registers registerCount n bytes i end (image-read registerCount n bytes i end whole)
+
+      room : poolLength registerCount n ≤ length w
+      room = counted-sized registerCount (length w) cells some .room
+
+      filled-image : (K ≤ n) × (poolLength registerCount n ≤ length (set v 0 n)) × FirstUsed registerCount K (set v 0 n)
+      filled-image =
+          rw (← number, put)
+          (few, omega (arith, room, filled-length registerCount n i few w all room), filled-used registerCount n i few w all room)
+
+      freed-image : retain registerCount n (λ j. leb j K) (set v 0 n) ≡ loadedWords registerCount n i w
+      freed-image = rw (← number, put) (filled-loaded registerCount n i few w all room)
+
     module _ (s : Scan) (says : s ≡ scanOf (readImage registerCount n bytes)) where
       pub load-refused : (why : Refusal) (v : ℕ) → s ≡ scan.Refused why → v ≡ refusalNumber why
           → _≡_ {A = Loaded × List ℕ} (record { verdict = v; end = length bytes }, w) (loadOf w bytes)
       load-refused why v e number = sym (load-pool (fault why) (scanned-fault _ why (sym e ∙ says)) ∙ simp (← number))
 
-      pub load-whole : (K end : ℕ) (filled marked swept : List ℕ) (kept : ℕ) → s ≡ scan.Whole K end
-          → WhereRead (readImage registerCount n bytes) (λ i behind. filled ≡ putImage registerCount i w)
-          → MarkedFirst registerCount K n (set filled 0 n) marked → _≡_ {A = ℕ × List ℕ} (kept, swept) (sweepOf registerCount n marked)
-          → _≡_ {A = Loaded × List ℕ} (record { verdict = 0; end = end }, swept) (loadOf w bytes)
-      load-whole K end filled marked swept kept e fill marks sweep =
-          let i = scanned _ K end (sym e ∙ says) in
-          let r = image-read registerCount n bytes (i .image) end (i .whole) in
-          let put = fill (i .image) end (i .whole) in
-          let room : poolLength registerCount n ≤ length w = counted-sized registerCount (length w) cells some .room in
-          let first : MarkedFirst registerCount (length (i .image .cells)) n (set (putImage registerCount (i .image) w) 0 n) marked =
-          subst (λ (k : ℕ). MarkedFirst registerCount k n (set (putImage registerCount (i .image) w) 0 n) marked) (sym (i .number))
-          (subst (λ (f : List ℕ). MarkedFirst registerCount K n (set f 0 n) marked) put marks) in
-          let words : swept ≡ loadedWords registerCount n (i .image) w =
-          ap (λ (x : ℕ × List ℕ). x .1) sweep
-          ∙ written-loaded registerCount n (i .image) (image-few registerCount n bytes (i .image) end r) w
-          (image-registers registerCount n bytes (i .image) end r) room marked first in
-          sym (load-pool _ (i .whole) ∙ ap (λ (l : List ℕ). (record { verdict = 0; end = end }, l)) (sym words))
+      module _ (K end : ℕ) (e : s ≡ scan.Whole K end) (v : List ℕ)
+          (fill : WhereRead (readImage registerCount n bytes) (λ i behind. v ≡ putImage registerCount i w)) where
+        pub load-filled : (K ≤ n) × (poolLength registerCount n ≤ length (set v 0 n)) × FirstUsed registerCount K (set v 0 n)
+        load-filled =
+            let i = scanned _ K end (sym e ∙ says) in
+            filled-image (i .image) end (i .whole) K (i .number) v (fill (i .image) end (i .whole))
+
+        pub load-whole : (freed : List ℕ) → freed ≡ retain registerCount n (λ j. leb j K) (set v 0 n)
+            → _≡_ {A = Loaded × List ℕ} (record { verdict = 0; end = end }, freed) (loadOf w bytes)
+        load-whole freed free =
+            let i = scanned _ K end (sym e ∙ says) in
+            let words = free ∙ freed-image (i .image) end (i .whole) K (i .number) v (fill (i .image) end (i .whole)) in
+            sym (load-pool _ (i .whole) ∙ ap (λ (l : List ℕ). (record { verdict = 0; end = end }, l)) (sym words))
 
 -- The image ends within the bytes.
 pub load-end : (w bytes : List ℕ) → Bytes bytes → loadOf w bytes .0 .end ≤ length bytes

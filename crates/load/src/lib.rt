@@ -4,12 +4,14 @@ use image::Field;
 use image::Scan;
 use pool::Pool;
 ghost use mathlib.Core.Path.{_≡_};
-ghost use Prim.Native.Nat.{_<_, _≤_};
+ghost use Prim.Native.Nat.{ℕ, _<_, _≤_};
 ghost use lib.ListN.{length};
+ghost use lib.Dec.{leb};
 ghost use Rattle.pool.specs.Layout.{registerCount, poolLength, setRegister};
+ghost use Rattle.pool.specs.Retain.{retain};
 ghost use Rattle.image.specs.Image.{readLink, readCell, readEach, readImage};
 ghost use Rattle.load.specs.Load.{stateOfKind, putFields, putEach, putImage, loadOf, Handed};
-ghost use Rattle.load.specs.Steps.{WhereRead, MarkedFirst};
+ghost use Rattle.load.specs.Steps.{WhereRead, FirstUsed};
 
 // What load answers: 0 or the refusal's number, and where the bytes behind the image start.
 pub struct Loaded {
@@ -17,13 +19,13 @@ pub struct Loaded {
     pub end: usize,
 }
 
-// Writes the register of an image of k cells that stands at `at` to register j. Gives the place behind it. Bytes that were scanned have no fault, and
-// nothing is said of others.
-fn fill_register(words: &mut [u32], j: u32, bytes: &[u8], at: usize, k: u32) -> usize
+// Writes the register of an image that stands at `at` to register j. Gives the place behind it. Bytes that were scanned, for whatever number k of cells, have
+// no fault, so that no bound is asked again; nothing is said of others.
+fn fill_register(words: &mut [u32], j: u32, bytes: &[u8], at: usize) -> usize
     requires { ⌜ (j < registerCount) × (poolLength registerCount 0 ≤ length (now words)) ⌝ }
-    ensures { λ r. ⌜ WhereRead (readLink k (now (bytes .entry)) at) (λ x end. (now (words .exit) ≡ setRegister (now (words .entry)) j x) × (r ≡ end)) ⌝ }
+    ensures { λ r. ⌜ ((k : ℕ) → WhereRead (readLink k (now (bytes .entry)) at) (λ x end. (now (words .exit) ≡ setRegister (now (words .entry)) j x) × (r ≡ end))) ⌝ }
 {
-    let Field::Value { value, next } = image::read_link(bytes, at, k) else {
+    let Field::Value { value, next } = image::read_number(bytes, at) else {
         return at;
     };
     pool::write_register(words, j, value);
@@ -40,29 +42,29 @@ fn state_of_kind(kind: u32) -> u32
     Pool::PAIR
 }
 
-// Writes the cell of an image of k cells that stands at `at`, kind, left, right, value, to cell i. Gives the place behind it.
-fn fill_cell(words: &mut [u32], i: u32, bytes: &[u8], at: usize, k: u32) -> usize
+// Writes the cell of an image that stands at `at`, kind, left, right, value, to cell i. Gives the place behind it.
+fn fill_cell(words: &mut [u32], i: u32, bytes: &[u8], at: usize) -> usize
     requires { ⌜ (0 < i) × (poolLength registerCount i ≤ length (now words)) ⌝ }
-    ensures { λ r. ⌜ WhereRead (readCell k (now (bytes .entry)) at) (λ c end. (now (words .exit) ≡ putFields registerCount (now (words .entry)) i c) × (r ≡ end)) ⌝ }
+    ensures { λ r. ⌜ ((k : ℕ) → WhereRead (readCell k (now (bytes .entry)) at) (λ c end. (now (words .exit) ≡ putFields registerCount (now (words .entry)) i c) × (r ≡ end))) ⌝ }
 {
     let Field::Value {
         value: kind,
         next: behind_kind,
-    } = image::read_kind(bytes, at)
+    } = image::read_number(bytes, at)
     else {
         return at;
     };
     let Field::Value {
         value: left,
         next: behind_left,
-    } = image::read_word(bytes, behind_kind, k, kind)
+    } = image::read_number(bytes, behind_kind)
     else {
         return at;
     };
     let Field::Value {
         value: right,
         next: behind_right,
-    } = image::read_word(bytes, behind_left, k, kind)
+    } = image::read_number(bytes, behind_left)
     else {
         return at;
     };
@@ -73,15 +75,15 @@ fn fill_cell(words: &mut [u32], i: u32, bytes: &[u8], at: usize, k: u32) -> usiz
     next
 }
 
-// Writes the registers of an image of k cells, which stand at `start`. Gives the place behind them.
-fn fill_registers(words: &mut [u32], bytes: &[u8], start: usize, k: u32) -> usize
+// Writes the registers of an image, which stand at `start`. Gives the place behind them.
+fn fill_registers(words: &mut [u32], bytes: &[u8], start: usize) -> usize
     requires { ⌜ poolLength registerCount 0 ≤ length (now words) ⌝ }
-    ensures { λ r. ⌜ WhereRead (readEach (readLink k (now (bytes .entry))) registerCount start) (λ links end. (now (words .exit) ≡ putEach setRegister 0 links (now (words .entry))) × (r ≡ end)) ⌝ }
+    ensures { λ r. ⌜ ((k : ℕ) → WhereRead (readEach (readLink k (now (bytes .entry))) registerCount start) (λ links end. (now (words .exit) ≡ putEach setRegister 0 links (now (words .entry))) × (r ≡ end))) ⌝ }
 {
     let mut at = start;
     let mut j = 0;
     while j < Pool::REGISTERS {
-        at = fill_register(words, j, bytes, at, k);
+        at = fill_register(words, j, bytes, at);
         j += 1;
     }
     at
@@ -96,7 +98,7 @@ fn fill_cells(words: &mut [u32], bytes: &[u8], start: usize, k: u32)
     let mut i = 0;
     while i < k {
         i += 1;
-        at = fill_cell(words, i, bytes, at, k);
+        at = fill_cell(words, i, bytes, at);
     }
 }
 
@@ -108,25 +110,23 @@ fn fill(words: &mut [u32], bytes: &[u8], n: u32)
     let Field::Value { value, next } = image::read_count(bytes, n) else {
         return;
     };
-    let at = fill_registers(words, bytes, next, value);
+    let at = fill_registers(words, bytes, next);
     fill_cells(words, bytes, at, value);
 }
 
-// Marks the first k of n cells, which are used, for the sweep, and no other.
-fn mark_first(words: &mut [u32], n: u32, k: u32)
-    requires { ⌜ poolLength registerCount n ≤ length (now words) ⌝ }
-    ensures { λ _. ⌜ MarkedFirst registerCount k n (now (words .entry)) (now (words .exit)) ⌝ }
+// Puts the cells above the first k of n onto the free list, in ascending order. The first k are used, and stay.
+fn free_rest(words: &mut [u32], n: u32, k: u32)
+    requires { ⌜ (k ≤ n) × (poolLength registerCount n ≤ length (now words)) × FirstUsed registerCount k (now words) ⌝ }
+    ensures { λ _. ⌜ now (words .exit) ≡ retain registerCount n (λ j. leb j k) (now (words .entry)) ⌝ }
 {
     let mut i = n;
-    while 0 < i {
-        if i <= k {
-            pool::mark_cell(words, i);
-            i -= 1;
-        } else {
-            pool::write_cell(words, i, Pool::STATE, Pool::FREE);
-            i -= 1;
-        }
+    let mut next = 0;
+    while k < i {
+        pool::put_cell(words, i, Pool::FREE, next, 0, 0);
+        next = i;
+        i -= 1;
     }
+    pool::write_head(words, next);
 }
 
 // Loads the image at the start of the bytes, whole or not at all.
@@ -148,8 +148,7 @@ pub fn load_at(words: &mut [u32], bytes: &[u8]) -> Loaded
         Scan::Whole { cells, end } => {
             fill(words, bytes, n);
             words[Pool::COUNT] = n;
-            mark_first(words, n, cells);
-            pool::sweep(words, n);
+            free_rest(words, n, cells);
             Loaded { verdict: 0, end }
         },
     }

@@ -31,11 +31,13 @@ fn number_cells(words: &[u32], scratch: &mut [u32], n: u32) -> u32
     let mut root = 0;
     loop {
         if unnumbered(scratch, hand) {
+            let left = pool::link_of(words, hand, Pool::LEFT);
+            let right = pool::link_of(words, hand, Pool::RIGHT);
             count += 1;
             scratch[hand as usize - 1] = count;
-            scratch[base + depth] = pool::link_of(words, hand, Pool::RIGHT);
+            scratch[base + depth] = right;
             depth += 1;
-            hand = pool::link_of(words, hand, Pool::LEFT);
+            hand = left;
         } else if 0 < depth {
             depth -= 1;
             hand = scratch[base + depth];

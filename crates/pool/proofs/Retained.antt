@@ -28,10 +28,10 @@ module _ (keep : ℕ → Bool) (n i : ℕ) (here : i < n) where
   one-more : freeAbove keep n i ≡ lowestFree keep (suc (n - suc i)) (suc i)
   one-more = ap (λ (k : ℕ). lowestFree keep k (suc i)) (omega arith)
 
-  free-kept : keep (suc i) ≡ true → freeAbove keep n i ≡ freeAbove keep n (suc i)
+  pub free-kept : keep (suc i) ≡ true → freeAbove keep n i ≡ freeAbove keep n (suc i)
   free-kept e = one-more ∙ lowest-step keep (n - suc i) (suc i) true e
 
-  free-here : keep (suc i) ≡ false → freeAbove keep n i ≡ suc i
+  pub free-here : keep (suc i) ≡ false → freeAbove keep n i ≡ suc i
   free-here e = one-more ∙ lowest-step keep (n - suc i) (suc i) false e
 
 -- a freed cell, field by field
@@ -219,12 +219,12 @@ kept-most keep (suc n) = go (keep (suc n)) (kept-most keep n)
     go true h = omega arith
     go false h = omega arith
 
--- what the loop of the sweep keeps: the cells above i are done, next is the lowest free one of them, and kept counts the others
-pub record Turn (R n : ℕ) (w₀ w : List ℕ) (i next kept : ℕ) : Type 0 where
-  pub few : kept + i ≤ n
+-- what the loop of the sweep keeps: the cells above i are done, next is the lowest free one of them, and freed counts those that are free
+pub record Turn (R n : ℕ) (w₀ w : List ℕ) (i next freed : ℕ) : Type 0 where
+  pub few : freed + i ≤ n
   pub swept : Swept R n (markedCell R w₀) w₀ w i
   pub chain : next ≡ freeAbove (markedCell R w₀) n i
-  pub counted : keptCount (markedCell R w₀) n ≡ kept + keptCount (markedCell R w₀) i
+  pub counted : keptCount (markedCell R w₀) n + freed + i ≡ n + keptCount (markedCell R w₀) i
 
 module _ (R n : ℕ) (w₀ : List ℕ) (room : poolLength R n ≤ length w₀) where
   pub turn-first : Turn R n w₀ w₀ n 0 0
@@ -233,7 +233,7 @@ module _ (R n : ℕ) (w₀ : List ℕ) (room : poolLength R n ≤ length w₀) w
       let none : n - n ≡ 0 = omega arith in
       record { few = omega arith; swept = swept-none R n (markedCell R w₀) w₀; chain = rw none; counted = omega arith }
 
-  module _ (w : List ℕ) (i next kept : ℕ) (some : 0 < i) (t : Turn R n w₀ w i next kept) where
+  module _ (w : List ℕ) (i next freed : ℕ) (some : 0 < i) (t : Turn R n w₀ w i next freed) where
     top : i - 1 < n
     top = omega (arith, t .few)
 
@@ -244,18 +244,19 @@ module _ (R n : ℕ) (w₀ : List ℕ) (room : poolLength R n ≤ length w₀) w
     state-read : (s : ℕ) → s ≡ cell R w i 0 → cell R w₀ (suc (i - 1)) 0 ≡ s
     state-read s read = rw this (sym (read ∙ t .swept .below i 0 some (omega arith) (omega arith)))
 
-    pub turn-kept : (s : ℕ) (w' : List ℕ) → s ≡ cell R w i 0 → isMarked s ≡ true → w' ≡ unmarkCell R w i → Turn R n w₀ w' (i - 1) next (kept + 1)
-    turn-kept s w' read is write =
+    pub turn-kept : (s u : ℕ) (w' : List ℕ) → s ≡ cell R w i 0 → isMarked s ≡ true → asUsed s ≡ u → w' ≡ setCell R w i 0 u → Turn R n w₀ w' (i - 1) next freed
+    turn-kept s u w' read is used write =
+        let made : w' ≡ unmarkCell R w i = write ∙ ap (setCell R w i 0) (sym used ∙ ap asUsed read) in
         let keep : markedCell R w₀ (suc (i - 1)) ≡ true = ap isMarked (state-read s read) ∙ is in
         record {
           few = omega (arith, t .few);
-          swept = rw (write ∙ ap (λ (k : ℕ). unmarkCell R w k) (sym this))
+          swept = rw (made ∙ ap (λ (k : ℕ). unmarkCell R w k) (sym this))
               (swept-kept R n (markedCell R w₀) w₀ w (i - 1) top room (rw this (t .swept)) keep);
           chain = t .chain ∙ sym (free-kept (markedCell R w₀) n (i - 1) top keep ∙ ap (freeAbove (markedCell R w₀) n) this);
           counted = omega (arith, t .counted, kept-more (markedCell R w₀) i some (rw this at keep));
         }
 
-    pub turn-free : (s : ℕ) (w' : List ℕ) → s ≡ cell R w i 0 → isMarked s ≡ false → w' ≡ putCell R w i freeState next 0 0 → Turn R n w₀ w' (i - 1) i kept
+    pub turn-free : (s : ℕ) (w' : List ℕ) → s ≡ cell R w i 0 → isMarked s ≡ false → w' ≡ putCell R w i freeState next 0 0 → Turn R n w₀ w' (i - 1) i (freed + 1)
     turn-free s w' read is write =
         let drop : markedCell R w₀ (suc (i - 1)) ≡ false = ap isMarked (state-read s read) ∙ is in
         record {
@@ -266,12 +267,12 @@ module _ (R n : ℕ) (w₀ : List ℕ) (room : poolLength R n ≤ length w₀) w
           counted = omega (arith, t .counted, kept-same (markedCell R w₀) i some (rw this at drop));
         }
 
-  pub turn-last : (w w' : List ℕ) (i next kept : ℕ) → i ≤ 0 → Turn R n w₀ w i next kept → w' ≡ setHead w next
-      → _≡_ {A = ℕ × List ℕ} (kept, w') (sweepOf R n w₀)
+  pub turn-last : (w w' : List ℕ) (i next freed : ℕ) → i ≤ 0 → Turn R n w₀ w i next freed → w' ≡ setHead w next
+      → _≡_ {A = ℕ × List ℕ} (n - freed, w') (sweepOf R n w₀)
   unfolding keptCount
-  turn-last w w' zero next kept last t write =
+  turn-last w w' zero next freed last t write =
       ap₂ (λ (k : ℕ) (l : List ℕ). (k, l)) (omega (arith, t .counted)) (write ∙ (ap (setHead w) (t .chain) ∙ swept-all R n (markedCell R w₀) w₀ w room (t .swept)))
-  turn-last w w' (suc i) next kept last t write = absurd (omega arith)
+  turn-last w w' (suc i) next freed last t write = absurd (omega arith)
 
 -- the lowest free cell, and the number of kept ones, are the same where the same cells from 1 to n are kept
 lowest-cong : (keep keep' : ℕ → Bool) (k i : ℕ) → ((j : ℕ) → i ≤ j → j < i + k → keep j ≡ keep' j) → lowestFree keep k i ≡ lowestFree keep' k i

@@ -5,6 +5,7 @@ use mathlib.Core.Path.{_≡_, refl, sym, ap, _∙_}
 use mathlib.Core.Logic.{_⊎_, inl, inr}
 use mathlib.Core.Bool.{Bool, true, false, cond, _||_, true≢false}
 use lib.Dec.{eqb}
+use lib.Bits.{bitXor}
 use borrow.Author.Tests.{eqb-true, eq-eqb, ne-eqb}
 use Rattle.pool.specs.States.{pairState, markedPairState, freeState, pointState, markedPointState, isPoint, isUsed, isMarked, isFree, asMarked, asUsed}
 
@@ -84,6 +85,15 @@ module _ (s : ℕ) where
   pub marked-point-is : s ≡ markedPointState → (isMarked s ≡ true) × (isPoint s ≡ true) × (asUsed s ≡ pointState)
   unfolding isMarked isPoint asUsed
   marked-point-is e = (rw e refl, rw e refl, rw e refl)
+
+  -- a marked state is that of a pair, where it is not that of a marked point
+  pub marked-pair-other : isMarked s ≡ true → (s ≡ markedPointState → ⊥) → isPoint s ≡ false
+  unfolding isMarked
+  marked-pair-other e other = go (one-of s markedPairState markedPointState e)
+    where
+      go : (s ≡ markedPairState) ⊎ (s ≡ markedPointState) → isPoint s ≡ false
+      go (inl h) = marked-pair-is h .1
+      go (inr h) = absurd (other h)
 
   pub other-unmarked : (s ≡ markedPairState → ⊥) → (s ≡ markedPointState → ⊥) → isMarked s ≡ false
   unfolding isMarked
@@ -169,6 +179,23 @@ module _ (s : ℕ) where
       go : (t : Bool) → (eqb (cond t pointState pairState) pairState || eqb (cond t pointState pairState) pointState) ≡ true
       go true = refl
       go false = refl
+
+  -- the states of a used cell and of a marked one of its kind differ in the lowest two bits
+  pub used-marked : isUsed s ≡ true → bitXor s markedPairState ≡ asMarked s
+  unfolding asMarked isPoint
+  used-marked e = go (used-is e)
+    where
+      go : (s ≡ pairState) ⊎ (s ≡ pointState) → bitXor s markedPairState ≡ cond (eqb s pointState || eqb s markedPointState) markedPointState markedPairState
+      go (inl h) = rw h refl
+      go (inr h) = rw h refl
+
+  pub marked-used : isMarked s ≡ true → bitXor s markedPairState ≡ asUsed s
+  unfolding isMarked asUsed isPoint
+  marked-used e = go (one-of s markedPairState markedPointState e)
+    where
+      go : (s ≡ markedPairState) ⊎ (s ≡ markedPointState) → bitXor s markedPairState ≡ cond (eqb s pointState || eqb s markedPointState) pointState pairState
+      go (inl h) = rw h refl
+      go (inr h) = rw h refl
 
   -- a used state is what the sweep makes of it
   pub used-same : isUsed s ≡ true → s ≡ asUsed s

@@ -1,4 +1,5 @@
 pub mod WellFormed
+pub mod Plausible
 pub mod PoolGraph
 pub mod RetainedPool
 pub mod FreshPool

@@ -1,18 +1,16 @@
 -- A well-formed pool as facts about its registers and cells, read off the test and put back into it.
 use Prim.Native.Nat.{ℕ, suc, _-_, _<_, _≤_}
 use native.Mathlib.Omega.{arith}
-use native.Mathlib.Decide.{ℕ-discrete}
-use mathlib.Core.Path.{_≡_, refl, sym, _∙_}
+use mathlib.Core.Path.{_≡_, refl}
 use mathlib.Core.List.{List}
 use mathlib.Core.Bool.{Bool, true, false, _&&_, _||_}
 use lib.Dec.{eqb, leb}
-use borrow.Author.Tests.{le-leb, eq-eqb, ne-eqb, eqb-true, eqb-false, leb-true}
-use Rattle.pool.specs.Layout.{register, cell, state, linkOf}
-use Rattle.pool.specs.States.{pairState, pointState, isUsed, isMarked, isFree}
+use borrow.Author.Tests.{le-leb, eq-eqb, eqb-true, eqb-false, leb-true}
+use Rattle.pool.specs.Layout.{register, state, linkOf}
+use Rattle.pool.specs.States.{isUsed, isMarked, isFree}
 use Rattle.questions.specs.Validity.{validLink, validCell, registersValid, cellsValid, wellFormed}
 use Rattle.pool.proofs.Sizes.{both}
-use Rattle.pool.proofs.States.{pair-is, point-is, neither-used, used-not-free, used-not-marked, free-not-marked}
-use Rattle.pool.proofs.Links.{link-pair, link-point}
+use Rattle.pool.proofs.States.{used-not-free, used-not-marked, free-not-marked}
 use Rattle.pool.proofs.Every.{every-each, each-every}
 
 -- a valid link is nil or a used cell
@@ -84,29 +82,3 @@ module _ (R n : ℕ) (w : List ℕ) where
         each-every (λ j. validLink R n w (register w j)) R (λ k low. link-made (register w k) (f .registers k low)),
         each-every (λ j. validCell R n w (suc j)) n (λ k low. cell-made (suc k) (f .cells (suc k) (omega arith) low)),
       )
-
--- a cell by its state: the links of a pair are asked, of a point nothing
-module _ (R n : ℕ) (w : List ℕ) (i : ℕ) {s : ℕ} (read : s ≡ state R w i) where
-  pub valid-pair : s ≡ pairState → validCell R n w i ≡ (validLink R n w (cell R w i 1) && validLink R n w (cell R w i 2))
-  valid-pair e =
-      let is = pair-is (state R w i) (sym read ∙ e) in
-      rw (used-not-free (state R w i) (is .0), is .0, link-pair R w i 1 (is .1), link-pair R w i 2 (is .1)) refl
-
-  pub valid-point : s ≡ pointState → validCell R n w i ≡ true
-  valid-point e =
-      let is = point-is (state R w i) (sym read ∙ e) in
-      rw (used-not-free (state R w i) (is .0), is .0, link-point R w i 1 (is .1), link-point R w i 2 (is .1)) refl
-
-  pub valid-free : isFree s ≡ true → validCell R n w i ≡ true
-  valid-free is = rw (← read, is) refl
-
-  pub valid-none : isFree s ≡ false → (s ≡ pairState → ⊥) → (s ≡ pointState → ⊥) → validCell R n w i ≡ false
-  valid-none other pair point = rw (← read, other, neither-used s pair point) refl
-
-  -- where it is neither a pair nor free, whether it is a point decides
-  pub point-decides : isFree s ≡ false → (s ≡ pairState → ⊥) → eqb s pointState ≡ validCell R n w i
-  point-decides other pair = go (ℕ-discrete s pointState)
-    where
-      go : Dec (s ≡ pointState) → eqb s pointState ≡ validCell R n w i
-      go (yes e) = eq-eqb s pointState e ∙ sym (valid-point e)
-      go (no e) = ne-eqb s pointState e ∙ sym (valid-none other pair e)

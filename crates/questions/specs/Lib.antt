@@ -1,3 +1,4 @@
 pub mod Validity
 pub mod Questions
+pub mod Steps
 pub mod FreshPool

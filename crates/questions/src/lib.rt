@@ -5,7 +5,8 @@ ghost use mathlib.Core.Path.{_≡_};
 ghost use Prim.Native.Nat.{_<_, _≤_};
 ghost use lib.ListN.{length};
 ghost use Rattle.pool.specs.Layout.{registerCount, poolLength};
-ghost use Rattle.questions.specs.Validity.{validLink, validCell, registersValid, cellsValid, wellFormed};
+ghost use Rattle.questions.specs.Validity.{validLink, registersValid, cellsValid, wellFormed};
+ghost use Rattle.questions.specs.Steps.{plausibleLink, plausibleCell};
 ghost use Rattle.questions.specs.Questions.{sizedOf, areRegisters, admitOf, heldOf};
 
 // The registers that a call names. A call that names fewer than three repeats one.
@@ -98,15 +99,30 @@ pub fn read_link(words: &[u32], n: u32, k: u32) -> Held
     }
 }
 
-// Is the cell free, or used with valid links? Of a point nothing else is asked.
-fn valid_cell(words: &[u32], n: u32, i: u32) -> bool
+// Is the link nil, or the number of a cell that is not free? Where every state is used or free, such a link is valid, and the state is compared once and not
+// twice.
+fn plausible_link(words: &[u32], n: u32, x: u32) -> bool
+    requires { ⌜ poolLength registerCount n ≤ length (now words) ⌝ }
+    ensures { λ r. ⌜ r ≡ plausibleLink registerCount n (now (words .entry)) x ⌝ }
+{
+    if x == 0 {
+        return true;
+    }
+    if n < x {
+        return false;
+    }
+    pool::read_cell(words, x, Pool::STATE) != Pool::FREE
+}
+
+// Is the cell free, or used with plausible links? Of a point nothing else is asked.
+fn plausible_cell(words: &[u32], n: u32, i: u32) -> bool
     requires { ⌜ (0 < i) × (i ≤ n) × (poolLength registerCount n ≤ length (now words)) ⌝ }
-    ensures { λ r. ⌜ r ≡ validCell registerCount n (now (words .entry)) i ⌝ }
+    ensures { λ r. ⌜ r ≡ plausibleCell registerCount n (now (words .entry)) i ⌝ }
 {
     let state = pool::read_cell(words, i, Pool::STATE);
     if state == Pool::PAIR {
-        if valid_link(words, n, pool::read_cell(words, i, Pool::LEFT)) {
-            valid_link(words, n, pool::read_cell(words, i, Pool::RIGHT))
+        if plausible_link(words, n, pool::read_cell(words, i, Pool::LEFT)) {
+            plausible_link(words, n, pool::read_cell(words, i, Pool::RIGHT))
         } else {
             false
         }
@@ -139,7 +155,7 @@ fn cells_valid(words: &[u32], n: u32) -> bool
 {
     let mut cell = n;
     while 0 < cell {
-        if valid_cell(words, n, cell) {
+        if plausible_cell(words, n, cell) {
             cell -= 1;
         } else {
             return false;

@@ -3,8 +3,9 @@ use Prim.Native.Nat.{ℕ, zero, suc, _<_, _≤_}
 use native.Mathlib.Omega.{arith}
 use native.Mathlib.Decide.{ℕ-discrete, decLe}
 use mathlib.Core.Path.{_≡_, refl, sym, ap, _∙_}
-use mathlib.Core.Bool.{Bool, true, false}
+use mathlib.Core.Bool.{Bool, true, false, not}
 use mathlib.Core.List.{List, [], _∷_, List·Memᴰ, List·Memᴰ·head, List·Memᴰ·tail}
+use lib.Dec.{eqb}
 use borrow.Author.Tests.{ne-eqb}
 use Rattle.graph.specs.Graph.{Graph}
 use Rattle.graph.specs.Dfs.{mark, marks, Dfs}
@@ -14,9 +15,14 @@ use Rattle.reversal.specs.Reversal.{unmarked}
 use Rattle.reversal.specs.ReversalTheorem.{markAll, Agreement, Untouched}
 use Rattle.pool.proofs.Node.{length-setNode, cell-setNode, state-setNode, setNode-links}
 use Rattle.pool.proofs.Links.{link-same}
+use Rattle.pool.proofs.Sizes.{both}
 use Rattle.pool.proofs.States.{marked-marked, marked-not-used}
 use Rattle.graph.proofs.Marks.{above-nil, mark-self, mark-other}
 use Rattle.graph.proofs.Visits.{fresh}
+
+-- the cell that an unmarked link leads to is used
+pub unmarked-state : (R x : ℕ) (w : List ℕ) → unmarked R w x ≡ true → isUsed (state R w x) ≡ true
+unmarked-state R x w e = both (not (eqb x 0)) (isUsed (state R w x)) e .1
 
 module _ (R n : ℕ) (g : Graph) (point : ℕ → Bool) where
   -- what is unmarked is a cell

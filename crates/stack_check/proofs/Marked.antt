@@ -12,23 +12,25 @@ use Rattle.graph.specs.Graph.{Reach, Within}
 use Rattle.graph.specs.Preorder.{elem}
 use Rattle.graph.specs.Marking.{markedCount}
 use Rattle.graph.specs.Dfs.{marks}
+use Rattle.graph.specs.Theorems.{Distinct}
 use Rattle.graph.proofs.Lists.{Each, has-member, member-has}
 use Rattle.graph.proofs.Reached.{reach-above, reach-within}
 use Rattle.graph.proofs.Marks.{marks-member, marks-cases, marks-keeps}
 use Rattle.graph.proofs.Count.{marked-same}
 use Rattle.pool.specs.Layout.{poolLength, cell, state, isPointAt, linkOf, graphOf, rootsOf}
-use Rattle.pool.specs.States.{isUsed}
-use Rattle.pool.proofs.States.{marked-not-used}
+use Rattle.pool.specs.States.{markedPointState, isPoint, isUsed, isMarked}
+use Rattle.pool.proofs.States.{marked-point-is, marked-pair-other, marked-not-used}
 use Rattle.pool.proofs.Links.{link-pair, link-point}
 use Rattle.questions.proofs.WellFormed.{WellFormed, well-formed-read}
 use Rattle.questions.proofs.PoolGraph.{Used, reached-used, pool-within}
 use Rattle.reversal.specs.Reversal.{unmarked}
 use Rattle.reversal.specs.ReversalTheorem.{markAll}
+use Rattle.reversal.proofs.Agreement.{unmarked-state}
 use Rattle.reversal.proofs.MarkAll.{markAll-append, length-markAll, link-markAll, state-markAll-same, state-markAll-other}
 use Rattle.reversal.proofs.PoolMarks.{stateMarks, stateMarks-used, stateMarks-other}
 use Rattle.stack_algorithm.specs.Stack.{isUnmarked, unmarkedLinks, onward}
 use Rattle.stack_algorithm.specs.Steps.{Going}
-use Rattle.stack_algorithm.proofs.Fresh.{member-fresh, other-fresh, marked-all}
+use Rattle.stack_algorithm.proofs.Fresh.{member-fresh, other-fresh, marked-all, passing}
 use Rattle.stack_algorithm.proofs.Going.{turn}
 use Rattle.stack_check.specs.Steps.{onwardIn, Pending}
 
@@ -38,12 +40,14 @@ pub look-made : (R p : ℕ) (w : List ℕ) (l r : ℕ) {a b : Bool} → l ≡ li
 look-made R p w l r el er ea eb = rw (ea, eb, el, er)
 
 -- a point has none
-pub look-point : (R p : ℕ) (w : List ℕ) → isPointAt R w p ≡ true → [] ≡ onwardIn R w p
-look-point R p w e = look-made R p w 0 0 {a = false} {b = false} (sym (link-point R w p 1 e)) (sym (link-point R w p 2 e)) refl refl
+pub look-point : (R p : ℕ) (w : List ℕ) {s : ℕ} → s ≡ state R w p → s ≡ markedPointState → [] ≡ onwardIn R w p
+look-point R p w own e =
+    let point : isPointAt R w p ≡ true = ap isPoint (sym own) ∙ marked-point-is _ e .1 in
+    look-made R p w 0 0 {a = false} {b = false} (sym (link-point R w p 1 point)) (sym (link-point R w p 2 point)) refl refl
 
 -- and a pair those that its fields hold
-pub look-read : (R p : ℕ) (w : List ℕ) {t : Bool} → t ≡ isPointAt R w p → t ≡ false → (f : ℕ) {l : ℕ} → l ≡ cell R w p f → l ≡ linkOf R w p f
-look-read R p w asked other f e = e ∙ sym (link-pair R w p f (sym asked ∙ other))
+pub look-read : (R p : ℕ) (w : List ℕ) {s : ℕ} → s ≡ state R w p → isMarked s ≡ true → (s ≡ markedPointState → ⊥) → (f : ℕ) {l : ℕ} → l ≡ cell R w p f → l ≡ linkOf R w p f
+look-read R p w own marked other f e = e ∙ sym (link-pair R w p f (ap isPoint (sym own) ∙ marked-pair-other _ marked other))
 
 -- where both are unmarked, whether they are equal does
 pub look-equal : (R p : ℕ) (w : List ℕ) (l r : ℕ) → l ≡ linkOf R w p 1 → r ≡ linkOf R w p 2 → true ≡ unmarked R w l → l ≡ r → l ∷ [] ≡ onwardIn R w p
@@ -52,6 +56,13 @@ look-equal R p w l r el er ea same = rw (eq-eqb l r same) at (look-made R p w l 
 pub look-both : (R p : ℕ) (w : List ℕ) (l r : ℕ) → l ≡ linkOf R w p 1 → r ≡ linkOf R w p 2 → true ≡ unmarked R w l → true ≡ unmarked R w r → (l ≡ r → ⊥)
     → l ∷ r ∷ [] ≡ onwardIn R w p
 look-both R p w l r el er ea eb apart = rw (ne-eqb l r apart) at (look-made R p w l r {a = true} {b = true} el er ea eb)
+
+-- and two that it finds are not equal
+pub new-apart : (R p : ℕ) (w : List ℕ) (l r : ℕ) → l ∷ r ∷ [] ≡ onwardIn R w p → l ≡ r → ⊥
+new-apart R p w l r found same = go (subst Distinct (sym found) (passing (unmarked R w) (linkOf R w p 1) (linkOf R w p 2) .distinct))
+  where
+    go : Distinct (l ∷ r ∷ []) → ⊥
+    go (Distinct.more out rest) = out (List·Memᴰ·head same)
 
 -- The words w are the pool's with some cells marked, of which these are pending.
 pub record Marked (R : ℕ) (pool w pending : List ℕ) : Type 0 where
@@ -116,6 +127,13 @@ module _ (R n : ℕ) (pool : List ℕ) (well : WellFormed R n pool) (room : pool
           rw (marked-length s) room,
         )
 
+    -- and it is marked
+    pub pending-marked : {p : ℕ} {others : List ℕ} → Marked R pool w (p ∷ others) → isMarked (state R w p) ≡ true
+    pending-marked {p} s =
+        let reach = pending-reached s in
+        ap (λ (v : List ℕ). isMarked (state R v p)) (s .words)
+        ∙ state-markAll-same R p (reach-above reach) (s .seen) (λ y mem. reach-above (s .going .cells y mem)) (s .going .held p (List·Memᴰ·head refl)) pool (omega (arith, reach-within within reach))
+
     -- a look at the words finds the unmarked links of the definition
     pub looked : {p : ℕ} {others : List ℕ} (s : Marked R pool w (p ∷ others)) → onwardIn R w p ≡ onward (graphOf R pool) (s .seen) p
     looked {p} s = ap (λ (v : List ℕ). onwardIn R v p) (s .words) ∙ links (s .seen) (s .going .cells) p (pending-reached s)
@@ -132,12 +150,14 @@ module _ (R n : ℕ) (pool : List ℕ) (well : WellFormed R n pool) (room : pool
               subst (λ (l : List ℕ). Going (graphOf R pool) (rootsOf R pool) (s .seen ++ l) (l ++ others)) (sym same) (turn (s .going));
         }
 
-    -- these are cells
-    pub new-cell : {p : ℕ} {others : List ℕ} → Marked R pool w (p ∷ others) → (new : List ℕ) → new ≡ onwardIn R w p → (x : ℕ) → List·Memᴰ x new → (0 < x) × (x ≤ n)
+    -- these are used cells
+    pub new-cell : {p : ℕ} {others : List ℕ} → Marked R pool w (p ∷ others) → (new : List ℕ) → new ≡ onwardIn R w p → (x : ℕ) → List·Memᴰ x new
+        → (0 < x) × (x ≤ n) × (isUsed (state R w x) ≡ true)
     new-cell {p} {others} s new links x mem =
         let after = turned s new links in
         let reach = after .going .cells x (after .going .held x (Memᴰ·append-left others mem)) in
-        (reach-above reach, reach-within within reach)
+        let passes = passing (unmarked R w) (linkOf R w p 1) (linkOf R w p 2) .passes x (subst (List·Memᴰ x) links mem) in
+        (reach-above reach, reach-within within reach, unmarked-state R x w passes)
 
   -- so many cells more are marked than in the pool
   pub marked-count : {w pending : List ℕ} (s : Marked R pool w pending)

@@ -3,10 +3,12 @@ use Prim.Native.Nat.{ℕ, zero, suc, _+_, _-_, _<_, _≤_}
 use native.Mathlib.Omega.{arith}
 use mathlib.Core.Path.{_≡_, refl, sym, ap, _∙_}
 use mathlib.Core.List.{List, [], _∷_, _++_, List·Memᴰ, List·Memᴰ·head}
+use mathlib.Core.Bool.{true}
 use lib.ListN.{length, length-append}
 use borrow.Author.Tests.{ne-eqb}
 use Rattle.graph.proofs.Count.{marked-le}
-use Rattle.pool.specs.Layout.{poolLength, linkOf, graphOf, markCell}
+use Rattle.pool.specs.Layout.{poolLength, state, linkOf, graphOf, markCell}
+use Rattle.pool.specs.States.{isUsed, isMarked}
 use Rattle.questions.proofs.PoolGraph.{pool-within}
 use Rattle.reversal.specs.ReversalTheorem.{markAll}
 use Rattle.reversal.proofs.PoolMarks.{stateMarks}
@@ -15,7 +17,7 @@ use Rattle.stack_algorithm.specs.Check.{byLinks, walk}
 use Rattle.stack_algorithm.proofs.Fresh.{member-some}
 use Rattle.stack_algorithm.proofs.Going.{seen-most}
 use Rattle.stack_check.specs.Steps.{onwardIn, entryOf, inWords, Walkable, walkIn}
-use Rattle.stack_check.proofs.Marked.{Marked, marked-length, pending-well, pending-length, pending-cell, looked, turned, new-cell, marked-count, unmarkedCount}
+use Rattle.stack_check.proofs.Marked.{Marked, marked-length, pending-well, pending-length, pending-cell, pending-marked, looked, turned, new-cell, marked-count, unmarkedCount}
 
 -- Between two turns: what is left of the walk leads to the same end.
 pub record Walking (R n : ℕ) (pool : List ℕ) (end : List ℕ × List ℕ) (w : List ℕ) (p : ℕ) : Type 0 where
@@ -51,6 +53,9 @@ module _ (R n entry : ℕ) (w₀ : List ℕ) (room : poolLength R n ≤ length w
       pub walk-cell : (0 < p) × (p ≤ n) × (linkOf R w p 1 ≤ n) × (linkOf R w p 2 ≤ n) × (poolLength R n ≤ length w)
       walk-cell = pending-cell R n (h .1 .pool) (pending-well (h .1)) (pool-room h) (s h .marked)
 
+      pub walk-marked : isMarked (state R w p) ≡ true
+      walk-marked = pending-marked R n (h .1 .pool) (pending-well (h .1)) (pool-room h) (s h .marked)
+
       pub walk-length : length w ≡ length w₀
       walk-length = marked-length R n (h .1 .pool) (pending-well (h .1)) (pool-room h) (s h .marked) ∙ sym (pending-length (h .1))
 
@@ -71,7 +76,7 @@ module _ (R n entry : ℕ) (w₀ : List ℕ) (room : poolLength R n ≤ length w
             go (suc t) e = (t, e, rw same (ap (λ (k : ℕ). walk k (graphOf R (h .1 .pool)) (s h .marked .seen) p) (sym e) ∙ s h .last))
 
         -- the cells that are marked next
-        pub walk-new : (x : ℕ) → List·Memᴰ x new → (0 < x) × (x ≤ n)
+        pub walk-new : (x : ℕ) → List·Memᴰ x new → (0 < x) × (x ≤ n) × (isUsed (state R w x) ≡ true)
         walk-new x mem = new-cell R n (h .1 .pool) (pending-well (h .1)) (pool-room h) (s h .marked) new links x mem
 
       -- none is unmarked: the entry is dropped

@@ -1,9 +1,11 @@
 // Where the stack marker goes on to from a cell, and the check of its entries where the lent words are full.
 use pool::Pool;
 ghost use mathlib.Core.Path.{_≡_};
+ghost use mathlib.Core.Bool.{true};
 ghost use Prim.Native.Nat.{_<_, _≤_};
 ghost use lib.ListN.{length};
-ghost use Rattle.pool.specs.Layout.{registerCount, poolLength, linkOf};
+ghost use Rattle.pool.specs.Layout.{registerCount, poolLength, cell, linkOf};
+ghost use Rattle.pool.specs.States.{isMarked};
 ghost use Rattle.stack_check.specs.Steps.{linksOf, onwardIn, entries, entryOf, withoutNil, Walkable, walkIn, Checkable, checkIn};
 
 // Where the marker goes on to from a cell: with two links unmarked it goes to the left one and pushes the right one.
@@ -13,12 +15,13 @@ pub enum Onward {
     Both(u32, u32),
 }
 
-// Looks at both links of a cell. Two equal unmarked links are one.
-pub fn look(words: &[u32], n: u32, p: u32) -> Onward
+// Looks at both links of a marked cell of that state. Two equal unmarked links are one.
+pub fn look(words: &[u32], n: u32, p: u32, state: u32) -> Onward
+    requires { ⌜ (state ≡ cell registerCount (now words) p 0) × (isMarked state ≡ true) ⌝ }
     requires { ⌜ (0 < p) × (p ≤ n) × (linkOf registerCount (now words) p 1 ≤ n) × (linkOf registerCount (now words) p 2 ≤ n) × (poolLength registerCount n ≤ length (now words)) ⌝ }
     ensures { λ r. ⌜ linksOf r ≡ onwardIn registerCount (now (words .entry)) p ⌝ }
 {
-    if pool::is_point_at(words, p) {
+    if state == Pool::MARKED_POINT {
         return Onward::Nowhere;
     }
     let left = pool::read_cell(words, p, Pool::LEFT);
@@ -39,18 +42,21 @@ pub fn look(words: &[u32], n: u32, p: u32) -> Onward
 }
 
 // From an entry of the stack: while a cell has one unmarked link, marks it and goes there. Gives the cell reached where two are unmarked, and 0 where none is.
+// The state of the cell is at hand wherever it was just written, so that it need not be read back.
 fn walk(words: &mut [u32], n: u32, entry: u32) -> u32
     requires { ⌜ Walkable registerCount n (now words) entry ⌝ }
     requires { ⌜ poolLength registerCount n ≤ length (now words) ⌝ }
     ensures { λ r. ⌜ ((h : Walkable registerCount n (now (words .entry)) entry) → (now (words .exit), entryOf r) ≡ walkIn registerCount n (now (words .entry)) entry h) ⌝ }
 {
     let mut p = entry;
+    let mut state = pool::read_cell(words, p, Pool::STATE);
     loop {
-        match look(words, n, p) {
+        match look(words, n, p, state) {
             Onward::Both(_, _) => return p,
             Onward::To(x) => {
                 pool::mark_cell(words, x);
                 p = x;
+                state = pool::read_cell(words, p, Pool::STATE);
             }
             Onward::Nowhere => return 0,
         }

@@ -4,8 +4,9 @@ use Rattle.bounded_stack.proofs.clear_marks.Tie as tie
 use borrow.Author.Needs.{needs}
 use native.Mathlib.Omega.{arith}
 use Rattle.pool.specs.Layout.{registerCount}
+use Rattle.pool.specs.States.{isMarked}
 use Prim.Native.Nat.{_≤_}
-use mathlib.Core.Path.{_≡_, refl, sym, _∙_}
+use mathlib.Core.Path.{_≡_, refl, sym, ap, _∙_}
 use lib.ListN.{length}
 use Rattle.bounded_stack.specs.Steps.{cleared}
 use Rattle.bounded_stack.proofs.Cleared.{cleared-none, cleared-marked, cleared-other}
@@ -27,8 +28,11 @@ is-marked-requires c κs = search needs
 
 unmark-cell-requires : tie.Need-unmark-cell-requires Inv-loop μ-loop
 unmark-cell-requires c κs =
-    let at-loop = c .before .before .before .before .before .before in
-    omega (arith, at-loop .loop .inv .2)
+    let at-if1 = c .before in
+    let at-is-marked = at-if1 .before in
+    let at-read-cell = at-is-marked .before in
+    let at-loop = at-read-cell .before .before .before in
+    (omega arith, omega (arith, at-loop .loop .inv .2), ap isMarked (sym (at-read-cell .read-cell .ensures)) ∙ (sym (at-is-marked .is-marked .ensures) ∙ at-if1 .if1 .taken))
 
 sub-i : tie.Need-sub-i Inv-loop μ-loop
 sub-i c = omega arith

@@ -7,6 +7,7 @@ use mathlib.Core.Path.{sym, ap, _∙_}
 use mathlib.Core.Logic.{⊎-elim}
 use lib.ListN.{length}
 use Rattle.pool.specs.Layout.{registerCount}
+use Rattle.reversal.proofs.Agreement.{unmarked-state}
 use Rattle.bounded_stack.proofs.RootLoop.{Registers, registers-first, registers-length, registers-last, registers-bound, registers-skip, registers-cell, registers-start, registers-fit, registers-next, registers-full}
 
 abbrev Inv-loop : tie.InvT-loop
@@ -41,7 +42,8 @@ mark-cell-requires c κs =
     let at-test = at-read-register .before .before in
     let at-turn = at-test .before in
     let at-start = at-turn .before .before .before in
-    (registers-cell _ _ _ (at-start .pre .0) (at-start .pre .1) _ _ _ _ _ (at-turn .loop .inv) _ (at-test .loop-test .taken) (at-read-register .read-register .ensures) (sym (at-is-unmarked .is-unmarked .ensures) ∙ at-if1 .if1 .taken), omega (arith, at-start .pre .1, registers-length _ _ _ _ _ _ _ _ (at-turn .loop .inv), registers-bound _ _ _ (at-start .pre .0) (at-start .pre .1) _ _ _ _ _ (at-turn .loop .inv) _ (at-test .loop-test .taken) (at-read-register .read-register .ensures)))
+    let unmarked = sym (at-is-unmarked .is-unmarked .ensures) ∙ at-if1 .if1 .taken in
+    (registers-cell _ _ _ (at-start .pre .0) (at-start .pre .1) _ _ _ _ _ (at-turn .loop .inv) _ (at-test .loop-test .taken) (at-read-register .read-register .ensures) unmarked, omega (arith, at-start .pre .1, registers-length _ _ _ _ _ _ _ _ (at-turn .loop .inv), registers-bound _ _ _ (at-start .pre .0) (at-start .pre .1) _ _ _ _ _ (at-turn .loop .inv) _ (at-test .loop-test .taken) (at-read-register .read-register .ensures)), unmarked-state _ _ _ unmarked)
 
 mark-from-requires : tie.Need-mark-from-requires Inv-loop μ-loop
 mark-from-requires c κs =

@@ -1,22 +1,27 @@
--- `image::read_word` meets its contract: the kind decides whether the number has a bound.
+-- `image::read_word` meets its contract: the bound that the kind gives is the definition's, since any number that is read has 32 bits.
 use borrow.Author.Needs.{needs}
 use Rattle.image.proofs.read_word.Statement.{statement}
 use Rattle.image.proofs.read_word.Tie as tie
 use mathlib.Core.Path.{ap, _∙_}
-use borrow.Author.Tests.{eq-eqb, ne-eqb}
 use Rattle.image.specs.Image.{atMost}
+use Rattle.image.proofs.Images.{word-bound}
 
 read-number-requires : tie.Need-read-number-requires
 read-number-requires c κs = search needs
 
-returns : tie.Need-returns
-returns c = simp (eq-eqb _ _ (c .if1 .taken)) (c .before .read-number .ensures)
+highest-word-requires : tie.Need-highest-word-requires
+highest-word-requires c κs = search needs
 
 at-most-requires : tie.Need-at-most-requires
 at-most-requires c κs = search needs
 
-returns-2 : tie.Need-returns-2
-returns-2 c = simp (ne-eqb _ _ (c .before .if1 .left)) (c .at-most .ensures ∙ ap (atMost _ _) (c .before .before .read-number .ensures))
+returns : tie.Need-returns
+returns c =
+    let at-number = c .before .before in
+    let a = at-number .before .before .args in
+    c .at-most .ensures
+    ∙ (ap (atMost _ _) (at-number .read-number .ensures)
+    ∙ word-bound (a .k) _ (λ i. at-number .before .shared-slice-known .given i .fits) (a .kind) (a .at) _ (c .before .highest-word .ensures))
 
 pub read-word-spec : {M : Type 1} → statement M
-read-word-spec = tie.close (tie.spec read-number-requires returns at-most-requires returns-2)
+read-word-spec = tie.close (tie.spec read-number-requires highest-word-requires at-most-requires returns)

@@ -7,45 +7,45 @@ use mathlib.Core.List.{_++_}
 use Rattle.leb128.specs.Leb128.{encode}
 use Rattle.image_writer.proofs.ImageBytes.{cell-length, put-append}
 
-put-number-requires : tie.Need-put-number-requires
-put-number-requires c κs = let at-start = c .before .before in omega (arith, at-start .pre, cell-length (at-start .args .cell))
+write-number-requires : tie.Need-write-number-requires
+write-number-requires c κs = let at-start = c .before .before in omega (arith, at-start .pre, cell-length (at-start .args .cell))
 
-put-number-requires-2 : tie.Need-put-number-requires-2
-put-number-requires-2 c κs =
+write-number-requires-2 : tie.Need-write-number-requires-2
+write-number-requires-2 c κs =
     let at-first = c .before .before .before in
     let at-start = at-first .before .before .before in
-    omega (arith, at-start .pre, cell-length (at-start .args .cell), at-first .put-number .ensures .0, at-first .put-number .kept .0)
+    omega (arith, at-start .pre, cell-length (at-start .args .cell), at-first .write-number .ensures .0, at-first .write-number .kept .0)
 
-put-number-requires-3 : tie.Need-put-number-requires-3
-put-number-requires-3 c κs =
+write-number-requires-3 : tie.Need-write-number-requires-3
+write-number-requires-3 c κs =
     let at-second = c .before .before .before in
     let at-first = at-second .before .before .before .before in
     let at-start = at-first .before .before .before in
-    let second = at-second .put-number2 in
+    let second = at-second .write-number2 in
     omega (
       arith,
       at-start .pre,
       cell-length (at-start .args .cell),
-      at-first .put-number .ensures .0,
-      at-first .put-number .kept .0,
+      at-first .write-number .ensures .0,
+      at-first .write-number .kept .0,
       second .ensures .0,
       second .kept .0,
     )
 
-put-number-requires-4 : tie.Need-put-number-requires-4
-put-number-requires-4 c κs =
+write-number-requires-4 : tie.Need-write-number-requires-4
+write-number-requires-4 c κs =
     let at-third = c .before .before .before in
     let at-second = at-third .before .before .before .before in
     let at-first = at-second .before .before .before .before in
     let at-start = at-first .before .before .before in
-    let second = at-second .put-number2 in
-    let third = at-third .put-number3 in
+    let second = at-second .write-number2 in
+    let third = at-third .write-number3 in
     omega (
       arith,
       at-start .pre,
       cell-length (at-start .args .cell),
-      at-first .put-number .ensures .0,
-      at-first .put-number .kept .0,
+      at-first .write-number .ensures .0,
+      at-first .write-number .kept .0,
       second .ensures .0,
       second .kept .0,
       third .ensures .0,
@@ -68,17 +68,17 @@ returns c =
     let right = encode (cell .right) in
     put-append ((kind ++ left) ++ right) _ _ _ _ _ _ _ (omega (arith, at-start .pre))
     (put-append (kind ++ left) right _ _ _ _ _ _ (omega (arith, at-start .pre))
-    (put-append kind left _ _ _ _ _ _ (omega (arith, at-start .pre)) (at-kind .put-number .ensures) (at-left .put-number2 .ensures))
-    (at-right .put-number3 .ensures))
-    (at-value .put-number4 .ensures)
+    (put-append kind left _ _ _ _ _ _ (omega (arith, at-start .pre)) (at-kind .write-number .ensures) (at-left .write-number2 .ensures))
+    (at-right .write-number3 .ensures))
+    (at-value .write-number4 .ensures)
 
 pub put-cell-spec : {M : Type 1} → statement M
 put-cell-spec =
     tie.close
     (tie.spec
-    put-number-requires
-    put-number-requires-2
-    put-number-requires-3
-    put-number-requires-4
+    write-number-requires
+    write-number-requires-2
+    write-number-requires-3
+    write-number-requires-4
     same-length
     returns)

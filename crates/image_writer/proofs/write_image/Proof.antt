@@ -7,8 +7,8 @@ use denote.Ref.{now}
 use Rattle.pool.specs.Layout.{registerCount}
 use Rattle.image_writer.proofs.ImageBytes.{image-length, put-image}
 
-put-number-requires : tie.Need-put-number-requires
-put-number-requires c κs =
+write-number-requires : tie.Need-write-number-requires
+write-number-requires c κs =
     let at-start = c .before .before .before .before in
     omega (arith, image-length registerCount (at-start .args .n) (now (at-start .args .words)) (at-start .args .k) (at-start .pre .2), at-start .pre .3)
 
@@ -22,8 +22,8 @@ write-registers-requires c κs =
         arith,
         image-length registerCount (at-start .args .n) (now (at-start .args .words)) (at-start .args .k) (at-start .pre .2),
         at-start .pre .3,
-        at-count .put-number .ensures .0,
-        at-count .put-number .kept .0,
+        at-count .write-number .ensures .0,
+        at-count .write-number .kept .0,
       ),
     )
 
@@ -39,8 +39,8 @@ write-cells-requires c κs =
         arith,
         image-length registerCount (at-start .args .n) (now (at-start .args .words)) (at-start .args .k) (at-start .pre .2),
         at-start .pre .3,
-        at-count .put-number .ensures .0,
-        at-count .put-number .kept .0,
+        at-count .write-number .ensures .0,
+        at-count .write-number .kept .0,
         at-registers .write-registers .ensures .0,
         at-registers .write-registers .kept .1 .1 .1 .0,
       ),
@@ -56,13 +56,13 @@ returns c =
     let at-count = at-registers .before .before .before .before in
     let at-start = at-count .before .before .before .before .before in
     put-image registerCount (at-start .args .n) (now (at-start .args .words)) _ (now (at-start .args .out)) _ _ _ _ _ _ (at-start .pre .2)
-    (at-count .put-number .ensures) (at-registers .write-registers .ensures) (at-cells .write-cells .ensures)
+    (at-count .write-number .ensures) (at-registers .write-registers .ensures) (at-cells .write-cells .ensures)
 
 pub write-image-spec : {M : Type 1} → statement M
 write-image-spec =
     tie.close
     (tie.spec
-    put-number-requires
+    write-number-requires
     write-registers-requires
     write-cells-requires
     same-length

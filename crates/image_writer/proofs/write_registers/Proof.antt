@@ -21,8 +21,8 @@ loop-holds c = (omega arith, writing-first _ _ _)
 saved-register-requires : tie.Need-saved-register-requires Inv-loop μ-loop
 saved-register-requires c κs = let at-start = c .before .before .before .before .before .before in (at-start .pre .0, at-start .pre .1, omega arith)
 
-put-number-requires : tie.Need-put-number-requires Inv-loop μ-loop
-put-number-requires c κs =
+write-number-requires : tie.Need-write-number-requires Inv-loop μ-loop
+write-number-requires c κs =
     let at-test = c .before .before in
     let at-start = at-test .before .before .before .before .before in
     writing-room _ _ _ (at-start .pre .2) _ _ _ (at-test .before .loop .inv .1) _ _ (next-register registerCount _ _ _ _ (at-test .loop-test .taken) (c .saved-register .ensures))
@@ -40,7 +40,7 @@ loop-again c =
     let at-start = at-test .before .before .before .before .before in (
       omega arith,
       writing-more _ _ _ (at-start .pre .2) _ _ _ (at-test .before .loop .inv .1) _ _ _ _ (next-register registerCount _ _ _ _ (at-test .loop-test .taken) (at-put .before .saved-register .ensures))
-          (at-put .put-number .ensures) (at-put .put-number .kept .0),
+          (at-put .write-number .ensures) (at-put .write-number .kept .0),
     )
 
 same-length : tie.Need-same-length Inv-loop μ-loop
@@ -59,7 +59,7 @@ write-registers-spec =
     μ-loop
     loop-holds
     saved-register-requires
-    put-number-requires
+    write-number-requires
     add-j
     loop-less
     loop-again

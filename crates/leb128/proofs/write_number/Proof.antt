@@ -2,30 +2,17 @@
 -- The measure is what is left of the number.
 use mathlib.Core.Path.{refl}
 use native.Mathlib.Omega.{arith}
-use borrow.Author.Needs.{needs}
 use lib.ListN.{length-set}
 use Rattle.leb128.proofs.Encoding.{encode-size}
-use Rattle.leb128.proofs.Writing.{Writing, turn, written, no-room}
+use Rattle.leb128.proofs.Writing.{Writing, turn, written}
 use Rattle.leb128.proofs.write_number.Statement.{statement}
 use Rattle.leb128.proofs.write_number.Tie as tie
 
 abbrev Inv-loop : tie.InvT-loop
-Inv-loop out₀ at v size rest₀ i₀ out rest i = Writing out₀ at v out rest i
+Inv-loop out₀ at v rest₀ i₀ out rest i = Writing out₀ at v out rest i
 
 abbrev μ-loop : tie.MeasureT-loop
-μ-loop out₀ at v size rest₀ i₀ out rest i = rest
-
-number-size-requires : tie.Need-number-size-requires Inv-loop μ-loop
-number-size-requires c κs = search needs
-
-returns : tie.Need-returns Inv-loop μ-loop
-returns c = no-room _ _ _ (omega arith)
-
-sub-if2 : tie.Need-sub-if2 Inv-loop μ-loop
-sub-if2 c = search needs
-
-returns-2 : tie.Need-returns-2 Inv-loop μ-loop
-returns-2 c = no-room _ _ _ (omega arith)
+μ-loop out₀ at v rest₀ i₀ out rest i = rest
 
 loop-holds : tie.Need-loop-holds Inv-loop μ-loop
 loop-holds c = record { fits = omega arith; same = refl; next = refl; bytes = refl }
@@ -54,14 +41,14 @@ cast-out-2 c = omega arith
 slice-write-out-2 : tie.Need-slice-write-out-2 Inv-loop μ-loop
 slice-write-out-2 c = omega (arith, encode-size (c .before .loop .rest))
 
-add-t7 : tie.Need-add-t7 Inv-loop μ-loop
-add-t7 c = omega (arith, encode-size (c .before .loop .rest))
+add-result : tie.Need-add-result Inv-loop μ-loop
+add-result c = omega (arith, encode-size (c .before .loop .rest))
 
 same-length : tie.Need-same-length Inv-loop μ-loop
 same-length c = simp length-set (c .before .loop .inv .same)
 
-returns-3 : tie.Need-returns-3 Inv-loop μ-loop
-returns-3 c = written (c .before .loop .inv) (omega arith) (omega arith)
+returns : tie.Need-returns Inv-loop μ-loop
+returns c = written (c .before .loop .inv) (omega arith) (omega arith)
 
 pub write-number-spec : {M : Type 1} → statement M
 write-number-spec =
@@ -69,10 +56,6 @@ write-number-spec =
     (tie.spec
     Inv-loop
     μ-loop
-    number-size-requires
-    returns
-    sub-if2
-    returns-2
     loop-holds
     add-out
     cast-out
@@ -82,6 +65,6 @@ write-number-spec =
     loop-again
     cast-out-2
     slice-write-out-2
-    add-t7
+    add-result
     same-length
-    returns-3)
+    returns)

@@ -44,7 +44,7 @@ returns-2 : tie.Need-returns-2
 returns-2 c =
     let at-cells = c .before .before in
     let at-registers = at-cells .before .before .before .before in
-    fill-made registerCount _ _ _ _ _ _ _ _ (count-read (at-registers .before)) (at-registers .fill-registers .ensures) (at-cells .fill-cells .ensures)
+    fill-made registerCount _ _ _ _ _ _ _ _ (count-read (at-registers .before)) (at-registers .fill-registers .ensures _) (at-cells .fill-cells .ensures)
 
 pub fill-spec : {M : Type 1} → statement M
 fill-spec =

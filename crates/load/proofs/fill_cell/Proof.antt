@@ -4,13 +4,12 @@ use Rattle.load.proofs.fill_cell.Statement.{statement}
 use Rattle.load.proofs.fill_cell.Tie as tie
 use mathlib.Core.Path.{refl, sym, ap, _∙_}
 use denote.Ref.{now}
-use Rattle.image.specs.Image.{readCell}
 use Rattle.image.specs.Steps.{fieldParsed}
 use Rattle.image.proofs.Reading.{then-parsed, then-fault}
-use Rattle.load.proofs.Filling.{where-parsed, where-fault}
+use Rattle.load.proofs.Filling.{where-parsed, where-fault, where-cell, readNumbers}
 
-read-kind-requires : tie.Need-read-kind-requires
-read-kind-requires c κs = search needs
+read-number-requires : tie.Need-read-number-requires
+read-number-requires c κs = search needs
 
 enum-known-kind : tie.Need-enum-known-kind
 enum-known-kind c = search needs
@@ -22,11 +21,11 @@ returns : tie.Need-returns
 returns c =
     let at-kind = c .before .before in
     let a = at-kind .before .before .before .args in
-    where-fault (readCell (a .k) (now (a .bytes)) (a .at)) _ _
-    (then-fault _ (sym (at-kind .read-kind .ensures) ∙ ap fieldParsed (c .enum-told .given .1)))
+    λ k. where-cell k _ _ _ (where-fault (readNumbers (now (a .bytes)) (a .at)) _ _
+    (then-fault _ (sym (at-kind .read-number .ensures) ∙ ap fieldParsed (c .enum-told .given .1))))
 
-read-word-requires : tie.Need-read-word-requires
-read-word-requires c κs = search needs
+read-number-requires-2 : tie.Need-read-number-requires-2
+read-number-requires-2 c κs = search needs
 
 enum-known-left : tie.Need-enum-known-left
 enum-known-left c = search needs
@@ -39,12 +38,12 @@ returns-2 c =
     let at-left = c .before .before in
     let at-kind = at-left .before .before .before .before in
     let a = at-kind .before .before .before .args in
-    where-fault (readCell (a .k) (now (a .bytes)) (a .at)) _ _
-    (then-parsed _ (sym (at-kind .read-kind .ensures) ∙ ap fieldParsed (at-left .before .before .kind .given .1))
-    ∙ then-fault _ (sym (at-left .read-word .ensures) ∙ ap fieldParsed (c .enum-told2 .given .1)))
+    λ k. where-cell k _ _ _ (where-fault (readNumbers (now (a .bytes)) (a .at)) _ _
+    (then-parsed _ (sym (at-kind .read-number .ensures) ∙ ap fieldParsed (at-left .before .before .kind .given .1))
+    ∙ then-fault _ (sym (at-left .read-number2 .ensures) ∙ ap fieldParsed (c .enum-told2 .given .1))))
 
-read-word-requires-2 : tie.Need-read-word-requires-2
-read-word-requires-2 c κs = search needs
+read-number-requires-3 : tie.Need-read-number-requires-3
+read-number-requires-3 c κs = search needs
 
 enum-known-right : tie.Need-enum-known-right
 enum-known-right c = search needs
@@ -58,13 +57,13 @@ returns-3 c =
     let at-left = at-right .before .before .before .before in
     let at-kind = at-left .before .before .before .before in
     let a = at-kind .before .before .before .args in
-    where-fault (readCell (a .k) (now (a .bytes)) (a .at)) _ _
-    (then-parsed _ (sym (at-kind .read-kind .ensures) ∙ ap fieldParsed (at-left .before .before .kind .given .1))
-    ∙ (then-parsed _ (sym (at-left .read-word .ensures) ∙ ap fieldParsed (at-right .before .before .left .given .1))
-    ∙ then-fault _ (sym (at-right .read-word2 .ensures) ∙ ap fieldParsed (c .enum-told3 .given .1))))
+    λ k. where-cell k _ _ _ (where-fault (readNumbers (now (a .bytes)) (a .at)) _ _
+    (then-parsed _ (sym (at-kind .read-number .ensures) ∙ ap fieldParsed (at-left .before .before .kind .given .1))
+    ∙ (then-parsed _ (sym (at-left .read-number2 .ensures) ∙ ap fieldParsed (at-right .before .before .left .given .1))
+    ∙ then-fault _ (sym (at-right .read-number3 .ensures) ∙ ap fieldParsed (c .enum-told3 .given .1)))))
 
-read-number-requires : tie.Need-read-number-requires
-read-number-requires c κs = search needs
+read-number-requires-4 : tie.Need-read-number-requires-4
+read-number-requires-4 c κs = search needs
 
 enum-known-value : tie.Need-enum-known-value
 enum-known-value c = search needs
@@ -79,11 +78,11 @@ returns-4 c =
     let at-left = at-right .before .before .before .before in
     let at-kind = at-left .before .before .before .before in
     let a = at-kind .before .before .before .args in
-    where-fault (readCell (a .k) (now (a .bytes)) (a .at)) _ _
-    (then-parsed _ (sym (at-kind .read-kind .ensures) ∙ ap fieldParsed (at-left .before .before .kind .given .1))
-    ∙ (then-parsed _ (sym (at-left .read-word .ensures) ∙ ap fieldParsed (at-right .before .before .left .given .1))
-    ∙ (then-parsed _ (sym (at-right .read-word2 .ensures) ∙ ap fieldParsed (at-value .before .before .right .given .1))
-    ∙ then-fault _ (sym (at-value .read-number .ensures) ∙ ap fieldParsed (c .enum-told4 .given .1)))))
+    λ k. where-cell k _ _ _ (where-fault (readNumbers (now (a .bytes)) (a .at)) _ _
+    (then-parsed _ (sym (at-kind .read-number .ensures) ∙ ap fieldParsed (at-left .before .before .kind .given .1))
+    ∙ (then-parsed _ (sym (at-left .read-number2 .ensures) ∙ ap fieldParsed (at-right .before .before .left .given .1))
+    ∙ (then-parsed _ (sym (at-right .read-number3 .ensures) ∙ ap fieldParsed (at-value .before .before .right .given .1))
+    ∙ then-fault _ (sym (at-value .read-number4 .ensures) ∙ ap fieldParsed (c .enum-told4 .given .1))))))
 
 state-of-kind-requires : tie.Need-state-of-kind-requires
 state-of-kind-requires c κs = search needs
@@ -103,30 +102,30 @@ returns-5 c =
     let at-left = at-right .before .before .before .before in
     let at-kind = at-left .before .before .before .before in
     let a = at-kind .before .before .before .args in
-    where-parsed (readCell (a .k) (now (a .bytes)) (a .at)) _ _ _
-    (then-parsed _ (sym (at-kind .read-kind .ensures) ∙ ap fieldParsed (at-left .before .before .kind .given .1))
-    ∙ (then-parsed _ (sym (at-left .read-word .ensures) ∙ ap fieldParsed (at-right .before .before .left .given .1))
-    ∙ (then-parsed _ (sym (at-right .read-word2 .ensures) ∙ ap fieldParsed (at-value .before .before .right .given .1))
-    ∙ then-parsed _ (sym (at-value .read-number .ensures) ∙ ap fieldParsed (at-state .before .before .before .value .given .1)))))
-    (at-put .put-cell .ensures ∙ rw (at-state .state-of-kind .ensures) refl, refl)
+    λ k. where-cell k _ _ _ (where-parsed (readNumbers (now (a .bytes)) (a .at)) _ _ _
+    (then-parsed _ (sym (at-kind .read-number .ensures) ∙ ap fieldParsed (at-left .before .before .kind .given .1))
+    ∙ (then-parsed _ (sym (at-left .read-number2 .ensures) ∙ ap fieldParsed (at-right .before .before .left .given .1))
+    ∙ (then-parsed _ (sym (at-right .read-number3 .ensures) ∙ ap fieldParsed (at-value .before .before .right .given .1))
+    ∙ then-parsed _ (sym (at-value .read-number4 .ensures) ∙ ap fieldParsed (at-state .before .before .before .value .given .1)))))
+    (at-put .put-cell .ensures ∙ rw (at-state .state-of-kind .ensures) refl, refl))
 
 pub fill-cell-spec : {M : Type 1} → statement M
 fill-cell-spec =
     tie.close
     (tie.spec
-    read-kind-requires
+    read-number-requires
     enum-known-kind
     enum-told
     returns
-    read-word-requires
+    read-number-requires-2
     enum-known-left
     enum-told-2
     returns-2
-    read-word-requires-2
+    read-number-requires-3
     enum-known-right
     enum-told-3
     returns-3
-    read-number-requires
+    read-number-requires-4
     enum-known-value
     enum-told-4
     returns-4

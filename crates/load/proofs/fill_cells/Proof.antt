@@ -36,7 +36,7 @@ loop-again c =
     let at-loop = at-test .before .loop in (
       omega arith,
       at-fill .fill-cell .kept .0 ∙ at-loop .inv .1,
-      filling-more _ (putFields registerCount) _ _ _ _ _ _ _ _ (at-loop .inv .2) _ _ (at-test .loop-test .taken) (at-fill .fill-cell .ensures),
+      filling-more _ (putFields registerCount) _ _ _ _ _ _ _ _ (at-loop .inv .2) _ _ (at-test .loop-test .taken) (at-fill .fill-cell .ensures _),
     )
 
 same-length : tie.Need-same-length Inv-loop μ-loop

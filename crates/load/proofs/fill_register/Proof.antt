@@ -1,13 +1,13 @@
--- `load::fill_register` meets its contract: the link that was read is written; a refused one leaves nothing to show.
+-- `load::fill_register` meets its contract: the number that was read is written; a refused one leaves nothing to show.
 use borrow.Author.Needs.{needs}
 use Rattle.load.proofs.fill_register.Statement.{statement}
 use Rattle.load.proofs.fill_register.Tie as tie
 use mathlib.Core.Path.{refl, sym, ap, _∙_}
 use Rattle.image.specs.Steps.{fieldParsed}
-use Rattle.load.proofs.Filling.{where-parsed, where-fault}
+use Rattle.load.proofs.Filling.{where-parsed, where-fault, where-link}
 
-read-link-requires : tie.Need-read-link-requires
-read-link-requires c κs = search needs
+read-number-requires : tie.Need-read-number-requires
+read-number-requires c κs = search needs
 
 enum-known-value : tie.Need-enum-known-value
 enum-known-value c = search needs
@@ -16,7 +16,7 @@ enum-told : tie.Need-enum-told
 enum-told c = search needs
 
 returns : tie.Need-returns
-returns c = where-fault _ _ _ (sym (c .before .before .read-link .ensures) ∙ ap fieldParsed (c .enum-told .given .1))
+returns c = λ k. where-link k _ _ _ (where-fault _ _ _ (sym (c .before .before .read-number .ensures) ∙ ap fieldParsed (c .enum-told .given .1)))
 
 write-register-requires : tie.Need-write-register-requires
 write-register-requires c κs = search needs
@@ -28,14 +28,14 @@ returns-2 : tie.Need-returns-2
 returns-2 c =
     let at-write = c .before .before in
     let at-read = at-write .before .before .before .before .before in
-    where-parsed _ _ _ _ (sym (at-read .read-link .ensures) ∙ ap fieldParsed (at-write .before .before .before .value .given .1))
-    (at-write .write-register .ensures, refl)
+    λ k. where-link k _ _ _ (where-parsed _ _ _ _ (sym (at-read .read-number .ensures) ∙ ap fieldParsed (at-write .before .before .before .value .given .1))
+    (at-write .write-register .ensures, refl))
 
 pub fill-register-spec : {M : Type 1} → statement M
 fill-register-spec =
     tie.close
     (tie.spec
-    read-link-requires
+    read-number-requires
     enum-known-value
     enum-told
     returns

@@ -1,4 +1,4 @@
--- `load::load_at` meets its contract: the length, then the scan, which writes nothing; then the words are filled, marked and swept.
+-- `load::load_at` meets its contract: the length, then the scan, which writes nothing; then the words are filled, and the cells behind those of the image freed.
 use borrow.Author.Needs.{needs}
 use Rattle.load.proofs.load_at.Statement.{statement}
 use Rattle.load.proofs.load_at.Tie as tie
@@ -8,7 +8,7 @@ use lib.ListN.{length, length-set}
 use denote.Ref.{now}
 use Rattle.pool.specs.Layout.{registerCount}
 use Rattle.pool.proofs.Sizes.{Sized, counted-sized}
-use Rattle.load.proofs.Loading.{load-no-pool, load-refused, load-whole}
+use Rattle.load.proofs.Loading.{load-no-pool, load-refused, load-filled, load-whole}
 
 cell-count-of-length-requires : tie.Need-cell-count-of-length-requires
 cell-count-of-length-requires c κs = search needs
@@ -41,23 +41,13 @@ fill-requires c κs = omega (arith, sized (c .before .before .before .before .be
 slice-write-words : tie.Need-slice-write-words
 slice-write-words c = let at-fill = c .before .before in omega (arith, sized (at-fill .before .before .before .before .before .before), at-fill .fill .kept .0)
 
-mark-first-requires : tie.Need-mark-first-requires
-mark-first-requires c κs =
+free-rest-requires : tie.Need-free-rest-requires
+free-rest-requires c κs =
     let at-fill = c .before .before .before in
-    simp length-set (omega (arith, sized (at-fill .before .before .before .before .before .before), at-fill .fill .kept .0))
-
-sweep-requires : tie.Need-sweep-requires
-sweep-requires c κs =
-    let at-mark = c .before .before .before in
-    let at-fill = at-mark .before .before .before .before in
-    let at-pool = at-fill .before .before .before .before .before .before in
-    omega (
-      arith,
-      sized at-pool,
-      at-mark .mark-first .kept .0,
-      length-set (at-fill .fill .last .0) 0 (at-pool .before .cell-count-of-length .result),
-      at-fill .fill .kept .0,
-    )
+    let at-scan = at-fill .before .before .before .before .before in
+    let a = at-scan .before .before .before .before .before .args in
+    load-filled (now (a .words)) (now (a .bytes)) _ (at-scan .before .before .cell-count-of-length .ensures) (at-scan .before .if1 .left) _
+    (at-scan .scan-image .ensures) _ _ (at-fill .before .before .before .cells .given .1) (at-fill .fill .last .0) (at-fill .fill .ensures)
 
 returns-2 : tie.Need-returns-2
 returns-2 c =
@@ -67,19 +57,18 @@ returns-2 c =
 
 same-length : tie.Need-same-length
 same-length c =
-    let at-mark = c .before .before .before .before .before .before in
-    c .before .before .sweep .kept .0 ∙ (at-mark .mark-first .kept .0 ∙ (simp length-set (at-mark .before .before .before .before .fill .kept .0)))
+    let at-free = c .before .before in
+    at-free .free-rest .kept .0 ∙ simp length-set (at-free .before .before .before .before .fill .kept .0)
 
 returns-3 : tie.Need-returns-3
 returns-3 c =
-    let at-sweep = c .before .before in
-    let at-mark = at-sweep .before .before .before .before in
-    let at-fill = at-mark .before .before .before .before in
+    let at-free = c .before .before in
+    let at-fill = at-free .before .before .before .before in
     let at-scan = at-fill .before .before .before .before .before in
     let a = at-scan .before .before .before .before .before .args in
     load-whole (now (a .words)) (now (a .bytes)) _ (at-scan .before .before .cell-count-of-length .ensures) (at-scan .before .if1 .left) _
-    (at-scan .scan-image .ensures) _ _ (at-fill .fill .last .0) (at-mark .mark-first .last .0) _ _ (at-fill .before .before .before .cells .given .1)
-    (at-fill .fill .ensures) (at-mark .mark-first .ensures) (at-sweep .sweep .ensures)
+    (at-scan .scan-image .ensures) _ _ (at-fill .before .before .before .cells .given .1) (at-fill .fill .last .0) (at-fill .fill .ensures) _
+    (at-free .free-rest .ensures)
 
 pub load-at-spec : {M : Type 1} → statement M
 load-at-spec =
@@ -94,8 +83,7 @@ load-at-spec =
     enum-known-cells
     fill-requires
     slice-write-words
-    mark-first-requires
-    sweep-requires
+    free-rest-requires
     returns-2
     same-length
     returns-3)

@@ -36,38 +36,38 @@ loop-holds c = turn-first registerCount _ _ _ (c .before .before .pre .0) (c .be
 unnumbered-requires : tie.Need-unnumbered-requires Inv-loop μ-loop
 unnumbered-requires c κs = omega (arith, bounds (c .before))
 
-add-count : tie.Need-add-count Inv-loop μ-loop
-add-count c = omega (arith, bounds (c .before .before .before), room c)
-
-cast-scratch : tie.Need-cast-scratch Inv-loop μ-loop
-cast-scratch c = omega (arith, bounds (c .before .before .before))
-
-sub-scratch : tie.Need-sub-scratch Inv-loop μ-loop
-sub-scratch c = omega (arith, room c)
-
-mul-scratch : tie.Need-mul-scratch Inv-loop μ-loop
-mul-scratch c = omega (arith, bounds (c .before .before .before), room c)
-
-slice-write-scratch : tie.Need-slice-write-scratch Inv-loop μ-loop
-slice-write-scratch c = omega (arith, bounds (c .before .before .before), room c)
-
 link-of-requires : tie.Need-link-of-requires Inv-loop μ-loop
 link-of-requires c κs = omega (arith, bounds (c .before .before .before), room c)
 
-add-scratch : tie.Need-add-scratch Inv-loop μ-loop
-add-scratch c = omega (arith, bounds (c .before .before .before .before), room (c .before))
-
-mul-scratch-2 : tie.Need-mul-scratch-2 Inv-loop μ-loop
-mul-scratch-2 c = omega (arith, bounds (c .before .before .before .before), room (c .before))
-
-slice-write-scratch-2 : tie.Need-slice-write-scratch-2 Inv-loop μ-loop
-slice-write-scratch-2 c = simp length-set (omega (arith, bounds (c .before .before .before .before), room (c .before)))
-
-add-depth : tie.Need-add-depth Inv-loop μ-loop
-add-depth c = omega (arith, bounds (c .before .before .before .before), room (c .before))
-
 link-of-requires-2 : tie.Need-link-of-requires-2 Inv-loop μ-loop
 link-of-requires-2 c κs = omega (arith, bounds (c .before .before .before .before), room (c .before))
+
+add-count : tie.Need-add-count Inv-loop μ-loop
+add-count c = omega (arith, bounds (c .before .before .before .before .before), room (c .before .before))
+
+cast-scratch : tie.Need-cast-scratch Inv-loop μ-loop
+cast-scratch c = omega (arith, bounds (c .before .before .before .before .before))
+
+sub-scratch : tie.Need-sub-scratch Inv-loop μ-loop
+sub-scratch c = omega (arith, room (c .before .before))
+
+mul-scratch : tie.Need-mul-scratch Inv-loop μ-loop
+mul-scratch c = omega (arith, bounds (c .before .before .before .before .before), room (c .before .before))
+
+slice-write-scratch : tie.Need-slice-write-scratch Inv-loop μ-loop
+slice-write-scratch c = omega (arith, bounds (c .before .before .before .before .before), room (c .before .before))
+
+add-scratch : tie.Need-add-scratch Inv-loop μ-loop
+add-scratch c = omega (arith, bounds (c .before .before .before .before .before), room (c .before .before))
+
+mul-scratch-2 : tie.Need-mul-scratch-2 Inv-loop μ-loop
+mul-scratch-2 c = omega (arith, bounds (c .before .before .before .before .before), room (c .before .before))
+
+slice-write-scratch-2 : tie.Need-slice-write-scratch-2 Inv-loop μ-loop
+slice-write-scratch-2 c = simp length-set (omega (arith, bounds (c .before .before .before .before .before), room (c .before .before)))
+
+add-depth : tie.Need-add-depth Inv-loop μ-loop
+add-depth c = omega (arith, bounds (c .before .before .before .before .before), room (c .before .before))
 
 loop-less : tie.Need-loop-less Inv-loop μ-loop
 loop-less c = omega (arith, bounds (c .before .before .before .before .before), room (c .before .before))
@@ -76,7 +76,7 @@ loop-again : tie.Need-loop-again Inv-loop μ-loop
 loop-again c =
     let l = c .before .before .before .before .before in
     turn-take registerCount _ _ _ (l .before .before .before .pre .0) _ _ _ _ _ (l .loop .inv) _ (c .before .before .before .unnumbered .ensures) _ _ (c .before .before .if1 .taken)
-    (c .link-of2 .ensures) (c .before .link-of .ensures)
+    (c .before .link-of .ensures) (c .link-of2 .ensures)
 
 sub-depth : tie.Need-sub-depth Inv-loop μ-loop
 sub-depth c = omega arith
@@ -131,17 +131,17 @@ number-cells-spec =
     μ-loop
     loop-holds
     unnumbered-requires
+    link-of-requires
+    link-of-requires-2
     add-count
     cast-scratch
     sub-scratch
     mul-scratch
     slice-write-scratch
-    link-of-requires
     add-scratch
     mul-scratch-2
     slice-write-scratch-2
     add-depth
-    link-of-requires-2
     loop-less
     loop-again
     sub-depth

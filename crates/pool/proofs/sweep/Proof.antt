@@ -2,17 +2,16 @@
 use Rattle.pool.proofs.sweep.Statement.{statement}
 use Rattle.pool.proofs.sweep.Tie as tie
 use native.Mathlib.Omega.{arith}
-use mathlib.Core.Path.{sym, ap, _∙_}
-use Rattle.pool.specs.Layout.{registerCount, setCell}
-use Rattle.pool.specs.States.{asUsed}
+use mathlib.Core.Path.{_∙_}
+use Rattle.pool.specs.Layout.{registerCount}
 use Rattle.pool.proofs.States.{marked-pair-is, marked-point-is, other-unmarked}
 use Rattle.pool.proofs.Retained.{Turn, turn-first, turn-kept, turn-free, turn-last}
 
 abbrev Inv-loop : tie.InvT-loop
-Inv-loop words₀ n i₀ next₀ kept₀ words i next kept = Turn registerCount n words₀ words i next kept
+Inv-loop words₀ n i₀ next₀ freed₀ words i next freed = Turn registerCount n words₀ words i next freed
 
 abbrev μ-loop : tie.MeasureT-loop
-μ-loop words₀ n i₀ next₀ kept₀ words i next kept = i
+μ-loop words₀ n i₀ next₀ freed₀ words i next freed = i
 
 loop-holds : tie.Need-loop-holds Inv-loop μ-loop
 loop-holds c = turn-first registerCount _ _ (c .before .pre)
@@ -24,11 +23,6 @@ write-cell-requires : tie.Need-write-cell-requires Inv-loop μ-loop
 write-cell-requires c κs =
     let at-loop = c .before .before .before .before .before in
     omega (arith, at-loop .loop .inv .swept .len)
-
-add-kept : tie.Need-add-kept Inv-loop μ-loop
-add-kept c =
-    let at-loop = c .before .before .before .before .before .before .before .before in
-    omega (arith, at-loop .loop .inv .few)
 
 sub-i : tie.Need-sub-i Inv-loop μ-loop
 sub-i c = omega arith
@@ -44,20 +38,14 @@ loop-again c =
     let at-loop-test = at-read-cell .before .before in
     let at-loop = at-loop-test .before in
     let at-start = at-loop .before .before in
-    let is = marked-pair-is _ (at-if1 .if1 .taken) in
-    turn-kept registerCount _ _ (at-start .pre) _ _ _ _ (at-loop-test .loop-test .taken) (at-loop .loop .inv) _ _
-    (at-read-cell .read-cell .ensures) (is .0)
-    (at-write-cell .write-cell .ensures ∙ ap (setCell registerCount _ _ 0) (sym (ap asUsed (sym (at-read-cell .read-cell .ensures)) ∙ is .2)))
+    let is = marked-point-is _ (at-if1 .if1 .taken) in
+    turn-kept registerCount _ _ (at-start .pre) _ _ _ _ (at-loop-test .loop-test .taken) (at-loop .loop .inv) _ _ _
+    (at-read-cell .read-cell .ensures) (is .0) (is .2) (at-write-cell .write-cell .ensures)
 
 write-cell-requires-2 : tie.Need-write-cell-requires-2 Inv-loop μ-loop
 write-cell-requires-2 c κs =
     let at-loop = c .before .before .before .before .before .before in
     omega (arith, at-loop .loop .inv .swept .len)
-
-add-kept-2 : tie.Need-add-kept-2 Inv-loop μ-loop
-add-kept-2 c =
-    let at-loop = c .before .before .before .before .before .before .before .before .before in
-    omega (arith, at-loop .loop .inv .few)
 
 sub-i-2 : tie.Need-sub-i-2 Inv-loop μ-loop
 sub-i-2 c = omega arith
@@ -73,15 +61,19 @@ loop-again-2 c =
     let at-loop-test = at-read-cell .before .before in
     let at-loop = at-loop-test .before in
     let at-start = at-loop .before .before in
-    let is = marked-point-is _ (at-if2 .if2 .taken) in
-    turn-kept registerCount _ _ (at-start .pre) _ _ _ _ (at-loop-test .loop-test .taken) (at-loop .loop .inv) _ _
-    (at-read-cell .read-cell .ensures) (is .0)
-    (at-write-cell .write-cell2 .ensures ∙ ap (setCell registerCount _ _ 0) (sym (ap asUsed (sym (at-read-cell .read-cell .ensures)) ∙ is .2)))
+    let is = marked-pair-is _ (at-if2 .if2 .taken) in
+    turn-kept registerCount _ _ (at-start .pre) _ _ _ _ (at-loop-test .loop-test .taken) (at-loop .loop .inv) _ _ _
+    (at-read-cell .read-cell .ensures) (is .0) (is .2) (at-write-cell .write-cell2 .ensures)
 
 put-cell-requires : tie.Need-put-cell-requires Inv-loop μ-loop
 put-cell-requires c κs =
     let at-loop = c .before .before .before .before .before .before in
     omega (arith, at-loop .loop .inv .swept .len)
+
+add-freed : tie.Need-add-freed Inv-loop μ-loop
+add-freed c =
+    let at-loop = c .before .before .before .before .before .before .before .before .before in
+    omega (arith, at-loop .loop .inv .few)
 
 sub-i-3 : tie.Need-sub-i-3 Inv-loop μ-loop
 sub-i-3 c = omega arith
@@ -98,10 +90,13 @@ loop-again-3 c =
     let at-loop = at-loop-test .before in
     let at-start = at-loop .before .before in
     turn-free registerCount _ _ (at-start .pre) _ _ _ _ (at-loop-test .loop-test .taken) (at-loop .loop .inv) _ _
-    (at-read-cell .read-cell .ensures) (other-unmarked _ (at-if2 .before .if1 .left) (at-if2 .if2 .left)) (at-put-cell .put-cell .ensures)
+    (at-read-cell .read-cell .ensures) (other-unmarked _ (at-if2 .if2 .left) (at-if2 .before .if1 .left)) (at-put-cell .put-cell .ensures)
 
 write-head-requires : tie.Need-write-head-requires Inv-loop μ-loop
 write-head-requires c κs = omega (arith, c .before .before .loop .inv .swept .len)
+
+sub-result : tie.Need-sub-result Inv-loop μ-loop
+sub-result c = omega (arith, c .before .before .before .before .before .loop .inv .few)
 
 same-length : tie.Need-same-length Inv-loop μ-loop
 same-length c = c .before .before .write-head .kept .0 ∙ c .before .before .before .before .before .loop .inv .swept .len
@@ -120,19 +115,19 @@ sweep-spec =
     loop-holds
     read-cell-requires
     write-cell-requires
-    add-kept
     sub-i
     loop-less
     loop-again
     write-cell-requires-2
-    add-kept-2
     sub-i-2
     loop-less-2
     loop-again-2
     put-cell-requires
+    add-freed
     sub-i-3
     loop-less-3
     loop-again-3
     write-head-requires
+    sub-result
     same-length
     returns)

@@ -1,20 +1,23 @@
--- `questions::cells_valid` meets its contract. The cells above the present one are valid, so what is left to test decides; its number falls.
+-- `questions::cells_valid` meets its contract. All cells are plausible exactly if all are valid; those above the present one are plausible, so what is left
+-- to test decides; its number falls.
 use Rattle.questions.proofs.cells_valid.Statement.{statement}
 use Rattle.questions.proofs.cells_valid.Tie as tie
 use Prim.Native.Nat.{ℕ, suc, _≤_, _-_}
 use native.Mathlib.Omega.{arith}
-use mathlib.Core.Path.{_≡_, refl, sym, _∙_}
+use mathlib.Core.Path.{_≡_, sym, _∙_}
 use mathlib.Core.List.{List}
 use mathlib.Core.Bool.{Bool, true, false}
 use Rattle.pool.specs.Words.{every}
 use Rattle.pool.specs.Layout.{registerCount}
-use Rattle.questions.specs.Validity.{validCell, cellsValid}
+use Rattle.questions.specs.Validity.{cellsValid}
+use Rattle.questions.specs.Steps.{plausibleCell}
 use Rattle.pool.proofs.Every.{every-none, every-pass, every-fail}
+use Rattle.questions.proofs.Plausible.{plausible-valid}
 use denote.Ref.{now}
 
--- is cell k + 1 valid?
+-- is cell k + 1 plausible?
 abbrev test : ℕ → List ℕ → ℕ → Bool
-test n words k = validCell registerCount n words (suc k)
+test n words k = plausibleCell registerCount n words (suc k)
 
 abbrev Inv-loop : tie.InvT-loop
 Inv-loop words n cell₀ cell = (cell ≤ n) × (cellsValid registerCount n words ≡ every cell (test n words))
@@ -23,10 +26,10 @@ abbrev μ-loop : tie.MeasureT-loop
 μ-loop words n cell₀ cell = cell
 
 loop-holds : tie.Need-loop-holds Inv-loop μ-loop
-loop-holds c = (omega arith, refl)
+loop-holds c = (omega arith, sym (plausible-valid registerCount _ _))
 
-valid-cell-requires : tie.Need-valid-cell-requires Inv-loop μ-loop
-valid-cell-requires c κs = omega arith
+plausible-cell-requires : tie.Need-plausible-cell-requires Inv-loop μ-loop
+plausible-cell-requires c κs = omega arith
 
 sub-cell : tie.Need-sub-cell Inv-loop μ-loop
 sub-cell c = omega arith
@@ -58,7 +61,7 @@ cells-valid-spec =
     Inv-loop
     μ-loop
     loop-holds
-    valid-cell-requires
+    plausible-cell-requires
     sub-cell
     loop-less
     loop-again

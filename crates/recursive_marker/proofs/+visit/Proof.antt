@@ -14,6 +14,7 @@ use Rattle.pool.proofs.mark_cell.Reads as mark-cell-reads
 use Rattle.recursive_marker.proofs.+visit.{statement}
 use Rattle.recursive_marker.proofs.+visit.Tie.{close}
 use Rattle.pool.specs.Layout.{registerCount}
+use Rattle.reversal.proofs.Agreement.{unmarked-state}
 use Rattle.recursive_marker.proofs.CellVisit.{visit-none, visit-here, point-fits, visit-point, visit-pair, visit-left, visit-right, visit-fits, visit-fits-2, visit-all}
 
 abbrev μ-visit : Measures 1 visit-kinds.ps ℕ
@@ -57,8 +58,9 @@ visit-mark-cell-requires t c κs =
     let at-if1 = c .before .before .before .before in
     let at-is-unmarked = at-if1 .before in
     let at-start = at-is-unmarked .before .before .before in
-    let (low, high) = visit-here registerCount _ _ _ _ _ (at-start .pre .1) (sym (at-is-unmarked .is-unmarked .ensures) ∙ at-if1 .if1 .taken) in
-    (low, omega (arith, at-start .pre .1 .agree .room))
+    let unmarked = sym (at-is-unmarked .is-unmarked .ensures) ∙ at-if1 .if1 .taken in
+    let (low, high) = visit-here registerCount _ _ _ _ _ (at-start .pre .1) unmarked in
+    (low, omega (arith, at-start .pre .1 .agree .room), unmarked-state _ _ _ unmarked)
 
 visit-add-result : (t : ℕ) → visit-lts.Need-add-result (callees t) (visit-at t) visit.Post
 visit-add-result t c =
@@ -86,8 +88,9 @@ visit-mark-cell-requires-2 t c κs =
     let at-if1 = at-if2 .before .before .before in
     let at-is-unmarked = at-if1 .before in
     let at-start = at-is-unmarked .before .before .before in
-    let (low, high) = visit-here registerCount _ _ _ _ _ (at-start .pre .1) (sym (at-is-unmarked .is-unmarked .ensures) ∙ at-if1 .if1 .taken) in
-    (low, omega (arith, at-start .pre .1 .agree .room))
+    let unmarked = sym (at-is-unmarked .is-unmarked .ensures) ∙ at-if1 .if1 .taken in
+    let (low, high) = visit-here registerCount _ _ _ _ _ (at-start .pre .1) unmarked in
+    (low, omega (arith, at-start .pre .1 .agree .room), unmarked-state _ _ _ unmarked)
 
 visit-link-of-requires : (t : ℕ) → visit-lts.Need-link-of-requires (callees t) (visit-at t) visit.Post
 visit-link-of-requires t c κs =
