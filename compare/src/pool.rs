@@ -277,9 +277,8 @@ bind! {
 
 #[cfg(before)]
 bind! {
-    /// An earlier version of the library, 4.0.0 or later. Before 5.0.0 its fresh lacks the last argument: do not call it. Before
-    /// 5.0.0 it refuses words left over, before 6.0.0 it rounds the percent down, and before 7.0.0 it has no points and images of
-    /// another form.
+    /// An earlier version of the library, 5.0.0 or later. Before 6.0.0 it rounds the percent down, and before 7.0.0 it has no points
+    /// and images of another form.
     Before, with points before_has_points:
     before_cellpool_fresh, before_cellpool_copy, before_cellpool_clear, before_cellpool_new, before_cellpool_point, before_cellpool_left,
     before_cellpool_right, before_cellpool_setleft, before_cellpool_setright, before_cellpool_setvalue,

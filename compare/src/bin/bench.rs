@@ -111,19 +111,11 @@ impl Bench {
         Bench { pools, samples }
     }
 
-    /// Without an earlier version of the library, whose fresh may have an argument less.
-    fn without_before(&self) -> Bench {
-        let pools = self.pools.iter().copied().filter(|(name, _)| *name != "before").collect();
-        Bench { pools, samples: self.samples }
-    }
-
     /// Without an earlier version that has no points.
     fn with_points(&self) -> Bench {
-        if cfg!(before_has_points) {
-            Bench { pools: self.pools.clone(), samples: self.samples }
-        } else {
-            self.without_before()
-        }
+        let has_points = |name: &str| cfg!(before_has_points) || name != "before";
+        let pools = self.pools.iter().copied().filter(|(name, _)| has_points(name)).collect();
+        Bench { pools, samples: self.samples }
     }
 
     /// The cells of a table's row for these figures, of fewer implementations maybe.
@@ -419,15 +411,15 @@ fn build(bench: &Bench, _: &mut Random) {
     println!("| pool | library, µs |{}", bench.others());
     bench.rule(1, 1);
     type Builder = fn(&dyn Interface, &mut [u32]) -> Result<u32, u32>;
-    let builders: [(&str, Builder, usize, &Bench); 2] = [
-        ("fresh", |pool, words| pool.fresh(words).map(|(cells, _)| cells), n, &bench.without_before()),
-        ("worst case for the stack", |pool, words| pool.worst_case(words), (n - 1) / 2, bench),
+    let builders: [(&str, Builder, usize); 2] = [
+        ("fresh", |pool, words| pool.fresh(words).map(|(cells, _)| cells), n),
+        ("worst case for the stack", |pool, words| pool.worst_case(words), (n - 1) / 2),
     ];
-    for (name, builder, number, of) in builders {
-        let figures = of.repeat(&mut [vec![0; words_for(n)]], |pool, words| {
+    for (name, builder, number) in builders {
+        let figures = bench.repeat(&mut [vec![0; words_for(n)]], |pool, words| {
             assert_eq!(builder(pool, black_box(words)), Ok(number as u32));
         });
-        println!("| {name} | {:.1} |{}", figures.library / 1e3, bench.ratios(&figures));
+        println!("| {name} | {:.1} |{}", figures.library / 1e3, figures.ratios());
     }
 }
 

@@ -1,4 +1,3 @@
-pub mod Freeing
 pub mod Filling
 pub mod Putting
 pub mod Loading

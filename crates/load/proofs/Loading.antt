@@ -27,7 +27,8 @@ use Rattle.image.proofs.Reading.{between-inside}
 use Rattle.image.proofs.Images.{image-read, image-few, image-registers, reads-image-bytes, scanned, scanned-fault}
 use Rattle.load.specs.declared.Loaded.{Loaded}
 use Rattle.load.specs.Load.{putFields, putEach, putImage, loadedWords, loadImage, loadOf}
-use Rattle.load.specs.Steps.{WhereRead, FirstUsed}
+use Rattle.pool.specs.Steps.{FirstUsed}
+use Rattle.load.specs.Steps.{WhereRead}
 use Rattle.load.proofs.Putting.{imageField, noCell, cells-length, cells-at, cells-elsewhere, registers-length, registers-at, registers-elsewhere}
 
 -- The words v hold an image for a pool of n cells: N, the registers, and the fields of its cells. Behind the cells they are the words w.

@@ -6,12 +6,10 @@ use pool::Pool;
 ghost use mathlib.Core.Path.{_≡_};
 ghost use Prim.Native.Nat.{ℕ, _<_, _≤_};
 ghost use lib.ListN.{length};
-ghost use lib.Dec.{leb};
 ghost use Rattle.pool.specs.Layout.{registerCount, poolLength, setRegister};
-ghost use Rattle.pool.specs.Retain.{retain};
 ghost use Rattle.image.specs.Image.{readLink, readCell, readEach, readImage};
 ghost use Rattle.load.specs.Load.{stateOfKind, putFields, putEach, putImage, loadOf, Handed};
-ghost use Rattle.load.specs.Steps.{WhereRead, FirstUsed};
+ghost use Rattle.load.specs.Steps.{WhereRead};
 
 // What load answers: 0 or the refusal's number, and where the bytes behind the image start.
 pub struct Loaded {
@@ -114,21 +112,6 @@ fn fill(words: &mut [u32], bytes: &[u8], n: u32)
     fill_cells(words, bytes, at, value);
 }
 
-// Puts the cells above the first k of n onto the free list, in ascending order. The first k are used, and stay.
-fn free_rest(words: &mut [u32], n: u32, k: u32)
-    requires { ⌜ (k ≤ n) × (poolLength registerCount n ≤ length (now words)) × FirstUsed registerCount k (now words) ⌝ }
-    ensures { λ _. ⌜ now (words .exit) ≡ retain registerCount n (λ j. leb j k) (now (words .entry)) ⌝ }
-{
-    let mut i = n;
-    let mut next = 0;
-    while k < i {
-        pool::put_cell(words, i, Pool::FREE, next, 0, 0);
-        next = i;
-        i -= 1;
-    }
-    pool::write_head(words, next);
-}
-
 // Loads the image at the start of the bytes, whole or not at all.
 pub fn load_at(words: &mut [u32], bytes: &[u8]) -> Loaded
     ensures { λ r. ⌜ (r, now (words .exit)) ≡ loadOf (now (words .entry)) (now (bytes .entry)) ⌝ }
@@ -148,7 +131,7 @@ pub fn load_at(words: &mut [u32], bytes: &[u8]) -> Loaded
         Scan::Whole { cells, end } => {
             fill(words, bytes, n);
             words[Pool::COUNT] = n;
-            free_rest(words, n, cells);
+            pool::free_above(words, n, cells);
             Loaded { verdict: 0, end }
         },
     }

@@ -6,14 +6,13 @@ use mathlib.Core.List.{List, [], _∷_, _++_}
 use mathlib.Core.Bool.{false}
 use lib.ListN.{length, getD, set, take, drop, replicate, length-replicate, length-append, length-take, length-drop, length-set, drop-of-length-le, List·getD-append}
 use lib.Seq.{getD-set-other, getD-drop, drop-at}
-use borrow.Author.Tests.{lt-ltb}
+use lib.Dec.{leb}
+use borrow.Author.Tests.{lt-ltb, lt-leb}
 use Rattle.pool.specs.Words.{tabulate}
-use Rattle.pool.specs.Layout.{registerCount, firstRegister, poolLength, cellCountOfLength, leftoverOfLength, cellAt, cell, register, count, setCount}
-use Rattle.pool.specs.States.{isMarked}
-use Rattle.pool.specs.Retain.{freeCells, markedCell, sweepOf, blankWords, freshWords}
+use Rattle.pool.specs.Layout.{registerCount, firstRegister, poolLength, cellCountOfLength, leftoverOfLength, register, count, setCount}
+use Rattle.pool.specs.Retain.{retain, freeCells, blankWords, freshWords}
 use Rattle.answers.specs.Outcome.{Outcome, answered}
 use Rattle.pool.specs.Fresh.{freshOf, FreshIsFree}
-use Rattle.pool.proofs.Sizes.{counted-sized}
 use Rattle.pool.proofs.Every.{tabulate-list, tabulate-cong}
 use Rattle.pool.proofs.Retained.{length-retain, retain-cong}
 use Rattle.pool.proofs.RetainedPool.{retained-free-list}
@@ -68,15 +67,9 @@ module _ (R n : ℕ) (w : List ℕ) (room : poolLength R n ≤ length w) where
           sym (getD-drop end cleared (k - end) 0)
           ∙ (ap (λ (v : List ℕ). getD v (k - end) 0) (drop-at (replicate end 0) (drop end w) end (length-replicate end 0)) ∙ getD-drop end w (k - end) 0)
 
-  blank-unmarked : (i : ℕ) → 0 < i → i ≤ n → markedCell R (blankWords R n w) i ≡ false
-  unfolding cell isMarked
-  blank-unmarked i low high = rw (blank-zero (cellAt R i 0) (omega arith) (omega arith)) refl
-
-  -- the sweep makes the chain of them
-  swept-blank : sweepOf R n (blankWords R n w) .1 ≡ freshWords R n w
-  swept-blank =
-      retain-cong R n (markedCell R (blankWords R n w)) (λ i. false) (blankWords R n w) (blankWords R n w) refl blank-unmarked
-      (λ k h e. refl) (λ j f low high hf e. refl)
+-- where the first 0 cells are kept, none is
+none-kept : (R n : ℕ) (w : List ℕ) → retain R n (λ j. leb j 0) w ≡ retain R n (λ i. false) w
+none-kept R n w = retain-cong R n (λ j. leb j 0) (λ i. false) w w refl (λ j low high. lt-leb j 0 low) (λ k h e. refl) (λ j f low high hf e. refl)
 
 -- what is lent does not matter where nothing of it stands behind the cells
 pub fresh-exact : (R n : ℕ) (w : List ℕ) → length w ≡ poolLength R n → freshWords R n w ≡ freshWords R n []
@@ -93,16 +86,12 @@ blank-made n w part room clear =
     let all : length (take (poolLength registerCount n) w) ≡ poolLength registerCount n = simp length-take (omega arith) in
     rw (clear, all) refl
 
--- what `Pool::fresh` leaves where the length is that of n cells: n goes to word 0, all else up to the end of the cells is cleared, and the sweep makes the
--- chain
+-- what `Pool::fresh` leaves where the length is that of n cells: n goes to word 0, all else up to the end of the cells is cleared, and all cells are freed
 module _ (w : List ℕ) (n : ℕ) (cells : n ≡ cellCountOfLength registerCount (length w)) (some : n ≡ 0 → ⊥) where
-  pub fresh-made : (blank swept : List ℕ) (kept : ℕ) → blank ≡ blankWords registerCount n w
-      → _≡_ {A = ℕ × List ℕ} (kept, swept) (sweepOf registerCount n blank)
-      → _≡_ {A = Outcome × List ℕ} (answered (n ∷ leftoverOfLength registerCount (length w) ∷ []), swept) (freshOf w)
-  fresh-made blank swept kept start sweep =
-      let words : swept ≡ freshWords registerCount n w =
-      ap (λ (x : ℕ × List ℕ). x .1) sweep
-      ∙ (ap (λ (u : List ℕ). sweepOf registerCount n u .1) start ∙ swept-blank registerCount n w (counted-sized registerCount (length w) cells some .room)) in
+  pub fresh-made : (blank freed : List ℕ) → blank ≡ blankWords registerCount n w → freed ≡ retain registerCount n (λ j. leb j 0) blank
+      → _≡_ {A = Outcome × List ℕ} (answered (n ∷ leftoverOfLength registerCount (length w) ∷ []), freed) (freshOf w)
+  fresh-made blank freed start made =
+      let words : freed ≡ freshWords registerCount n w = made ∙ (none-kept registerCount n blank ∙ ap (retain registerCount n (λ i. false)) start) in
       simp (← cells, lt-ltb 0 n (omega (arith, some)), words)
 
 -- with no cell kept, the free cells are all cells, in order

@@ -7,4 +7,5 @@ pub mod Retained
 pub mod RetainedPool
 pub mod Links
 pub mod AllKept
+pub mod Freeing
 pub mod FreshPool

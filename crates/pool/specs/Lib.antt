@@ -3,4 +3,5 @@ pub mod Layout
 pub mod Lengths
 pub mod States
 pub mod Retain
+pub mod Steps
 pub mod Fresh

@@ -10,7 +10,9 @@ ghost use Prim.Native.Nat.{_+_, _<_, _≤_};
 ghost use lib.ListN.{length, replicate};
 ghost use Rattle.pool.specs.Layout.{registerCount, poolLength, cellCountOfLength, cell, setCell, putCell, state, isPointAt, linkOf, register, setRegister, head, setHead, markCell, unmarkCell};
 ghost use Rattle.pool.specs.States.{isPoint, isUsed, isMarked, isFree};
-ghost use Rattle.pool.specs.Retain.{sweepOf, blankWords};
+ghost use lib.Dec.{leb};
+ghost use Rattle.pool.specs.Retain.{retain, sweepOf, blankWords};
+ghost use Rattle.pool.specs.Steps.{FirstUsed};
 ghost use Rattle.answers.specs.Outcome.{answerOutcome};
 ghost use Rattle.pool.specs.Fresh.{freshOf};
 
@@ -66,7 +68,7 @@ impl Pool {
         }
         let leftover = ((words.len() - Pool::FIRST_CELL) % Pool::CELL_WORDS) as u32;
         blank(words, n);
-        sweep(words, n);
+        free_above(words, n, 0);
         Answer::Pair(n, leftover)
     }
 }
@@ -250,6 +252,21 @@ pub fn sweep(words: &mut [u32], n: u32) -> u32
     }
     write_head(words, next);
     n - freed
+}
+
+// Puts the cells above the first k of n onto the free list, in ascending order. The first k are used, and stay.
+pub fn free_above(words: &mut [u32], n: u32, k: u32)
+    requires { ⌜ (k ≤ n) × (poolLength registerCount n ≤ length (now words)) × FirstUsed registerCount k (now words) ⌝ }
+    ensures { λ _. ⌜ now (words .exit) ≡ retain registerCount n (λ j. leb j k) (now (words .entry)) ⌝ }
+{
+    let mut i = n;
+    let mut next = 0;
+    while k < i {
+        put_cell(words, i, Pool::FREE, next, 0, 0);
+        next = i;
+        i -= 1;
+    }
+    write_head(words, next);
 }
 
 // Writes n to word 0 and 0 to every other word of a pool of n cells.

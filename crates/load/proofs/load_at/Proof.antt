@@ -41,8 +41,8 @@ fill-requires c κs = omega (arith, sized (c .before .before .before .before .be
 slice-write-words : tie.Need-slice-write-words
 slice-write-words c = let at-fill = c .before .before in omega (arith, sized (at-fill .before .before .before .before .before .before), at-fill .fill .kept .0)
 
-free-rest-requires : tie.Need-free-rest-requires
-free-rest-requires c κs =
+free-above-requires : tie.Need-free-above-requires
+free-above-requires c κs =
     let at-fill = c .before .before .before in
     let at-scan = at-fill .before .before .before .before .before in
     let a = at-scan .before .before .before .before .before .args in
@@ -58,7 +58,7 @@ returns-2 c =
 same-length : tie.Need-same-length
 same-length c =
     let at-free = c .before .before in
-    at-free .free-rest .kept .0 ∙ simp length-set (at-free .before .before .before .before .fill .kept .0)
+    at-free .free-above .kept .0 ∙ simp length-set (at-free .before .before .before .before .fill .kept .0)
 
 returns-3 : tie.Need-returns-3
 returns-3 c =
@@ -68,7 +68,7 @@ returns-3 c =
     let a = at-scan .before .before .before .before .before .args in
     load-whole (now (a .words)) (now (a .bytes)) _ (at-scan .before .before .cell-count-of-length .ensures) (at-scan .before .if1 .left) _
     (at-scan .scan-image .ensures) _ _ (at-fill .before .before .before .cells .given .1) (at-fill .fill .last .0) (at-fill .fill .ensures) _
-    (at-free .free-rest .ensures)
+    (at-free .free-above .ensures)
 
 pub load-at-spec : {M : Type 1} → statement M
 load-at-spec =
@@ -83,7 +83,7 @@ load-at-spec =
     enum-known-cells
     fill-requires
     slice-write-words
-    free-rest-requires
+    free-above-requires
     returns-2
     same-length
     returns-3)

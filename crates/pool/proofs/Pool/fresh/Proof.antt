@@ -1,4 +1,4 @@
--- `pool::Pool::fresh` meets its contract: the length decides, and the words are blanked and swept.
+-- `pool::Pool::fresh` meets its contract: the length decides, and the words are blanked and all cells freed.
 use borrow.Author.Needs.{needs}
 use Rattle.pool.proofs.Pool.fresh.Statement.{statement}
 use Rattle.pool.proofs.Pool.fresh.Tie as tie
@@ -21,22 +21,22 @@ cast-leftover c = search needs
 blank-requires : tie.Need-blank-requires
 blank-requires c κs = counted-sized _ _ (c .before .before .cell-count-of-length .ensures) (c .before .if1 .left) .room
 
-sweep-requires : tie.Need-sweep-requires
-sweep-requires c κs =
+free-above-requires : tie.Need-free-above-requires
+free-above-requires c κs =
     let at-blank = c .before .before .before in
     let at-if1 = at-blank .before .before in
     let sized = counted-sized _ _ (at-if1 .before .cell-count-of-length .ensures) (at-if1 .if1 .left) in
-    omega (arith, sized .room, at-blank .blank .kept .0)
+    (omega arith, omega (arith, sized .room, at-blank .blank .kept .0), λ i low few. absurd (omega arith))
 
 same-length : tie.Need-same-length
 same-length c = search needs
 
 returns-2 : tie.Need-returns-2
 returns-2 c =
-    let at-sweep = c .before .before in
-    let at-blank = at-sweep .before .before .before .before in
+    let at-free = c .before .before in
+    let at-blank = at-free .before .before .before .before in
     let at-if1 = at-blank .before .before in
-    fresh-made _ _ (at-if1 .before .cell-count-of-length .ensures) (at-if1 .if1 .left) _ _ _ (at-blank .blank .ensures) (at-sweep .sweep .ensures)
+    fresh-made _ _ (at-if1 .before .cell-count-of-length .ensures) (at-if1 .if1 .left) _ _ (at-blank .blank .ensures) (at-free .free-above .ensures)
 
 pub fresh-spec : {M : Type 1} → statement M
 fresh-spec =
@@ -47,6 +47,6 @@ fresh-spec =
     sub-leftover
     cast-leftover
     blank-requires
-    sweep-requires
+    free-above-requires
     same-length
     returns-2)

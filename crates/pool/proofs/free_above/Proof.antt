@@ -1,10 +1,10 @@
--- `load::free_rest` meets its contract: the cells above i are freed (`Freeing`); i falls.
-use Rattle.load.proofs.free_rest.Statement.{statement}
-use Rattle.load.proofs.free_rest.Tie as tie
+-- `pool::free_above` meets its contract: the cells above i are freed (`Freeing`); i falls.
+use Rattle.pool.proofs.free_above.Statement.{statement}
+use Rattle.pool.proofs.free_above.Tie as tie
 use native.Mathlib.Omega.{arith}
 use mathlib.Core.Path.{_∙_}
 use Rattle.pool.specs.Layout.{registerCount}
-use Rattle.load.proofs.Freeing.{Freeing, freeing-first, freeing-turn, freeing-last}
+use Rattle.pool.proofs.Freeing.{Freeing, freeing-first, freeing-turn, freeing-last}
 
 abbrev Inv-loop : tie.InvT-loop
 Inv-loop words₀ n k i₀ next₀ words i next = Freeing registerCount k n words₀ words i next
@@ -46,8 +46,8 @@ returns c =
     let pre = at-loop .before .before .pre in
     freeing-last registerCount _ _ _ (pre .0) (pre .1) _ _ _ (at-loop .loop .inv) _ (at-test .loop-test .left) (pre .2) (at-head .write-head .ensures)
 
-pub free-rest-spec : {M : Type 1} → statement M
-free-rest-spec =
+pub free-above-spec : {M : Type 1} → statement M
+free-above-spec =
     tie.close
     (tie.spec
     Inv-loop

@@ -8,12 +8,12 @@ use mathlib.Core.Bool.{Bool, true, false}
 use lib.ListN.{length}
 use lib.Dec.{leb}
 use borrow.Author.Tests.{le-leb, lt-leb}
 use Rattle.pool.specs.Layout.{poolLength, cell, putCell, setHead}
 use Rattle.pool.specs.States.{freeState}
 use Rattle.pool.specs.Retain.{lowestFree, freeAbove, keptField, retainedField, retain}
 use Rattle.pool.proofs.States.{used-same}
 use Rattle.pool.proofs.Retained.{Swept, free-kept, free-here, swept-none, swept-free, swept-all}
-use Rattle.load.specs.Steps.{FirstUsed}
+use Rattle.pool.specs.Steps.{FirstUsed}
 
 -- The lowest free cell is above the cells that are kept.
 lowest-above : (keep : ℕ → Bool) (n i : ℕ) → i ≤ n → ((j : ℕ) → 0 < j → j ≤ i → keep j ≡ true) → freeAbove keep n 0 ≡ freeAbove keep n i
