@@ -18,8 +18,8 @@ use Rattle.stack_algorithm.specs.Steps.{Going}
 use Rattle.stack_algorithm.specs.Check.{check, behind, checkAndPush, push, turnBy, limited}
 use Rattle.stack_algorithm.proofs.Going.{Lasting, seen-most, turn-lasting}
 use Rattle.stack_algorithm.proofs.Checking.{Left, check-left, check-going, limited-none, enough-behind, dropped-some, elem-append}
-use Rattle.stack_check.specs.Steps.{onwardIn, entries, Pending, Checkable, checkIn}
-use Rattle.stack_check.proofs.Marked.{Marked, marked-length, pending-well, pending-length, pending-cell, pending-marked, looked, new-cell, marked-count, unmarkedCount}
+use Rattle.stack_check.specs.Steps.{UsedOrMarked, onwardIn, entries, Pending, Checkable, checkIn}
+use Rattle.stack_check.proofs.Marked.{Marked, marked-length, pending-well, pending-length, pending-cell, pending-links, pending-marked, looked, new-cell, marked-count, unmarkedCount}
 use Rattle.stack_check.proofs.Marked as marked
 use Rattle.stack_check.proofs.Entries.{entries-length, entries-push, entries-pop}
 use Rattle.bounded_stack.specs.Steps.{resultIn, runFromCell}
@@ -82,6 +82,9 @@ module _ (R n p : ℕ) (words₀ : List ℕ) (room : poolLength R n ≤ length w
     module _ (h : Pending R n words₀ (p ∷ [])) where
       pub hand-cell : (0 < hand) × (hand ≤ n) × (linkOf R words hand 1 ≤ n) × (linkOf R words hand 2 ≤ n) × (poolLength R n ≤ length words)
       hand-cell = pending-cell R n (h .pool) (pending-well h) (pool-room h) (s .run h .marked)
+
+      pub hand-links : UsedOrMarked R words (linkOf R words hand 1) × UsedOrMarked R words (linkOf R words hand 2)
+      hand-links = pending-links R n (h .pool) (pending-well h) (pool-room h) (s .run h .marked)
 
       pub hand-marked : isMarked (state R words hand) ≡ true
       hand-marked = pending-marked R n (h .pool) (pending-well h) (pool-room h) (s .run h .marked)

@@ -3,9 +3,9 @@ use Prim.Native.Nat.{ℕ, _<_}
 use native.Mathlib.Omega.{arith}
 use mathlib.Core.Path.{_≡_, refl, sym, ap, _∙_}
 use mathlib.Core.Logic.{_⊎_, inl, inr}
-use mathlib.Core.Bool.{Bool, true, false, cond, _||_, true≢false}
+use mathlib.Core.Bool.{Bool, true, false, cond, _||_, not, true≢false}
 use lib.Dec.{eqb}
-use lib.Bits.{bitXor}
+use lib.Bits.{bitAnd, bitXor}
 use borrow.Author.Tests.{eqb-true, eq-eqb, ne-eqb}
 use Rattle.pool.specs.States.{pairState, markedPairState, freeState, pointState, markedPointState, isPoint, isUsed, isMarked, isFree, asMarked, asUsed}
 
@@ -196,6 +196,24 @@ module _ (s : ℕ) where
       go : (s ≡ markedPairState) ⊎ (s ≡ markedPointState) → bitXor s markedPairState ≡ cond (eqb s pointState || eqb s markedPointState) pointState pairState
       go (inl h) = rw h refl
       go (inr h) = rw h refl
+
+  -- the second bit is that of marked states, where a state is used or marked
+  pub marked-bit : isUsed s ≡ not (isMarked s) → isUsed s ≡ eqb (bitAnd s 2) 0
+  unfolding isUsed isMarked
+  marked-bit = go (isUsed s) (isMarked s) refl refl
+    where
+      go : (u m : Bool) → isUsed s ≡ u → isMarked s ≡ m → u ≡ not m → u ≡ eqb (bitAnd s 2) 0
+      go true m e f h = at (used-is e)
+        where
+          at : (s ≡ pairState) ⊎ (s ≡ pointState) → true ≡ eqb (bitAnd s 2) 0
+          at (inl h) = rw h refl
+          at (inr h) = rw h refl
+      go false true e f h = at (one-of s markedPairState markedPointState f)
+        where
+          at : (s ≡ markedPairState) ⊎ (s ≡ markedPointState) → false ≡ eqb (bitAnd s 2) 0
+          at (inl h) = rw h refl
+          at (inr h) = rw h refl
+      go false false e f h = absurd (true≢false (sym h))
 
   -- a used state is what the sweep makes of it
   pub used-same : isUsed s ≡ true → s ≡ asUsed s

@@ -4,7 +4,7 @@ use native.Mathlib.Omega.{arith}
 use mathlib.Core.Path.{_≡_, refl, sym, ap, subst, _∙_}
 use mathlib.Core.Logic.{_↔_, ⊎-elim}
 use mathlib.Core.List.{List, [], _∷_, _++_, List·Memᴰ, List·Memᴰ·head, Memᴰ·append-left}
-use mathlib.Core.Bool.{Bool, true, false, true≢false, cond, _&&_}
+use mathlib.Core.Bool.{Bool, true, false, true≢false, cond, _&&_, not}
 use lib.ListN.{length}
 use lib.Dec.{leb}
 use borrow.Author.Tests.{eq-eqb, ne-eqb}
@@ -19,7 +19,7 @@ use Rattle.graph.proofs.Marks.{marks-member, marks-cases, marks-keeps}
 use Rattle.graph.proofs.Count.{marked-same}
 use Rattle.pool.specs.Layout.{poolLength, cell, state, isPointAt, linkOf, graphOf, rootsOf}
 use Rattle.pool.specs.States.{markedPointState, isPoint, isUsed, isMarked}
-use Rattle.pool.proofs.States.{marked-point-is, marked-pair-other, marked-not-used}
+use Rattle.pool.proofs.States.{marked-point-is, marked-pair-other, marked-not-used, used-not-marked}
 use Rattle.pool.proofs.Links.{link-pair, link-point}
 use Rattle.questions.proofs.WellFormed.{WellFormed, well-formed-read}
 use Rattle.questions.proofs.PoolGraph.{Used, reached-used, pool-within}
@@ -32,7 +32,7 @@ use Rattle.stack_algorithm.specs.Stack.{isUnmarked, unmarkedLinks, onward}
 use Rattle.stack_algorithm.specs.Steps.{Going}
 use Rattle.stack_algorithm.proofs.Fresh.{member-fresh, other-fresh, marked-all, passing}
 use Rattle.stack_algorithm.proofs.Going.{turn}
-use Rattle.stack_check.specs.Steps.{onwardIn, Pending}
+use Rattle.stack_check.specs.Steps.{UsedOrMarked, onwardIn, Pending}
 
 -- the two tests decide which links the marker goes on to
 pub look-made : (R p : ℕ) (w : List ℕ) (l r : ℕ) {a b : Bool} → l ≡ linkOf R w p 1 → r ≡ linkOf R w p 2 → a ≡ unmarked R w l → b ≡ unmarked R w r
@@ -95,6 +95,24 @@ module _ (R n : ℕ) (pool : List ℕ) (well : WellFormed R n pool) (room : pool
           let free = ap isUsed (state-markAll-other R (suc x) (omega arith) seen positive out pool) ∙ used .state in
           rw (other-fresh seen (suc x) (omega arith) out, ne-eqb (suc x) 0 (omega arith), free)
 
+  -- every link leads to a used cell or a marked one
+  kinds : (seen : List ℕ) → Each (Reach (graphOf R pool) (rootsOf R pool)) seen → (x : ℕ) → (0 < x → Reach (graphOf R pool) (rootsOf R pool) x) → UsedOrMarked R (markAll R pool seen) x
+  kinds seen cells x reach some = go (elem x seen) refl
+    where
+      positive : (y : ℕ) → List·Memᴰ y seen → 0 < y
+      positive y mem = reach-above (cells y mem)
+
+      used : Used R n pool x
+      used = reached-used well (reach some)
+
+      go : (t : Bool) → elem x seen ≡ t → isUsed (state R (markAll R pool seen) x) ≡ not (isMarked (state R (markAll R pool seen) x))
+      go true e =
+          let marked = state-markAll-same R x some seen positive (member-has x seen e) pool (omega (arith, used .bounded)) in
+          rw (marked, marked-not-used (state R (markAll R pool seen) x) marked)
+      go false e =
+          let same = state-markAll-other R x some seen positive (λ mem. true≢false (sym (has-member x mem) ∙ e)) pool in
+          rw same (rw (used .state, used-not-marked (state R pool x) (used .state)))
+
   links : (seen : List ℕ) → Each (Reach (graphOf R pool) (rootsOf R pool)) seen → (p : ℕ) → Reach (graphOf R pool) (rootsOf R pool) p → onwardIn R (markAll R pool seen) p ≡ onward (graphOf R pool) seen p
   links seen cells p reach =
       let fits : poolLength R p ≤ length pool = omega (arith, reach-within within reach) in
@@ -126,6 +144,18 @@ module _ (R n : ℕ) (pool : List ℕ) (well : WellFormed R n pool) (room : pool
           rw (link 2 (omega arith) (omega arith)) (within .right p reach),
           rw (marked-length s) room,
         )
+
+    -- which lead to used cells or marked ones
+    pub pending-links : {p : ℕ} {others : List ℕ} → Marked R pool w (p ∷ others) → UsedOrMarked R w (linkOf R w p 1) × UsedOrMarked R w (linkOf R w p 2)
+    pending-links {p} s = (at 1 (omega arith) (omega arith) (Reach.left reach), at 2 (omega arith) (omega arith) (Reach.right reach))
+      where
+        reach : Reach (graphOf R pool) (rootsOf R pool) p
+        reach = pending-reached s
+
+        at : (f : ℕ) → 0 < f → f < 4 → (0 < linkOf R pool p f → Reach (graphOf R pool) (rootsOf R pool) (linkOf R pool p f)) → UsedOrMarked R w (linkOf R w p f)
+        at f low high next =
+            rw (s .words, link-markAll R p f (reach-above reach) low high (s .seen) (λ y mem. reach-above (s .going .cells y mem)) pool (omega (arith, reach-within within reach)))
+            (kinds (s .seen) (s .going .cells) (linkOf R pool p f) next)
 
     -- and it is marked
     pub pending-marked : {p : ℕ} {others : List ℕ} → Marked R pool w (p ∷ others) → isMarked (state R w p) ≡ true

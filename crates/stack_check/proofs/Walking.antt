@@ -16,8 +16,8 @@ use Rattle.stack_algorithm.specs.Stack.{onward}
 use Rattle.stack_algorithm.specs.Check.{byLinks, walk}
 use Rattle.stack_algorithm.proofs.Fresh.{member-some}
 use Rattle.stack_algorithm.proofs.Going.{seen-most}
-use Rattle.stack_check.specs.Steps.{onwardIn, entryOf, inWords, Walkable, walkIn}
-use Rattle.stack_check.proofs.Marked.{Marked, marked-length, pending-well, pending-length, pending-cell, pending-marked, looked, turned, new-cell, marked-count, unmarkedCount}
+use Rattle.stack_check.specs.Steps.{UsedOrMarked, onwardIn, entryOf, inWords, Walkable, walkIn}
+use Rattle.stack_check.proofs.Marked.{Marked, marked-length, pending-well, pending-length, pending-cell, pending-links, pending-marked, looked, turned, new-cell, marked-count, unmarkedCount}
 
 -- Between two turns: what is left of the walk leads to the same end.
 pub record Walking (R n : ℕ) (pool : List ℕ) (end : List ℕ × List ℕ) (w : List ℕ) (p : ℕ) : Type 0 where
@@ -52,6 +52,9 @@ module _ (R n entry : ℕ) (w₀ : List ℕ) (room : poolLength R n ≤ length w
     module _ (h : Walkable R n w₀ entry) where
       pub walk-cell : (0 < p) × (p ≤ n) × (linkOf R w p 1 ≤ n) × (linkOf R w p 2 ≤ n) × (poolLength R n ≤ length w)
       walk-cell = pending-cell R n (h .1 .pool) (pending-well (h .1)) (pool-room h) (s h .marked)
+
+      pub walk-links : UsedOrMarked R w (linkOf R w p 1) × UsedOrMarked R w (linkOf R w p 2)
+      walk-links = pending-links R n (h .1 .pool) (pending-well (h .1)) (pool-room h) (s h .marked)
 
       pub walk-marked : isMarked (state R w p) ≡ true
       walk-marked = pending-marked R n (h .1 .pool) (pending-well (h .1)) (pool-room h) (s h .marked)

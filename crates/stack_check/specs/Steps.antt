@@ -1,11 +1,12 @@
 -- What the marker with a lent stack and the check of its entries may rely on, and how their results stand in the words.
-use Prim.Native.Nat.{ℕ, zero, suc}
+use Prim.Native.Nat.{ℕ, zero, suc, _<_}
 use mathlib.Core.Path.{_≡_}
 use mathlib.Core.List.{List, [], _∷_, _++_}
-use mathlib.Core.Bool.{true, cond}
+use mathlib.Core.Bool.{true, cond, not}
 use lib.ListN.{length, getD}
 use lib.Dec.{eqb}
-use Rattle.pool.specs.Layout.{linkOf, graphOf, rootsOf}
+use Rattle.pool.specs.Layout.{state, linkOf, graphOf, rootsOf}
+use Rattle.pool.specs.States.{isUsed, isMarked}
 use Rattle.questions.specs.Validity.{wellFormed}
 use Rattle.reversal.specs.Reversal.{unmarked}
 use Rattle.reversal.specs.ReversalTheorem.{markAll}
@@ -14,6 +15,10 @@ use Rattle.stack_algorithm.specs.Steps.{Going}
 use Rattle.stack_algorithm.specs.Check.{walk, check}
 use Rattle.stack_check.specs.declared.Onward.{Onward}
 use Rattle.stack_check.specs.declared.Onward.the-variants as onward
+
+-- A link is nil, or leads to a cell that is used or marked, and not both.
+abbrev pub UsedOrMarked : ℕ → List ℕ → ℕ → Type 0
+UsedOrMarked R w x = 0 < x → isUsed (state R w x) ≡ not (isMarked (state R w x))
 
 -- The links that the marker goes on to: the first it goes to, the second it pushes.
 abbrev pub linksOf : Onward → List ℕ

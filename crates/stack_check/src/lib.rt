@@ -6,7 +6,11 @@ ghost use Prim.Native.Nat.{_<_, _≤_};
 ghost use lib.ListN.{length};
 ghost use Rattle.pool.specs.Layout.{registerCount, poolLength, cell, linkOf};
 ghost use Rattle.pool.specs.States.{isMarked};
-ghost use Rattle.stack_check.specs.Steps.{linksOf, onwardIn, entries, entryOf, withoutNil, Walkable, walkIn, Checkable, checkIn};
+ghost use Rattle.reversal.specs.Reversal.{unmarked};
+ghost use Rattle.stack_check.specs.Steps.{UsedOrMarked, linksOf, onwardIn, entries, entryOf, withoutNil, Walkable, walkIn, Checkable, checkIn};
+
+// The bit that only the states of marked cells have.
+const MARKED_BIT: u32 = 2;
 
 // Where the marker goes on to from a cell: with two links unmarked it goes to the left one and pushes the right one.
 pub enum Onward {
@@ -15,9 +19,22 @@ pub enum Onward {
     Both(u32, u32),
 }
 
+// Is the link unmarked? Nil counts as marked. Of the states of a used cell and of a marked one, which are all that there are where a link leads, only those of
+// a marked one, 3 and 6, have the second bit.
+fn is_open(words: &[u32], x: u32) -> bool
+    requires { ⌜ (poolLength registerCount x ≤ length (now words)) × UsedOrMarked registerCount (now words) x ⌝ }
+    ensures { λ r. ⌜ r ≡ unmarked registerCount (now (words .entry)) x ⌝ }
+{
+    if x == 0 {
+        return false;
+    }
+    pool::read_cell(words, x, Pool::STATE) & MARKED_BIT == 0
+}
+
 // Looks at both links of a marked cell of that state. Two equal unmarked links are one.
 pub fn look(words: &[u32], n: u32, p: u32, state: u32) -> Onward
     requires { ⌜ (state ≡ cell registerCount (now words) p 0) × (isMarked state ≡ true) ⌝ }
+    requires { ⌜ UsedOrMarked registerCount (now words) (linkOf registerCount (now words) p 1) × UsedOrMarked registerCount (now words) (linkOf registerCount (now words) p 2) ⌝ }
     requires { ⌜ (0 < p) × (p ≤ n) × (linkOf registerCount (now words) p 1 ≤ n) × (linkOf registerCount (now words) p 2 ≤ n) × (poolLength registerCount n ≤ length (now words)) ⌝ }
     ensures { λ r. ⌜ linksOf r ≡ onwardIn registerCount (now (words .entry)) p ⌝ }
 {
@@ -26,15 +43,15 @@ pub fn look(words: &[u32], n: u32, p: u32, state: u32) -> Onward
     }
     let left = pool::read_cell(words, p, Pool::LEFT);
     let right = pool::read_cell(words, p, Pool::RIGHT);
-    if reversal::is_unmarked(words, left) {
+    if is_open(words, left) {
         if left == right {
             Onward::To(left)
-        } else if reversal::is_unmarked(words, right) {
+        } else if is_open(words, right) {
             Onward::Both(left, right)
         } else {
             Onward::To(left)
         }
-    } else if reversal::is_unmarked(words, right) {
+    } else if is_open(words, right) {
         Onward::To(right)
     } else {
         Onward::Nowhere

@@ -18,7 +18,7 @@ use Rattle.pool.specs.Layout.{registerCount, cell}
 use Rattle.pool.specs.States.{isMarked}
 use Rattle.stack_check.specs.Steps.{linksOf}
 use Rattle.stack_check.proofs.Marked.{new-apart}
-use Rattle.bounded_stack.proofs.HandLoop.{Hand, turnsLeft, Ready, hand-first, hand-cell, hand-marked, hand-read, hand-length, hand-new, hand-go, less-go, hand-pop, hand-last, hand-checkable, hand-vain, ready-push, ready-checked, checks-fit}
+use Rattle.bounded_stack.proofs.HandLoop.{Hand, turnsLeft, Ready, hand-first, hand-cell, hand-links, hand-marked, hand-read, hand-length, hand-new, hand-go, less-go, hand-pop, hand-last, hand-checkable, hand-vain, ready-push, ready-checked, checks-fit}
 
 -- the state of the cell in hand is at hand too
 abbrev Inv-loop : tie.InvT-loop
@@ -40,7 +40,7 @@ look-requires : tie.Need-look-requires Inv-loop μ-loop
 look-requires c κs =
     let at-turn = c .before in
     let at-start = at-turn .before .before .before .before .before in
-    ((at-turn .loop .inv .1, ap isMarked (at-turn .loop .inv .1) ∙ hand-marked _ _ _ _ (at-start .pre .1) _ _ _ _ _ _ (at-turn .loop .inv .0) (at-start .pre .0)), hand-cell _ _ _ _ (at-start .pre .1) _ _ _ _ _ _ (at-turn .loop .inv .0) (at-start .pre .0))
+    ((at-turn .loop .inv .1, ap isMarked (at-turn .loop .inv .1) ∙ hand-marked _ _ _ _ (at-start .pre .1) _ _ _ _ _ _ (at-turn .loop .inv .0) (at-start .pre .0)), (hand-links _ _ _ _ (at-start .pre .1) _ _ _ _ _ _ (at-turn .loop .inv .0) (at-start .pre .0), hand-cell _ _ _ _ (at-start .pre .1) _ _ _ _ _ _ (at-turn .loop .inv .0) (at-start .pre .0)))
 
 enum-known-left : tie.Need-enum-known-left Inv-loop μ-loop
 enum-known-left c = search needs

@@ -9,7 +9,7 @@ use Rattle.pool.specs.Layout.{registerCount, cell}
 use Rattle.pool.specs.States.{isMarked}
 use Rattle.stack_check.specs.Steps.{linksOf}
 use Rattle.stack_check.proofs.Marked.{unmarkedCount}
-use Rattle.stack_check.proofs.Walking.{WalkLoop, walk-first, walk-cell, walk-marked, walk-length, walk-new, walk-kept, walk-dropped, walk-go, walk-less}
+use Rattle.stack_check.proofs.Walking.{WalkLoop, walk-first, walk-cell, walk-links, walk-marked, walk-length, walk-new, walk-kept, walk-dropped, walk-go, walk-less}
 
 -- the cell's own state is at hand
 abbrev Inv-loop : tie.InvT-loop
@@ -31,7 +31,7 @@ look-requires : tie.Need-look-requires Inv-loop μ-loop
 look-requires c κs =
     let at-turn = c .before in
     let at-start = at-turn .before .before .before .before in
-    ((at-turn .loop .inv .1, ap isMarked (at-turn .loop .inv .1) ∙ walk-marked _ _ _ _ (at-start .pre .1) (at-turn .loop .inv .0) (at-start .pre .0)), walk-cell _ _ _ _ (at-start .pre .1) (at-turn .loop .inv .0) (at-start .pre .0))
+    ((at-turn .loop .inv .1, ap isMarked (at-turn .loop .inv .1) ∙ walk-marked _ _ _ _ (at-start .pre .1) (at-turn .loop .inv .0) (at-start .pre .0)), (walk-links _ _ _ _ (at-start .pre .1) (at-turn .loop .inv .0) (at-start .pre .0), walk-cell _ _ _ _ (at-start .pre .1) (at-turn .loop .inv .0) (at-start .pre .0)))
 
 enum-told : tie.Need-enum-told Inv-loop μ-loop
 enum-told c = search needs
