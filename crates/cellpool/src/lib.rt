@@ -16,7 +16,7 @@ ghost use Rattle.recursive_marker.specs.Recursive.{recursiveOf};
 ghost use Rattle.stack_marker.specs.StackCollect.{stackOf};
 ghost use Rattle.worst_case.specs.WorstCase.{worstCaseOf};
 ghost use Rattle.tally.specs.TallyOf.{tallyOf};
-ghost use Rattle.image.specs.Check.{checkOf};
+ghost use Rattle.image_scan.specs.Check.{checkOf};
 ghost use Rattle.load.specs.Load.{loadOf};
 ghost use Rattle.save.specs.Save.{saveOf};
 ghost use Rattle.cellpool.specs.Interface.{givingNone, giving, givingTwo, tallying, withStack, number, numbers, saving, loading};
@@ -282,7 +282,7 @@ pub extern "C" fn cellpool_load(words: &mut [u32], bytes: &[u8], rest: &mut usiz
 pub extern "C" fn cellpool_check_image(bytes: &[u8], n: u32) -> u32
     ensures { λ q. ⌜ q ≡ checkOf (now (bytes .entry)) n ⌝ }
 {
-    image::check_image(bytes, n)
+    image_scan::check_image(bytes, n)
 }
 
 #[no_mangle]

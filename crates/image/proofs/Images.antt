@@ -1,4 +1,4 @@
--- The image at the start of the bytes: what is known of one that was read, and what a scan says.
+-- The image at the start of the bytes: what is known of one that was read.
 use Prim.Native.Nat.{ℕ, _+_, _<_, _≤_}
 use native.Mathlib.Omega.{arith}
 use mathlib.Core.Path.{_≡_, refl, sym, ap, subst, _∙_}
@@ -10,24 +10,16 @@ use borrow.Author.Tests.{leb-true, le-leb}
 use Rattle.leb128.specs.Leb128.{encode, Bytes, Between, readAt}
 use Rattle.leb128.specs.declared.Number.{Number}
 use Rattle.leb128.specs.declared.Number.the-variants as number
-use Rattle.leb128.proofs.Reading.{first}
 use Rattle.leb128.proofs.Theorems.{reads-encodings}
-use Rattle.pool.specs.Layout.{cellLimit, registerCount}
-use Rattle.answers.specs.Outcome.{refusalNumber}
 use Rattle.answers.specs.declared.Refusal.{Refusal}
 use Rattle.answers.specs.declared.Refusal.the-variants as refusal
 use Rattle.image.specs.declared.ImageCell.{ImageCell}
-use Rattle.image.specs.declared.Place.the-variants as place
-use Rattle.image.specs.declared.Scan.{Scan}
-use Rattle.image.specs.declared.Scan.the-variants as scan
 use Rattle.image.specs.Image.{isPointKind, Image, cellBytes, imageBytes, Parsed, parsed, fault, anyNumber, readNumber, atMost, readCount, readLink, readKind, readWord, readCell, readEach, readImage}
-use Rattle.image.specs.Check.{verdictOf, checkOf}
 use Rattle.image.specs.OneForm.{ReadsImageBytes, OneImage}
-use Rattle.image.specs.Steps.{highestWord, placeOf, scanOf}
-use Rattle.image.proofs.Reading.{between-both, between-taken, then-parsed, then-fault, both-parsed, placed, refused, Each, each-length, each-read, each-between}
+use Rattle.image.proofs.Reading.{between-both, between-taken, then-parsed, both-parsed, Each, each-length, each-read, each-between}
 
 -- A number that is not refused is there, and one with a bound is within it.
-number-there : (num : Number) (v next : ℕ) → anyNumber num ≡ parsed v next → num ≡ number.Value v next
+pub number-there : (num : Number) (v next : ℕ) → anyNumber num ≡ parsed v next → num ≡ number.Value v next
 number-there (number.Value u after) v next e = cc
 number-there number.Missing v next e = let z : _≡_ {A = ℕ} 0 1 = cc in absurd (omega arith)
 number-there number.OutOfRange v next e = let z : _≡_ {A = ℕ} 0 1 = cc in absurd (omega arith)
@@ -45,19 +37,8 @@ bounded most over (parsed u after) v next e = go (leb u most) refl e
     go false h e = let z : _≡_ {A = ℕ} 0 1 = cc in absurd (omega arith)
 bounded most over (fault why) v next e = let z : _≡_ {A = ℕ} 0 1 = cc in absurd (omega arith)
 
--- A bound that no number exceeds refuses none.
-unbounded : (most : ℕ) (over : Refusal) (read : Parsed ℕ) → ((v next : ℕ) → read ≡ parsed v next → v ≤ most) → atMost most over read ≡ read
-unbounded most over (parsed v next) within = rw (le-leb v most (within v next refl)) refl
-unbounded most over (fault why) within = refl
-
 pub count-few : (n : ℕ) (bytes : List ℕ) (K next : ℕ) → readCount n bytes ≡ parsed K next → K ≤ n
 count-few n bytes K next e = bounded n _ (readNumber bytes 0) K next e .within
-
--- A byte of 0 or 1 is a kind.
-pub kind-byte : (bytes : List ℕ) (at : ℕ) → at < length bytes → getD bytes at 0 ≤ 1 → parsed (getD bytes at 0) (at + 1) ≡ readKind bytes at
-kind-byte bytes at there low =
-    let byte = first bytes at there (omega arith) .ends (omega arith) in
-    rw (← byte, le-leb (getD bytes at 0) 1 low) refl
 
 -- The kind of a cell is one of the two, and the links of a pair are at most K.
 pub record Linked (K : ℕ) (c : ImageCell) : Type 0 where
@@ -132,17 +113,6 @@ module _ (K : ℕ) (bytes : List ℕ) where
   module _ (byte : Bytes bytes) where
     number-between : (at x next : ℕ) → readNumber bytes at ≡ parsed x next → Between bytes at next (encode x)
     number-between at x next e = reads-encodings bytes at x next byte .0 (number-there (readAt bytes at) x next e) .1
-
-    -- So it has 32 bits, and where that is the bound it is not refused.
-    number-within : (at x next : ℕ) → readNumber bytes at ≡ parsed x next → x ≤ 4294967295
-    number-within at x next e = omega (arith, reads-encodings bytes at x next byte .0 (number-there (readAt bytes at) x next e) .0)
-
-    pub word-bound : (kind at most : ℕ) → most ≡ highestWord K kind → atMost most refusal.LinkRange (readNumber bytes at) ≡ readWord K kind bytes at
-    word-bound kind at most e = rw e (go (isPointKind kind))
-      where
-        go : (t : Bool) → atMost (cond t 4294967295 K) refusal.LinkRange (readNumber bytes at) ≡ cond t (readNumber bytes at) (readLink K bytes at)
-        go true = unbounded 4294967295 _ (readNumber bytes at) (number-within at)
-        go false = refl
 
     link-between : (at x next : ℕ) → readLink K bytes at ≡ parsed x next → Between bytes at next (encode x)
     link-between at x next e = number-between at x next (bounded K _ (readNumber bytes at) x next e .there)
@@ -232,58 +202,3 @@ reads-image-bytes R n bytes i end byte e = image-between R n bytes i end (image-
 pub one-image : OneImage
 one-image R n m bytes other i end end′ byte byte′ e e′ =
     between-taken (reads-image-bytes R n bytes i end byte e) ∙ sym (between-taken (reads-image-bytes R m other i end′ byte′ e′))
-
--- What a scan says, by the first thing that is refused.
-module _ (R n : ℕ) (bytes : List ℕ) where
-  pub scan-count : (why : Refusal) → readCount n bytes ≡ fault why → scan.Refused why ≡ scanOf (readImage R n bytes)
-  unfolding readImage
-  scan-count why e = sym (ap scanOf (then-fault _ e))
-
-  module _ (K start : ℕ) (count : readCount n bytes ≡ parsed K start) where
-    pub scan-registers : (why : Refusal) → place.Refused why ≡ placeOf (readEach (readLink K bytes) R start) → scan.Refused why ≡ scanOf (readImage R n bytes)
-    unfolding readImage
-    scan-registers why e =
-        let none = refused (readEach (readLink K bytes) R start) why e in sym (ap scanOf (then-parsed _ count ∙ then-fault _ none))
-
-    module _ (at : ℕ) (registers : place.Behind at ≡ placeOf (readEach (readLink K bytes) R start)) where
-      pub scan-cells : (why : Refusal) → place.Refused why ≡ placeOf (readEach (readCell K bytes) K at) → scan.Refused why ≡ scanOf (readImage R n bytes)
-      unfolding readImage
-      scan-cells why e =
-          let links = placed (readEach (readLink K bytes) R start) at registers in
-          let none = refused (readEach (readCell K bytes) K at) why e in
-          sym (ap scanOf (then-parsed _ count ∙ (then-parsed _ (links .here) ∙ then-fault _ none)))
-
-      pub scan-whole : (end : ℕ) → place.Behind end ≡ placeOf (readEach (readCell K bytes) K at) → scan.Whole K end ≡ scanOf (readImage R n bytes)
-      unfolding readImage
-      scan-whole end e =
-          let links = placed (readEach (readLink K bytes) R start) at registers in
-          let list = placed (readEach (readCell K bytes) K at) end e in
-          let long : length (list .item) ≡ K = each-length (readCell K bytes) K at (list .item) end (list .here) in
-          let rest : List ImageCell → ℕ → Parsed Image = λ l behind. parsed (record { registers = links .item; cells = l }) behind in
-          ap (λ (k : ℕ). scan.Whole k end) (sym long)
-          ∙ sym (ap scanOf (then-parsed _ count ∙ (then-parsed _ (links .here) ∙ then-parsed rest (list .here))))
-
--- From what a scan says to the image.
-pub record Scanned (read : Parsed Image) (K end : ℕ) : Type 0 where
-  pub image : Image
-  pub whole : read ≡ parsed image end
-  pub number : length (image .cells) ≡ K
-
-pub scanned : (read : Parsed Image) (K end : ℕ) → scan.Whole K end ≡ scanOf read → Scanned read K end
-scanned (parsed i after) K end e = let same : after ≡ end = cc in record { image = i; whole = rw same; number = sym (cc) }
-scanned (fault why) K end e = let z : _≡_ {A = ℕ} 0 1 = cc in absurd (omega arith)
-
-pub scanned-fault : (read : Parsed Image) (why : Refusal) → scan.Refused why ≡ scanOf read → read ≡ fault why
-scanned-fault (parsed i end) why e = let z : _≡_ {A = ℕ} 0 1 = cc in absurd (omega arith)
-scanned-fault (fault other) why e = let same : other ≡ why = cc in ap fault same
-
--- The check's answer by what the scan says.
-module _ (n : ℕ) (bytes : List ℕ) (low : 1 ≤ n) (high : n ≤ cellLimit) (s : Scan) (says : s ≡ scanOf (readImage registerCount n bytes)) where
-  check-by : (read : Parsed Image) → readImage registerCount n bytes ≡ read → verdictOf read ≡ checkOf bytes n
-  check-by read e = simp (le-leb 1 n low, le-leb n cellLimit high, e)
-
-  pub check-whole : (K end : ℕ) → s ≡ scan.Whole K end → 0 ≡ checkOf bytes n
-  check-whole K end e = let i = scanned _ K end (sym e ∙ says) in check-by (parsed (i .image) end) (i .whole)
-
-  pub check-refused : (why : Refusal) → s ≡ scan.Refused why → refusalNumber why ≡ checkOf bytes n
-  check-refused why e = check-by (fault why) (scanned-fault _ why (sym e ∙ says))

@@ -1,4 +1,4 @@
--- Reading one thing behind the other: what is known of what was read, and the turns of a loop that reads a list.
+-- Reading one thing behind the other: what is known of what was read.
 use Prim.Native.Nat.{ℕ, zero, suc, _-_, _<_, _≤_}
 use native.Mathlib.Omega.{arith}
 use mathlib.Core.Path.{_≡_, refl, sym, ap, _∙_}
@@ -8,9 +8,7 @@ use lib.Seq.{take-append-seam}
 use native.Mathlib.Nat.{zero-add}
 use Rattle.leb128.specs.Leb128.{Between}
 use Rattle.answers.specs.declared.Refusal.{Refusal}
-use Rattle.image.specs.declared.Place.the-variants as place
 use Rattle.image.specs.Image.{Parsed, parsed, fault, andThen, readEach}
-use Rattle.image.specs.Steps.{placeOf}
 
 -- Bytes that stand one behind the other; and bytes of a part.
 pub between-both : {bytes : List ℕ} {at next end : ℕ} {first second : List ℕ} → Between bytes at next first → Between bytes next end second
@@ -46,56 +44,6 @@ pub record Both {A B : Type 0} (p : Parsed A) (rest : A → ℕ → Parsed B) (y
 pub both-parsed : {A B : Type 0} (p : Parsed A) (rest : A → ℕ → Parsed B) (y : B) (end : ℕ) → andThen p rest ≡ parsed y end → Both p rest y end
 both-parsed (parsed x next) rest y end e = record { item = x; next = next; here = refl; behind = e }
 both-parsed (fault why) rest y end e = let z : _≡_ {A = ℕ} 0 1 = cc in absurd (omega arith)
-
--- Something whose place is known was read, or refused.
-pub record Placed {A : Type 0} (p : Parsed A) (next : ℕ) : Type 0 where
-  pub item : A
-  pub here : p ≡ parsed item next
-
-pub placed : {A : Type 0} (p : Parsed A) (next : ℕ) → place.Behind next ≡ placeOf p → Placed p next
-placed (parsed x after) next e = let same : after ≡ next = cc in record { item = x; here = rw same }
-placed (fault why) next e = let z : _≡_ {A = ℕ} 0 1 = cc in absurd (omega arith)
-
-pub refused : {A : Type 0} (p : Parsed A) (why : Refusal) → place.Refused why ≡ placeOf p → p ≡ fault why
-refused (parsed x after) why e = let z : _≡_ {A = ℕ} 0 1 = cc in absurd (omega arith)
-refused (fault other) why e = let same : other ≡ why = cc in ap fault same
-
-module _ {A : Type 0} (read : ℕ → Parsed A) where
-  -- The place behind a list does not depend on what was read before.
-  place-cons : (x : A) (p : Parsed (List A)) → placeOf (andThen p λ xs end. parsed (x ∷ xs) end) ≡ placeOf p
-  place-cons x (parsed xs end) = refl
-  place-cons x (fault why) = refl
-
-  -- A loop over the list: what is left to read gives what the whole gives.
-  abbrev pub Scanning : (count start left at : ℕ) → Type 0
-  Scanning count start left at = placeOf (readEach read left at) ≡ placeOf (readEach read count start)
-
-  module _ (count start left at : ℕ) (inv : Scanning count start left at) where
-    pub scan-parsed : (next : ℕ) → 0 < left → place.Behind next ≡ placeOf (read at) → Scanning count start (left - 1) next
-    unfolding readEach
-    scan-parsed next some e = let p = placed (read at) next e in go left some inv p
-      where
-        go : (left : ℕ) → 0 < left → Scanning count start left at → Placed (read at) next → Scanning count start (left - 1) next
-        go zero some inv p = absurd (omega arith)
-        go (suc left) some inv p =
-            let this : suc left - 1 ≡ left = omega arith in
-            rw this (sym (ap placeOf (then-parsed _ (p .here)) ∙ place-cons (p .item) (readEach read left next)) ∙ inv)
-
-    pub scan-fault : (why : Refusal) → 0 < left → place.Refused why ≡ placeOf (read at) → place.Refused why ≡ placeOf (readEach read count start)
-    unfolding readEach
-    scan-fault why some e = go left some inv
-      where
-        go : (left : ℕ) → 0 < left → Scanning count start left at → place.Refused why ≡ placeOf (readEach read count start)
-        go zero some inv = absurd (omega arith)
-        go (suc left) some inv = sym (ap placeOf (then-fault _ (refused (read at) why e))) ∙ inv
-
-    pub scan-last : left ≤ 0 → place.Behind at ≡ placeOf (readEach read count start)
-    unfolding readEach
-    scan-last none = go left none inv
-      where
-        go : (left : ℕ) → left ≤ 0 → Scanning count start left at → place.Behind at ≡ placeOf (readEach read count start)
-        go zero none inv = inv
-        go (suc left) none inv = absurd (omega arith)
 
 -- Every element of a list has a property.
 pub data Each {A : Type 0} (P : A → Type 0) : List A → Type 0 where

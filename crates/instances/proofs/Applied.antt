@@ -52,7 +52,7 @@ use Rattle.save.proofs.RoundTrip.{load-then-save, save-then-load}
 use Rattle.leftovers.specs.Leftovers as leftovers
 use Rattle.leftovers.proofs.Stay.{leftovers-stay}
 use Rattle.leftovers.proofs.Unseen.{leftovers-unseen}
-use Rattle.script.specs.declared.Line.the-variants as line
+use Rattle.lines.specs.declared.Line.the-variants as line
 use Rattle.script.specs.Reader.{newReader}
 use Rattle.script.proofs.Scanning.{parts-read}
 use Rattle.replies.proofs.Decimals.{decimals-read-back, fewest-digits}

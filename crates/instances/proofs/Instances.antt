@@ -42,7 +42,7 @@ use Rattle.reference.specs.Equivalence.{poolAnswers}
 use Rattle.image.specs.Image.{placeFrom, readEach, readImage}
 use Rattle.image.specs.OldForm.{OldCell}
 use Rattle.load.specs.Load.{putEach}
-use Rattle.script.specs.Lines.{all, command}
+use Rattle.lines.specs.Lines.{all, command}
 use Rattle.script.specs.Reader.{spaceOf, letterOf, digitOf, feedOf, endOf, begunOf}
 use Rattle.replies.specs.Replies.{digits, decimal}
 use Rattle.script.specs.Scripts.{nextLine}

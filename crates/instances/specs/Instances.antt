@@ -47,9 +47,9 @@ use Rattle.image.specs.OldForm.{OldCell, OldNumbers}
 use Rattle.load.specs.Load.{loadOf}
 use Rattle.save.specs.Save.{saveOf}
 use Rattle.save.specs.RoundTrip.{Words}
-use Rattle.script.specs.declared.Line.the-variants as line
+use Rattle.lines.specs.declared.Line.the-variants as line
 use Rattle.script.specs.declared.Found.the-variants as found
-use Rattle.script.specs.Lines.{isDigit, all, decimalValue}
+use Rattle.lines.specs.Lines.{isDigit, all, decimalValue}
 use Rattle.script.specs.Reader.{newReader, withoutNumbers, begunOf}
 use Rattle.replies.specs.Replies.{decimal}
 use Rattle.script.specs.Scripts.{nextLine}

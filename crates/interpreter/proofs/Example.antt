@@ -5,7 +5,7 @@ use Rattle.pool.specs.Words.{tabulate, every}
 use Rattle.pool.specs.States.{isPoint, isUsed, isMarked, asMarked, asUsed}
 use Rattle.pool.specs.Layout.{cellCountOfLength, count, setCount, cellCount, head, setHead, register, setRegister, cell, setCell, linkOf}
 use Rattle.pool.specs.Retain.{lowestFree, retain}
-use Rattle.script.specs.Lines.{firstWord, laterWords, all, isNumber, command, lineOf, parseLine}
+use Rattle.lines.specs.Lines.{firstWord, laterWords, all, isNumber, command, lineOf, parseLine}
 use Rattle.script.specs.Scripts.{linesOf}
 use Rattle.replies.specs.Replies.{digits, decimal, spaced}
 use Rattle.interpreter.specs.Execute.{transcript}

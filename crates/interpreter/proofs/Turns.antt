@@ -16,8 +16,8 @@ use Rattle.pool.proofs.Sizes.{both, of-length}
 use Rattle.pool.proofs.FreshPool.{fresh-exact}
 use Rattle.calls.specs.declared.Call.{Call}
 use Rattle.calls.specs.Calls.{callOf}
-use Rattle.script.specs.declared.Line.{Line}
-use Rattle.script.specs.declared.Line.the-variants as line
+use Rattle.lines.specs.declared.Line.{Line}
+use Rattle.lines.specs.declared.Line.the-variants as line
 use Rattle.replies.specs.declared.Reply.the-variants as reply
 use Rattle.replies.specs.Replies.{outcomeText, replyText}
 use Rattle.interpreter.specs.Execute.{fits, sizeOf, usedOf, executeOf}

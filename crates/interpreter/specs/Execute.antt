@@ -8,10 +8,10 @@ use Rattle.pool.specs.Layout.{cellLimit, registerCount, poolLength}
 use Rattle.pool.specs.Retain.{freshWords}
 use Rattle.answers.specs.Outcome.{answered, refused}
 use Rattle.calls.specs.Calls.{callOf}
-use Rattle.script.specs.declared.Line.{Line}
-use Rattle.script.specs.declared.Line.the-variants as line
+use Rattle.lines.specs.declared.Line.{Line}
+use Rattle.lines.specs.declared.Line.the-variants as line
 use Rattle.replies.specs.declared.Reply.the-variants as reply
-use Rattle.script.specs.Lines.{parseLine}
+use Rattle.lines.specs.Lines.{parseLine}
 use Rattle.script.specs.Scripts.{linesOf}
 use Rattle.replies.specs.Replies.{outcomeText, replyText}
 

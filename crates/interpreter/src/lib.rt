@@ -2,9 +2,9 @@
 use answers::Answer;
 use answers::Refusal;
 use calls::Call;
+use lines::Line;
 use pool::Pool;
 use replies::Reply;
-use script::Line;
 ghost use mathlib.Core.Path.{_≡_};
 ghost use Prim.Native.Nat.{_≤_};
 ghost use lib.ListN.{length};

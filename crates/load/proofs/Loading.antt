@@ -19,12 +19,13 @@ use Rattle.answers.specs.declared.Refusal.{Refusal}
 use Rattle.pool.proofs.Sizes.{counted-sized}
 use Rattle.pool.proofs.Retained.{Elsewhere, retain-cong}
 use Rattle.pool.proofs.FreshPool.{blank-length, blank-behind}
-use Rattle.image.specs.declared.Scan.{Scan}
-use Rattle.image.specs.declared.Scan.the-variants as scan
+use Rattle.image_scan.specs.declared.Scan.{Scan}
+use Rattle.image_scan.specs.declared.Scan.the-variants as scan
 use Rattle.image.specs.Image.{isPointKind, Image, Parsed, parsed, fault, readCount, readLink, readCell, readEach, readImage}
-use Rattle.image.specs.Steps.{scanOf}
+use Rattle.image_scan.specs.Steps.{scanOf}
 use Rattle.image.proofs.Reading.{between-inside}
-use Rattle.image.proofs.Images.{image-read, image-few, image-registers, reads-image-bytes, scanned, scanned-fault}
+use Rattle.image.proofs.Images.{image-read, image-few, image-registers, reads-image-bytes}
+use Rattle.image_scan.proofs.Scanning.{scanned, scanned-fault}
 use Rattle.load.specs.declared.Loaded.{Loaded}
 use Rattle.load.specs.Load.{putFields, putEach, putImage, loadedWords, loadImage, loadOf}
 use Rattle.pool.specs.Steps.{FirstUsed}

@@ -16,7 +16,7 @@ use Rattle.answers.specs.declared.Refusal.the-variants as refusal
 use Rattle.pool.proofs.Sizes.{length-of, of-length, length-sized}
 use Rattle.questions.proofs.WellFormed.{well-formed-made}
 use Rattle.image.specs.Image.{Image, Parsed, parsed, fault, readImage}
-use Rattle.image.specs.Check.{verdictOf, checkOf}
+use Rattle.image_scan.specs.Check.{verdictOf, checkOf}
 use Rattle.image.specs.OldForm.{oldImageBytes}
 use Rattle.image.proofs.OldForm.{old-image-refused}
 use Rattle.image.proofs.Images.{image-read, image-few, image-registers, image-links}

@@ -13,7 +13,7 @@ use Rattle.answers.specs.Outcome.{refusalNumber}
 use Rattle.image.specs.declared.ImageCell.{ImageCell}
 use Rattle.image.specs.Image.{isPointKind, Image, Parsed, parsed, fault, readImage}
 use Rattle.image.specs.OldForm.{OldCell, oldImageBytes, OldNumbers}
-use Rattle.image.specs.Check.{checkOf}
+use Rattle.image_scan.specs.Check.{checkOf}
 use Rattle.load.specs.declared.Loaded.{Loaded}
 
 -- The state of a cell of that kind: "kind 0 or 1 (1 a point)", "a point: state 5" (02, S-8).

@@ -1,7 +1,7 @@
 // Load: an image becomes a pool.
 use answers::Refusal;
-use image::Field;
-use image::Scan;
+use image_reader::Field;
+use image_scan::Scan;
 use pool::Pool;
 ghost use mathlib.Core.Path.{_≡_};
 ghost use Prim.Native.Nat.{ℕ, _<_, _≤_};
@@ -23,7 +23,7 @@ fn fill_register(words: &mut [u32], j: u32, bytes: &[u8], at: usize) -> usize
     requires { ⌜ (j < registerCount) × (poolLength registerCount 0 ≤ length (now words)) ⌝ }
     ensures { λ r. ⌜ ((k : ℕ) → WhereRead (readLink k (now (bytes .entry)) at) (λ x end. (now (words .exit) ≡ setRegister (now (words .entry)) j x) × (r ≡ end))) ⌝ }
 {
-    let Field::Value { value, next } = image::read_number(bytes, at) else {
+    let Field::Value { value, next } = image_reader::read_number(bytes, at) else {
         return at;
     };
     pool::write_register(words, j, value);
@@ -48,25 +48,25 @@ fn fill_cell(words: &mut [u32], i: u32, bytes: &[u8], at: usize) -> usize
     let Field::Value {
         value: kind,
         next: behind_kind,
-    } = image::read_number(bytes, at)
+    } = image_reader::read_number(bytes, at)
     else {
         return at;
     };
     let Field::Value {
         value: left,
         next: behind_left,
-    } = image::read_number(bytes, behind_kind)
+    } = image_reader::read_number(bytes, behind_kind)
     else {
         return at;
     };
     let Field::Value {
         value: right,
         next: behind_right,
-    } = image::read_number(bytes, behind_left)
+    } = image_reader::read_number(bytes, behind_left)
     else {
         return at;
     };
-    let Field::Value { value, next } = image::read_number(bytes, behind_right) else {
+    let Field::Value { value, next } = image_reader::read_number(bytes, behind_right) else {
         return at;
     };
     pool::put_cell(words, i, state_of_kind(kind), left, right, value);
@@ -105,7 +105,7 @@ fn fill(words: &mut [u32], bytes: &[u8], n: u32)
     requires { ⌜ poolLength registerCount n ≤ length (now words) ⌝ }
     ensures { λ _. ⌜ WhereRead (readImage registerCount n (now (bytes .entry))) (λ i end. now (words .exit) ≡ putImage registerCount i (now (words .entry))) ⌝ }
 {
-    let Field::Value { value, next } = image::read_count(bytes, n) else {
+    let Field::Value { value, next } = image_reader::read_count(bytes, n) else {
         return;
     };
     let at = fill_registers(words, bytes, next);
@@ -123,7 +123,7 @@ pub fn load_at(words: &mut [u32], bytes: &[u8]) -> Loaded
             end: bytes.len(),
         };
     }
-    match image::scan_image(bytes, n) {
+    match image_scan::scan_image(bytes, n) {
         Scan::Refused(why) => Loaded {
             verdict: why.number(),
             end: bytes.len(),

@@ -10,7 +10,7 @@ use native.Mathlib.Decide.{decLt}
 use native.Mathlib.Omega.{arith}
 use lib.ListN.{length, length-append}
 use borrow.Author.Tests.{lt-ltb, le-ltb, le-leb, leb-true}
-use Rattle.script.specs.Lines.{isDigit, withDigit, decimalValue, all, isNumber}
+use Rattle.lines.specs.Lines.{isDigit, withDigit, decimalValue, all, isNumber}
 use Rattle.replies.specs.Replies.{digits, decimal, DecimalsReadBack, FewestDigits}
 
 digits-last : (more v : ℕ) → v < 10 → digits more v ≡ (code "0" + v) ∷ []

@@ -8,7 +8,7 @@ use lib.ListN.{length, take, drop}
 use lib.Seq.{sets}
 use lib.Dec.{ltb, leb}
 use Rattle.answers.specs.Outcome.{Outcome, answered, allocated, refused, answerOutcome}
-use Rattle.script.specs.Lines.{isDigit, all, isNumber, decimalValue}
+use Rattle.lines.specs.Lines.{isDigit, all, isNumber, decimalValue}
 use Rattle.replies.specs.declared.Reply.{Reply}
 use Rattle.replies.specs.declared.Reply.the-variants as reply
 use Rattle.replies.specs.declared.Written.{Written}

@@ -11,7 +11,7 @@ use lib.Seq.{length-take-le, take-append-seam, take-at, drop-length}
 use lib.Dec.{eqb, leb, ltb}
 use borrow.Author.Tests.{lt-ltb, le-ltb, le-leb, lt-leb, ltb-true, ltb-false, leb-true, leb-false}
 use Rattle.pool.proofs.Sizes.{both}
-use Rattle.script.specs.declared.Line.{Line}
+use Rattle.lines.specs.declared.Line.{Line}
 use Rattle.script.specs.declared.LineReader.{LineReader}
 use Rattle.script.specs.declared.Found.{Found}
 use Rattle.script.specs.declared.Found.the-variants as found

@@ -7,7 +7,7 @@ use mathlib.Core.Bool.{true, false}
 use mathlib.Core.Logic.{_⊎_}
 use lib.ListN.{length, take, drop}
 use Rattle.pool.specs.Layout.{cellLimit, registerCount, poolLength}
-use Rattle.script.specs.declared.Line.{Line}
+use Rattle.lines.specs.declared.Line.{Line}
 use Rattle.script.specs.Reader.{newReader, begunOf}
 use Rattle.script.specs.Scripts.{readScript}
 use Rattle.replies.specs.Replies.{replyRoom}

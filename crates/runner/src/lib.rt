@@ -1,8 +1,8 @@
 // Scripts that are read in parts and run on a pool, with replies that are written in parts.
+use lines::Line;
 use replies::Reply;
 use replies::Written;
 use script::Found;
-use script::Line;
 use script::LineReader;
 ghost use mathlib.Core.Path.{_≡_};
 ghost use Prim.Native.Nat.{_+_};

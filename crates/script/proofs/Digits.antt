@@ -10,7 +10,7 @@ use lib.Dec.{leb, ltb}
 use borrow.Author.Tests.{ne-eqb, leb-true}
 use Rattle.pool.proofs.Sizes.{both}
 use Rattle.script.specs.declared.LineReader.{LineReader}
-use Rattle.script.specs.Lines.{isDigit, withDigit}
+use Rattle.lines.specs.Lines.{isDigit, withDigit}
 use Rattle.script.specs.Reader.{badReader, withLast, digitOf, feedOf}
 use Rattle.script.specs.Scripts.{nextLine}
 use Rattle.script.proofs.Scanning.{line-goes-on}

@@ -8,10 +8,10 @@ use lib.ListN.{drop}
 use lib.Seq.{drop-append-le}
 use lib.Dec.{eqb, ltb}
 use borrow.Author.Tests.{ltb-true, ltb-false, ne-eqb}
-use Rattle.script.specs.declared.Line.{Line}
-use Rattle.script.specs.declared.Line.the-variants as line
+use Rattle.lines.specs.declared.Line.{Line}
+use Rattle.lines.specs.declared.Line.the-variants as line
 use Rattle.script.specs.declared.LineReader.{LineReader}
-use Rattle.script.specs.Lines.{isSpace, firstWord, laterWords, withDigit, all, lineOf, parseLine}
+use Rattle.lines.specs.Lines.{isSpace, firstWord, laterWords, withDigit, all, lineOf, parseLine}
 use Rattle.script.specs.Reader.{newReader, badReader, nextNumber, withLast, spaceOf, letterOf, digitOf, feedOf, endOf, numbersOf, begunOf, ReadsLines, KnowsBegun}
 use Rattle.script.proofs.Words.{restOf, isNext, rest-end, rest-space, rest-none, rest-byte, rest-fifth, parse-space, parse-letter, line-space, line-longer}
 

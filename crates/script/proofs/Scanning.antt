@@ -9,11 +9,11 @@ use native.Mathlib.Omega.{arith}
 use lib.ListN.{length, getD, drop, drop-of-length-le}
 use lib.Seq.{drop-cons, drop-drop}
 use borrow.Author.Tests.{eq-eqb, ne-eqb}
-use Rattle.script.specs.declared.Line.{Line}
+use Rattle.lines.specs.declared.Line.{Line}
 use Rattle.script.specs.declared.LineReader.{LineReader}
 use Rattle.script.specs.declared.Found.the-variants as found
 use Rattle.script.specs.Reader.{newReader, feedOf, endOf, isEmpty}
-use Rattle.script.specs.Lines.{parseLine}
+use Rattle.lines.specs.Lines.{parseLine}
 use Rattle.script.specs.Scripts.{isLineFeed, nextLine, startLine, linesOf, readScript, ReadsScripts, PartsRead}
 use Rattle.script.proofs.Reading.{reads-lines, knows-begun}
 

@@ -6,9 +6,9 @@ use mathlib.Core.Bool.{Bool, true, false, cond, _&&_, _||_}
 use native.Mathlib.Omega.{arith}
 use lib.Dec.{ltb}
 use borrow.Author.Tests.{lt-ltb, le-ltb, ltb-true, ltb-false}
-use Rattle.script.specs.declared.Line.{Line}
-use Rattle.script.specs.declared.Line.the-variants as line
-use Rattle.script.specs.Lines.{isSpace, firstWord, laterWords, isDigit, withDigit, decimalValue, all, isNumber, command, lineOf, parseLine}
+use Rattle.lines.specs.declared.Line.{Line}
+use Rattle.lines.specs.declared.Line.the-variants as line
+use Rattle.lines.specs.Lines.{isSpace, firstWord, laterWords, isDigit, withDigit, decimalValue, all, isNumber, command, lineOf, parseLine}
 
 pub neither : {x y : Bool} (z : Bool) → x ≡ false → y ≡ false → z ≡ (x || y || z)
 neither z p q = simp (p, q)

@@ -5,9 +5,9 @@ use mathlib.Core.List.{List, [], _∷_, foldl}
 use mathlib.Core.Bool.{Bool, true, false, cond, not, _&&_, _||_}
 use lib.ListN.{drop}
 use lib.Dec.{eqb, ltb}
-use Rattle.script.specs.Lines.{isSpace, isDigit, withDigit, command, parseLine}
-use Rattle.script.specs.declared.Line.{Line}
-use Rattle.script.specs.declared.Line.the-variants as line
+use Rattle.lines.specs.Lines.{isSpace, isDigit, withDigit, command, parseLine}
+use Rattle.lines.specs.declared.Line.{Line}
+use Rattle.lines.specs.declared.Line.the-variants as line
 use Rattle.script.specs.declared.LineReader.{LineReader}
 
 -- No number has begun.

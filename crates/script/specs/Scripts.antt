@@ -6,9 +6,9 @@ use mathlib.Core.List.{List, [], _∷_, _++_, map}
 use mathlib.Core.Bool.{Bool, true, false, cond}
 use lib.ListN.{drop}
 use lib.Dec.{eqb}
-use Rattle.script.specs.Lines.{parseLine}
+use Rattle.lines.specs.Lines.{parseLine}
 use Rattle.script.specs.Reader.{newReader, feedOf, endOf, begunOf}
-use Rattle.script.specs.declared.Line.{Line}
+use Rattle.lines.specs.declared.Line.{Line}
 use Rattle.script.specs.declared.LineReader.{LineReader}
 use Rattle.script.specs.declared.Found.{Found}
 use Rattle.script.specs.declared.Found.the-variants as found

@@ -1,20 +1,11 @@
-// The text of scripts: what a line says, read a byte at a time.
-use calls::Call;
+// The text of scripts, read a byte at a time.
+use lines::Line;
 ghost use Prim.Native.Nat.{_+_, _<_, _≤_};
 ghost use mathlib.Core.Path.{_≡_};
-ghost use mathlib.Core.List.{[], _∷_};
 ghost use lib.ListN.{drop};
-ghost use Rattle.script.specs.Lines.{isDigit, command};
+ghost use Rattle.lines.specs.Lines.{isDigit};
 ghost use Rattle.script.specs.Reader.{withoutNumbers, newReader, badReader, spaceOf, letterOf, digitOf, feedOf, endOf, begunOf};
 ghost use Rattle.script.specs.Scripts.{nextLine};
-
-// What a line says.
-pub enum Line {
-    Bad,
-    // Make the pool anew, of that many cells.
-    Fresh(u32),
-    Run(Call),
-}
 
 // How far a line is read.
 pub struct LineReader {
@@ -170,11 +161,11 @@ impl LineReader {
         }
         let count = self.count;
         match count {
-            0 => none(self.letter),
-            1 => one(self.letter, self.fourth),
-            2 => two(self.letter, self.third, self.fourth),
+            0 => lines::none(self.letter),
+            1 => lines::one(self.letter, self.fourth),
+            2 => lines::two(self.letter, self.third, self.fourth),
             3 => Line::Bad,
-            _ => four(
+            _ => lines::four(
                 self.letter,
                 self.first,
                 self.second,
@@ -239,65 +230,4 @@ fn is_digit(b: u8) -> bool
         return false;
     }
     b <= b'9'
-}
-
-// What a letter with no number says.
-fn none(letter: u8) -> Line
-    ensures { λ r. ⌜ r ≡ command letter [] ⌝ }
-{
-    match letter {
-        b'g' => Line::Run(Call::Collect),
-        _ => Line::Bad,
-    }
-}
-
-// What a letter with a number says.
-fn one(letter: u8, x: u32) -> Line
-    ensures { λ r. ⌜ r ≡ command letter (x ∷ []) ⌝ }
-{
-    match letter {
-        b'f' => Line::Fresh(x),
-        b'z' => Line::Run(Call::Clear { r: x }),
-        b'v' => Line::Run(Call::Value { a: x }),
-        b'e' => Line::Run(Call::East { a: x }),
-        b'o' => Line::Run(Call::North { a: x }),
-        _ => Line::Bad,
-    }
-}
-
-// What a letter with two numbers says.
-fn two(letter: u8, x: u32, y: u32) -> Line
-    ensures { λ r. ⌜ r ≡ command letter (x ∷ y ∷ []) ⌝ }
-{
-    match letter {
-        b'c' => Line::Run(Call::Copy { r: x, a: y }),
-        b'l' => Line::Run(Call::Left { r: x, a: y }),
-        b'r' => Line::Run(Call::Right { r: x, a: y }),
-        b'L' => Line::Run(Call::SetLeft { a: x, b: y }),
-        b'R' => Line::Run(Call::SetRight { a: x, b: y }),
-        b'V' => Line::Run(Call::SetValue { a: x, v: y }),
-        b's' => Line::Run(Call::Same { a: x, b: y }),
-        _ => Line::Bad,
-    }
-}
-
-// What a letter with four numbers says.
-fn four(letter: u8, x: u32, y: u32, z: u32, v: u32) -> Line
-    ensures { λ r. ⌜ r ≡ command letter (x ∷ y ∷ z ∷ v ∷ []) ⌝ }
-{
-    match letter {
-        b'n' => Line::Run(Call::New {
-            r: x,
-            a: y,
-            b: z,
-            v,
-        }),
-        b'p' => Line::Run(Call::Point {
-            r: x,
-            v: y,
-            x: z,
-            y: v,
-        }),
-        _ => Line::Bad,
-    }
 }

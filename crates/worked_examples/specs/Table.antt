@@ -15,7 +15,7 @@ use Rattle.stack_marker.specs.StackCollect.{stackOf}
 use Rattle.stack_marker.specs.StackExample.{leafPool, forkPool}
 use Rattle.worst_case.specs.WorstCase.{worstCaseOf}
 use Rattle.worst_case.specs.Example.{fourPool, fivePool}
-use Rattle.image.specs.Check.{checkOf}
+use Rattle.image_scan.specs.Check.{checkOf}
 use Rattle.worked_examples.specs.CheckedPools.{poolFrom, combLinks, twoCombLinks}
 
 -- A case: the bytes of a number; bytes, and what the check of them as an image for a pool of one cell answers; a pool, and what its collection keeps and

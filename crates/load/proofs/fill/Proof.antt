@@ -7,7 +7,7 @@ use mathlib.Core.Path.{_≡_, sym, ap, _∙_}
 use denote.Ref.{now}
 use Rattle.pool.specs.Layout.{registerCount}
 use Rattle.image.specs.Image.{parsed, readCount}
-use Rattle.image.specs.Steps.{fieldParsed}
+use Rattle.image_reader.specs.Steps.{fieldParsed}
 use Rattle.image.proofs.Images.{count-few}
 use Rattle.load.proofs.Loading.{fill-none, fill-made}
 

@@ -4,7 +4,7 @@ use Rattle.load.proofs.fill_cell.Statement.{statement}
 use Rattle.load.proofs.fill_cell.Tie as tie
 use mathlib.Core.Path.{refl, sym, ap, _∙_}
 use denote.Ref.{now}
-use Rattle.image.specs.Steps.{fieldParsed}
+use Rattle.image_reader.specs.Steps.{fieldParsed}
 use Rattle.image.proofs.Reading.{then-parsed, then-fault}
 use Rattle.load.proofs.Filling.{where-parsed, where-fault, where-cell, readNumbers}
 

@@ -3,7 +3,7 @@ use borrow.Author.Needs.{needs}
 use Rattle.load.proofs.fill_register.Statement.{statement}
 use Rattle.load.proofs.fill_register.Tie as tie
 use mathlib.Core.Path.{refl, sym, ap, _∙_}
-use Rattle.image.specs.Steps.{fieldParsed}
+use Rattle.image_reader.specs.Steps.{fieldParsed}
 use Rattle.load.proofs.Filling.{where-parsed, where-fault, where-link}
 
 read-number-requires : tie.Need-read-number-requires

@@ -4,7 +4,7 @@ use borrow.Author.Tests.{not-true, not-false}
 use Prim.Native.Nat.{_-_}
 use mathlib.Core.Path.{_≡_}
 use native.Mathlib.Omega.{arith}
-use Rattle.script.specs.Lines.{command}
+use Rattle.lines.specs.Lines.{command}
 use Rattle.script.specs.Reader.{endOf}
 use Rattle.script.proofs.LineReader.end.Statement.{statement}
 use Rattle.script.proofs.LineReader.end.Tie as tie

@@ -1,0 +1,2 @@
+mod Ends
+pub mod Scanning
