@@ -16,7 +16,7 @@ use Rattle.questions.specs.Validity.{wellFormed}
 use Rattle.pool.proofs.Every.{length-tabulate, getD-tabulate, member-tabulate}
 use Rattle.questions.proofs.WellFormed.{WellFormed, well-formed-read}
 use Rattle.questions.proofs.PoolGraph.{pool-within}
-use Rattle.reversal.specs.Reversal.{unmarked}
+use Rattle.visit.specs.Visit.{unmarked}
 use Rattle.reversal.specs.ReversalTheorem.{markAll}
 use Rattle.reversal.proofs.MarkAll.{markAll-append, length-markAll, register-markAll}
 use Rattle.stack_algorithm.specs.Stack.{isUnmarked, taken}

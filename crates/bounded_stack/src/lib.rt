@@ -93,7 +93,7 @@ pub fn mark_registers(words: &mut [u32], n: u32, stack: &mut [u32]) -> Marking
     let mut k = 0;
     while k < Pool::REGISTERS {
         let p = pool::read_register(words, k);
-        if reversal::is_unmarked(words, p) {
+        if visit::is_unmarked(words, p) {
             pool::mark_cell(words, p);
             let run = mark_from(words, n, stack, p);
             checks += run.checks;

@@ -21,10 +21,10 @@ use Rattle.occupancy.proofs.Nearest.{occupancy-is-nearest}
 use Rattle.reversal.specs.Reached.{isReached, pairCount, pointCount}
 use Rattle.collector.proofs.CollectTheorem.{collection-keeps-the-reached, collection-marks-and-sweeps}
 use Rattle.reversal.proofs.Roots.{run-from-roots, run-over-pool}
-use Rattle.reversal.specs.Reversal.{marker}
+use Rattle.visit.specs.Visit.{marker}
 use Rattle.reversal.specs.ReversalTheorem.{markAll}
 use Rattle.reversal.proofs.Run.{run-from-link}
-use Rattle.reversal.proofs.Cases.{visit-is-by-case}
+use Rattle.visit.proofs.Cases.{visit-is-by-case}
 use Rattle.reversal.proofs.Followed.{run-follows, followed-once, followed-count}
 use Rattle.stack_algorithm.specs.StackTheorem.{chain}
 use Rattle.stack_marker.specs.StackExample.{forkPool}

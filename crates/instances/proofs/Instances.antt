@@ -26,9 +26,10 @@ use Rattle.pool.specs.Retain.{lowestFree, retain}
 use Rattle.pool.proofs.Sizes.{both}
 use Rattle.questions.proofs.WellFormed.{well-formed-read}
 use Rattle.questions.proofs.PoolGraph.{pool-within}
-use Rattle.reversal.specs.declared.Marker.{Marker}
-use Rattle.reversal.specs.Reversal.{visitOf, Visits, marker, Run, MarkRoots}
-use Rattle.reversal.specs.Cases.{trace, followed, fourWays, traceRoots, begins}
+use Rattle.visit.specs.declared.Marker.{Marker}
+use Rattle.visit.specs.Visit.{visitOf, marker}
+use Rattle.reversal.specs.Reversal.{Visits, Run, MarkRoots}
+use Rattle.reversal.specs.Trace.{trace, followed, fourWays, traceRoots, begins}
 use Rattle.reversal.specs.ReversalTheorem.{Agreement, Untouched}
 use Rattle.stack_algorithm.specs.Stack.{run, runs}
 use Rattle.stack_algorithm.specs.Check.{walk, check, limited, limitedRuns}

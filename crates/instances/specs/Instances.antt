@@ -21,9 +21,10 @@ use Rattle.answers.specs.Outcome.{answered}
 use Rattle.occupancy.specs.Occupancy.{distance, Nearest}
 use Rattle.reversal.specs.Reached.{reachedCells, reachedCount}
 use Rattle.collector.specs.Collect.{collectOf}
-use Rattle.reversal.specs.declared.VisitCase.the-variants as visit
-use Rattle.reversal.specs.Reversal.{Visitable, marker, MarkRoots}
-use Rattle.reversal.specs.Cases.{trace, followed, fourWays, traceRoots, begins}
+use Rattle.visit.specs.declared.VisitCase.the-variants as visit
+use Rattle.visit.specs.Visit.{Visitable, marker}
+use Rattle.reversal.specs.Reversal.{MarkRoots}
+use Rattle.reversal.specs.Trace.{trace, followed, fourWays, traceRoots, begins}
 use Rattle.reversal.specs.ReversalTheorem.{Agreement}
 use Rattle.recursive_marker.specs.Steps.{Markable}
 use Rattle.recursive_marker.specs.Recursive.{recursiveOf}

@@ -13,7 +13,7 @@ use Rattle.graph.proofs.Visits.{marked-none}
 use Rattle.graph.proofs.Count.{marked-mark, marked-le, counts}
 use Rattle.pool.specs.Layout.{markCell, isPointAt, linkOf}
 use Rattle.pool.proofs.Links.{link-point}
-use Rattle.reversal.specs.Reversal.{unmarked}
+use Rattle.visit.specs.Visit.{unmarked}
 use Rattle.reversal.specs.ReversalTheorem.{markAll, Agreement}
 use Rattle.reversal.proofs.VisitCount.{counts-pair, counts-point, pairs-append, points-append}
 use Rattle.reversal.proofs.MarkAll.{markAll-append, link-markAll}

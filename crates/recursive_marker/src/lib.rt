@@ -26,7 +26,7 @@ fn visit(words: &mut [u32], n: u32, depth: u32, p: u32, visits: u32) -> u32
     requires { ⌜ Markable registerCount n depth p visits (now words) ⌝ }
     ensures { λ r. ⌜ ((h : Markable registerCount n depth p visits (now (words .entry))) → _≡_ {A = ℕ × List ℕ} (r, now (words .exit)) (visited registerCount n depth p visits (now (words .entry)) h)) ⌝ }
 {
-    if reversal::is_unmarked(words, p) {
+    if visit::is_unmarked(words, p) {
         if pool::is_point_at(words, p) {
             pool::mark_cell(words, p);
             return visits + 1;

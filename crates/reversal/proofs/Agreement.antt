@@ -11,7 +11,7 @@ use Rattle.graph.specs.Graph.{Graph}
 use Rattle.graph.specs.Dfs.{mark, marks, Dfs}
 use Rattle.pool.specs.Layout.{cell, state, left, right, setNode, linkOf}
 use Rattle.pool.specs.States.{isPoint, isUsed, asMarked}
-use Rattle.reversal.specs.Reversal.{unmarked}
+use Rattle.visit.specs.Visit.{unmarked}
 use Rattle.reversal.specs.ReversalTheorem.{markAll, Agreement, Untouched}
 use Rattle.pool.proofs.Node.{length-setNode, cell-setNode, state-setNode, setNode-links}
 use Rattle.pool.proofs.Links.{link-same}

@@ -22,7 +22,7 @@ use Rattle.questions.proofs.PoolGraph.{pool-within}
 use Rattle.reversal.specs.Reversal.{Run, MarkRoots}
 use Rattle.reversal.specs.Reached.{reachedCells, reachedCount, pairCount, visitsOf}
 use Rattle.reversal.specs.ReversalTheorem.{markAll, Agreement}
-use Rattle.reversal.specs.Cases.{traceRun, traceRoots, begins, followed, fourWays, without}
+use Rattle.reversal.specs.Trace.{traceRun, traceRoots, begins, followed, fourWays, without}
 use Rattle.reversal.specs.CaseTheorem.{RunFollows, FollowedOnce, FollowedCount}
 use Rattle.reversal.proofs.Agreement.{unmarked-true, unmarked-false, agreement-dfs}
 use Rattle.reversal.proofs.PoolMarks.{agreement, alike}

@@ -1,12 +1,10 @@
 pub mod MarkAll
 pub mod VisitCount
 pub mod Agreement
-pub mod Cases
 pub mod Trace
 pub mod Run
 pub mod PoolMarks
 pub mod Roots
 pub mod RunLoop
 pub mod Followed
-pub mod VisitStep
 pub mod RootLoop

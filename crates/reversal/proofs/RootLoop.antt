@@ -14,8 +14,9 @@ use Rattle.pool.proofs.Every.{length-tabulate, getD-tabulate, member-tabulate}
 use Rattle.pool.proofs.Laws.{register-setCell, length-setCell}
 use Rattle.questions.proofs.WellFormed.{well-formed-read}
 use Rattle.questions.proofs.PoolGraph.{pool-within}
-use Rattle.reversal.specs.declared.Marker.{Marker}
-use Rattle.reversal.specs.Reversal.{unmarked, Visits, Run, MarkRoots}
+use Rattle.visit.specs.declared.Marker.{Marker}
+use Rattle.visit.specs.Visit.{unmarked}
+use Rattle.reversal.specs.Reversal.{Visits, Run, MarkRoots}
 use Rattle.reversal.specs.Steps.{EndingRun}
 use Rattle.reversal.specs.ReversalTheorem.{markedOf}
 use Rattle.reversal.proofs.RunLoop.{visit-keeps, counted}

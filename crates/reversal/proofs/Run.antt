@@ -15,15 +15,17 @@ use Rattle.pool.specs.States.{pairState, pointState, markedPointState, isPoint,
 use Rattle.pool.proofs.Laws.{cell-same, cell-other}
 use Rattle.pool.proofs.States.{low-pair, low-unmarked, visited-not-used, used-pair, used-point, marked-pair, pair-marked}
 use Rattle.pool.proofs.Links.{link-pair, link-point}
-use Rattle.reversal.specs.declared.Marker.{Marker}
-use Rattle.reversal.specs.Reversal.{unmarked, visitOf, Visitable, Visits, marker}
-use Rattle.reversal.specs.Cases.{visitCase, trace, followed, fourWays}
+use Rattle.visit.specs.declared.Marker.{Marker}
+use Rattle.visit.specs.Visit.{unmarked, visitOf, Visitable, marker}
+use Rattle.visit.specs.Cases.{visitCase}
+use Rattle.visit.proofs.Cases.{chosen}
+use Rattle.reversal.specs.Reversal.{Visits}
+use Rattle.reversal.specs.Trace.{trace, followed, fourWays}
 use Rattle.reversal.specs.ReversalTheorem.{markAll, Agreement, Untouched, RunFromLink}
 use Rattle.pool.proofs.Node.{state-setLinks, setNode-again, setNode-links, setNode-same, Node, node-set}
 use Rattle.reversal.proofs.MarkAll.{markAll-append, length-markAll, markAll-setNode}
 use Rattle.reversal.proofs.VisitCount.{counts-pair, counts-point, pairs-append, points-append}
-use Rattle.reversal.proofs.Cases.{chosen, four-way, goes-on}
-use Rattle.reversal.proofs.Trace.{trace-append, followed-append, fourWays-append}
+use Rattle.reversal.proofs.Trace.{four-way, goes-on, trace-append, followed-append, fourWays-append}
 use Rattle.graph.proofs.Marks.{marks-keeps, mark-keeps, mark-self, mark-other}
 use Rattle.graph.proofs.Visits.{marked-none}
 use Rattle.reversal.proofs.Agreement.{unmarked-cell, unmarked-true, unmarked-false, agreement-setNode, agreement-dfs, away}

@@ -8,8 +8,9 @@ use lib.ListN.{length}
 use Rattle.pool.specs.Layout.{poolLength, setCell, state, left, right, isPointAt}
 use Rattle.pool.specs.States.{isMarked}
 use Rattle.pool.proofs.Laws.{length-setCell}
-use Rattle.reversal.specs.declared.Marker.{Marker}
-use Rattle.reversal.specs.Reversal.{unmarked, visitOf, Visitable, Visits, marker, Run}
+use Rattle.visit.specs.declared.Marker.{Marker}
+use Rattle.visit.specs.Visit.{unmarked, visitOf, Visitable, marker}
+use Rattle.reversal.specs.Reversal.{Visits, Run}
 use Rattle.reversal.specs.Steps.{EndingRun}
 
 module _ (R : ℕ) (s : Marker × List ℕ) where

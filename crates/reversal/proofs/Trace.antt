@@ -1,13 +1,32 @@
--- The visits that are made, as lists: those of two parts are those of the first and then those of the second.
+-- The visits that are made, as lists: what their cases do, and that those of two parts are those of the first and then those of the second.
 use Prim.Native.Nat.{ℕ, suc, _+_}
 use native.Mathlib.Omega.{arith}
 use mathlib.Core.Path.{_≡_, refl, ap, _∙_}
 use mathlib.Core.List.{List, [], _∷_, _++_}
-use mathlib.Core.Bool.{Bool, true, false, cond}
-use Rattle.reversal.specs.declared.Marker.{Marker}
-use Rattle.reversal.specs.declared.VisitCase.{VisitCase}
-use Rattle.reversal.specs.Reversal.{visitOf, Visits}
-use Rattle.reversal.specs.Cases.{trace, visitCase, follows, followed, fourWays}
+use mathlib.Core.Bool.{Bool, true, false, cond, _||_, _&&_, not}
+use Rattle.visit.specs.declared.Marker.{Marker}
+use Rattle.visit.specs.declared.VisitCase.{VisitCase}
+use Rattle.visit.specs.Visit.{visitOf}
+use Rattle.visit.specs.Cases.{visitCase}
+use Rattle.visit.proofs.Cases.{chosen}
+use Rattle.reversal.specs.Reversal.{Visits}
+use Rattle.reversal.specs.Trace.{trace, follows, isFourWay, followed, fourWays}
+
+-- the four-way exchange comes at the third visit of a pair and where the link is unmarked
+pub four-way : (third first onward : Bool) → isFourWay (chosen false third first onward) ≡ (third || onward)
+four-way true first onward = refl
+four-way false true true = refl
+four-way false true false = refl
+four-way false false true = refl
+four-way false false false = refl
+
+-- an unmarked link is followed, but not at the third visit
+pub goes-on : (third first onward : Bool) → follows (chosen false third first onward) ≡ (not third && onward)
+goes-on true first onward = refl
+goes-on false true true = refl
+goes-on false true false = refl
+goes-on false false true = refl
+goes-on false false false = refl
 
 trace-count : (R : ℕ) (s : Marker × List ℕ) {i j : ℕ} → i ≡ j → trace R i s ≡ trace R j s
 trace-count R s e = ap (λ (i : ℕ). trace R i s) e

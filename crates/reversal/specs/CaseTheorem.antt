@@ -1,4 +1,4 @@
--- What is proved of the cases of a visit (02, S-4 and S-8): the statements.
+-- What is proved of the cases of the visits of runs (02, S-4 and S-8): the statements.
 use Prim.Native.Nat.{ℕ, _+_, _-_, _≤_}
 use mathlib.Core.Path.{_≡_}
 use mathlib.Core.Bool.{Bool, true}
@@ -8,16 +8,10 @@ use Rattle.graph.specs.Graph.{Graph}
 use Rattle.graph.specs.Dfs.{Dfs}
 use Rattle.pool.specs.Layout.{poolLength, isPointAt, rootsOf}
 use Rattle.questions.specs.Validity.{wellFormed}
-use Rattle.reversal.specs.declared.Marker.{Marker}
-use Rattle.reversal.specs.Reversal.{visitOf, Visitable, Run, MarkRoots}
+use Rattle.reversal.specs.Reversal.{Run, MarkRoots}
 use Rattle.reversal.specs.ReversalTheorem.{Agreement}
 use Rattle.reversal.specs.Reached.{reachedCells, reachedCount, pairCount}
-use Rattle.reversal.specs.Cases.{visitByCase, traceRun, traceRoots, begins, followed, fourWays, without}
-
--- "Answers, counts and words are those of today for every pool": wherever a visit may be made, the cases do what 01's two exchanges do, and
--- of a point the one exchange of p and q.
-abbrev pub VisitIsByCase : Type 0
-VisitIsByCase = (R n : ℕ) (s : Marker × List ℕ) → Visitable R n s → visitByCase R s ≡ visitOf R s
+use Rattle.reversal.specs.Trace.{traceRun, traceRoots, begins, followed, fourWays, without}
 
 -- Of one run from p, an unmarked link, where the depth-first visit of p newly marks p and then the cells t: the cells that cases 2 and 4 go to, in the
 -- order of the visits, are t, points among them; and of the visits of a run, as many as its cells and its pairs together, less 1, are four-way exchanges ("000 counts

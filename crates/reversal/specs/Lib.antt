@@ -1,6 +1,6 @@
 pub mod CaseTheorem
-pub mod Cases
 pub mod Reached
 pub mod Reversal
 pub mod ReversalTheorem
 pub mod Steps
+pub mod Trace

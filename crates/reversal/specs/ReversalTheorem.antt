@@ -9,7 +9,8 @@ use Rattle.graph.specs.Dfs.{Dfs, DfsAll}
 use Rattle.pool.specs.Layout.{poolLength, state, markCell, isPointAt, linkOf, rootsOf}
 use Rattle.pool.specs.States.{isUsed}
 use Rattle.questions.specs.Validity.{wellFormed}
-use Rattle.reversal.specs.Reversal.{Visits, marker, MarkRoots}
+use Rattle.visit.specs.Visit.{marker}
+use Rattle.reversal.specs.Reversal.{Visits, MarkRoots}
 use Rattle.reversal.specs.Reached.{reachedCells, visitsOf, reachedVisits}
 
 -- The words with every cell of a list marked.

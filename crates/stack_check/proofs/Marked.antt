@@ -23,7 +23,7 @@ use Rattle.pool.proofs.States.{marked-point-is, marked-pair-other, marked-not-u
 use Rattle.pool.proofs.Links.{link-pair, link-point}
 use Rattle.questions.proofs.WellFormed.{WellFormed, well-formed-read}
 use Rattle.questions.proofs.PoolGraph.{Used, reached-used, pool-within}
-use Rattle.reversal.specs.Reversal.{unmarked}
+use Rattle.visit.specs.Visit.{unmarked}
 use Rattle.reversal.specs.ReversalTheorem.{markAll}
 use Rattle.reversal.proofs.Agreement.{unmarked-state}
 use Rattle.reversal.proofs.MarkAll.{markAll-append, length-markAll, link-markAll, state-markAll-same, state-markAll-other}

@@ -8,7 +8,7 @@ use lib.Dec.{eqb}
 use Rattle.pool.specs.Layout.{state, linkOf, graphOf, rootsOf}
 use Rattle.pool.specs.States.{isUsed, isMarked}
 use Rattle.questions.specs.Validity.{wellFormed}
-use Rattle.reversal.specs.Reversal.{unmarked}
+use Rattle.visit.specs.Visit.{unmarked}
 use Rattle.reversal.specs.ReversalTheorem.{markAll}
 use Rattle.stack_algorithm.specs.Stack.{unmarkedLinks}
 use Rattle.stack_algorithm.specs.Steps.{Going}

@@ -6,7 +6,7 @@ ghost use Prim.Native.Nat.{_<_, _≤_};
 ghost use lib.ListN.{length};
 ghost use Rattle.pool.specs.Layout.{registerCount, poolLength, cell, linkOf};
 ghost use Rattle.pool.specs.States.{isMarked};
-ghost use Rattle.reversal.specs.Reversal.{unmarked};
+ghost use Rattle.visit.specs.Visit.{unmarked};
 ghost use Rattle.stack_check.specs.Steps.{UsedOrMarked, linksOf, onwardIn, entries, entryOf, withoutNil, Walkable, walkIn, Checkable, checkIn};
 
 // The bit that only the states of marked cells have.

@@ -7,7 +7,7 @@ use borrow.Fn.PlainCycle.{Measures, is, falls, and}
 use Rattle.recursive_marker.proofs.visit.Reads as visit
 use Rattle.recursive_marker.proofs.visit.Kinds as visit-kinds
 use Rattle.recursive_marker.proofs.+visit.Lts-visit as visit-lts
-use Rattle.reversal.proofs.is_unmarked.Reads as is-unmarked-reads
+use Rattle.visit.proofs.is_unmarked.Reads as is-unmarked-reads
 use Rattle.pool.proofs.is_point_at.Reads as is-point-at-reads
 use Rattle.pool.proofs.link_of.Reads as link-of-reads
 use Rattle.pool.proofs.mark_cell.Reads as mark-cell-reads

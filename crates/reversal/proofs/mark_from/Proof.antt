@@ -4,7 +4,7 @@ use Rattle.reversal.proofs.mark_from.Tie as tie
 use Rattle.reversal.proofs.mark_from.Reads as reads
 use Rattle.reversal.proofs.mark_from.Lts as lts
 use Rattle.pool.proofs.read_cell.Reads as read-cell-reads
-use Rattle.reversal.proofs.Marker.visit.Reads as visit-reads
+use Rattle.visit.proofs.Marker.visit.Reads as visit-reads
 use denote.Ref.{now}
 use Prim.Native.Nat.{_-_, _^_}
 use native.Mathlib.Omega.{arith}

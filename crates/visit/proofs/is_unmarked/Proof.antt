@@ -1,7 +1,7 @@
--- `reversal::is_unmarked` meets its contract: at each return the tests that led there decide the definition's.
+-- `visit::is_unmarked` meets its contract: at each return the tests that led there decide the definition's.
 use borrow.Author.Needs.{needs}
-use Rattle.reversal.proofs.is_unmarked.Statement.{statement}
-use Rattle.reversal.proofs.is_unmarked.Tie as tie
+use Rattle.visit.proofs.is_unmarked.Statement.{statement}
+use Rattle.visit.proofs.is_unmarked.Tie as tie
 use borrow.Author.Tests.{eq-eqb, ne-eqb}
 
 returns : tie.Need-returns

@@ -1,7 +1,7 @@
--- `reversal::Marker::act` meets its contract: each case makes its exchange.
+-- `visit::Marker::act` meets its contract: each case makes its exchange.
 use borrow.Author.Needs.{needs}
-use Rattle.reversal.proofs.Marker.act.Statement.{statement}
-use Rattle.reversal.proofs.Marker.act.Tie as tie
+use Rattle.visit.proofs.Marker.act.Statement.{statement}
+use Rattle.visit.proofs.Marker.act.Tie as tie
 
 read-cell-requires : tie.Need-read-cell-requires
 read-cell-requires c κs = search needs

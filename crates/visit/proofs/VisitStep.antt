@@ -11,11 +11,11 @@ use Rattle.pool.specs.Layout.{poolLength, setCell, state, left}
 use Rattle.pool.specs.States.{pointState, isMarked}
 use Rattle.pool.proofs.States.{unmarked-other}
 use Rattle.pool.proofs.Laws.{cell-same}
-use Rattle.reversal.specs.declared.Marker.{Marker}
-use Rattle.reversal.specs.declared.VisitCase.{VisitCase}
-use Rattle.reversal.specs.Reversal.{visitOf, Visitable, marker}
-use Rattle.reversal.specs.Cases.{caseOf, actOf, added}
-use Rattle.reversal.proofs.Cases.{next-link, visit-is-by-case}
+use Rattle.visit.specs.declared.Marker.{Marker}
+use Rattle.visit.specs.declared.VisitCase.{VisitCase}
+use Rattle.visit.specs.Visit.{visitOf, Visitable, marker}
+use Rattle.visit.specs.Cases.{caseOf, actOf, added}
+use Rattle.visit.proofs.Cases.{next-link, visit-is-by-case}
 
 -- the mark is small
 pub mark-bound : {R n : ℕ} {m : Marker} {w : List ℕ} → Visitable R n (m, w) → state R w (m .cell) < 6

@@ -1,11 +1,11 @@
--- `reversal::choose` meets its contract: at each return the tests that led there decide the definition's.
+-- `visit::choose` meets its contract: at each return the tests that led there decide the definition's.
 use borrow.Author.Needs.{needs}
-use Rattle.reversal.proofs.choose.Statement.{statement}
-use Rattle.reversal.proofs.choose.Tie as tie
-use Rattle.reversal.proofs.choose.Reads as reads
-use Rattle.reversal.proofs.choose.Lts as lts
+use Rattle.visit.proofs.choose.Statement.{statement}
+use Rattle.visit.proofs.choose.Tie as tie
+use Rattle.visit.proofs.choose.Reads as reads
+use Rattle.visit.proofs.choose.Lts as lts
 use Rattle.pool.proofs.read_cell.Reads as read-cell-reads
-use Rattle.reversal.proofs.is_unmarked.Reads as is-unmarked-reads
+use Rattle.visit.proofs.is_unmarked.Reads as is-unmarked-reads
 use denote.Ref.{now}
 use Prim.Native.Nat.{_≤_}
 use native.Mathlib.Omega.{arith}
@@ -17,9 +17,9 @@ use borrow.Author.Tests.{eq-eqb, ne-eqb}
 use Rattle.pool.specs.Layout.{registerCount, poolLength}
 use Rattle.pool.specs.States.{isPoint, isMarked}
 use Rattle.pool.proofs.States.{neither-point, marked-pair-is, marked-point-is, other-unmarked}
-use Rattle.reversal.specs.Reversal.{unmarked}
-use Rattle.reversal.specs.Cases.{caseOf}
-use Rattle.reversal.proofs.Cases.{chosen, case-told}
+use Rattle.visit.specs.Visit.{unmarked}
+use Rattle.visit.specs.Cases.{caseOf}
+use Rattle.visit.proofs.Cases.{chosen, case-told}
 
 -- what is known once the mark and the next link are read
 abbrev Read : Type 0

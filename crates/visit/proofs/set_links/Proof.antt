@@ -1,7 +1,7 @@
--- `reversal::set_links` meets its contract: it makes the two writes of the definition.
+-- `visit::set_links` meets its contract: it makes the two writes of the definition.
 use borrow.Author.Needs.{needs}
-use Rattle.reversal.proofs.set_links.Statement.{statement}
-use Rattle.reversal.proofs.set_links.Tie as tie
+use Rattle.visit.proofs.set_links.Statement.{statement}
+use Rattle.visit.proofs.set_links.Tie as tie
 
 write-cell-requires : tie.Need-write-cell-requires
 write-cell-requires c κs = search needs

@@ -3,17 +3,17 @@ use Prim.Native.Nat.{ℕ, suc, _<_}
 use native.Mathlib.Omega.{arith}
 use mathlib.Core.Path.{_≡_, refl}
 use mathlib.Core.List.{List}
-use mathlib.Core.Bool.{Bool, true, false, cond, _||_, _&&_, not}
+use mathlib.Core.Bool.{Bool, true, false, cond, _||_}
 use lib.Dec.{eqb}
 use Rattle.pool.specs.Layout.{state, left, right, isPointAt}
 use Rattle.pool.specs.States.{isPoint, isMarked}
 use Rattle.pool.proofs.Laws.{cell-other}
-use Rattle.reversal.specs.declared.Marker.{Marker}
-use Rattle.reversal.specs.declared.VisitCase.{VisitCase}
-use Rattle.reversal.specs.declared.VisitCase.the-variants as visit
-use Rattle.reversal.specs.Reversal.{unmarked, visitOf, marker}
-use Rattle.reversal.specs.Cases.{caseOf, setLinks, actOf, added, visitByCase, follows, isFourWay}
-use Rattle.reversal.specs.CaseTheorem.{VisitIsByCase}
+use Rattle.visit.specs.declared.Marker.{Marker}
+use Rattle.visit.specs.declared.VisitCase.{VisitCase}
+use Rattle.visit.specs.declared.VisitCase.the-variants as visit
+use Rattle.visit.specs.Visit.{unmarked, visitOf, marker}
+use Rattle.visit.specs.Cases.{caseOf, setLinks, actOf, added, visitByCase}
+use Rattle.visit.specs.VisitTheorem.{VisitIsByCase}
 
 -- the case as its tests have it
 abbrev pub chosen : Bool → Bool → Bool → Bool → VisitCase
@@ -24,22 +24,6 @@ chosen point third first onward =
 pub case-told : (R : ℕ) (w : List ℕ) (p : ℕ) {mark next : ℕ} {point third first onward : Bool} → mark ≡ state R w p → next ≡ left R w p → isPoint mark ≡ point
     → isMarked mark ≡ third → eqb mark 1 ≡ first → unmarked R w next ≡ onward → chosen point third first onward ≡ caseOf R w p
 case-told R w p e-mark e-next e-point e-third e-first e-onward = rw (← e-point, ← e-third, ← e-first, ← e-onward, e-mark, e-next) refl
-
--- the four-way exchange comes at the third visit of a pair and where the link is unmarked
-pub four-way : (third first onward : Bool) → isFourWay (chosen false third first onward) ≡ (third || onward)
-four-way true first onward = refl
-four-way false true true = refl
-four-way false true false = refl
-four-way false false true = refl
-four-way false false false = refl
-
--- an unmarked link is followed, but not at the third visit
-pub goes-on : (third first onward : Bool) → follows (chosen false third first onward) ≡ (not third && onward)
-goes-on true first onward = refl
-goes-on false true true = refl
-goes-on false true false = refl
-goes-on false false true = refl
-goes-on false false false = refl
 
 -- what the case of a pair does: one of two exchanges
 acts : (R : ℕ) (third first onward : Bool) (s : Marker × List ℕ)

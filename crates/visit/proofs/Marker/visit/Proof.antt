@@ -1,10 +1,10 @@
--- `reversal::Marker::visit` meets its contract: the addition, the choice of the case and what it does are those of the definition (`Added` in `VisitStep`).
+-- `visit::Marker::visit` meets its contract: the addition, the choice of the case and what it does are those of the definition (`Added` in `VisitStep`).
 use borrow.Author.Needs.{needs}
-use Rattle.reversal.proofs.Marker.visit.Statement.{statement}
-use Rattle.reversal.proofs.Marker.visit.Tie as tie
+use Rattle.visit.proofs.Marker.visit.Statement.{statement}
+use Rattle.visit.proofs.Marker.visit.Tie as tie
 use native.Mathlib.Omega.{arith}
 use mathlib.Core.Path.{refl, _∙_}
-use Rattle.reversal.proofs.VisitStep.{choosable, mark-bound, visit-made}
+use Rattle.visit.proofs.VisitStep.{choosable, mark-bound, visit-made}
 
 read-cell-requires : tie.Need-read-cell-requires
 read-cell-requires c κs = search needs
