@@ -31,7 +31,7 @@ fn mark_from(words: &mut [u32], n: u32, stack: &mut [u32], p: u32) -> Marking
     loop {
         match stack_check::look(words, n, hand, state) {
             Onward::Both(left, right) => {
-                pool::mark_both(words, left, right);
+                marks::mark_both(words, left, right);
                 if top == stack.len() {
                     let remaining = stack_check::check(words, n, stack);
                     checks += 1;
@@ -49,7 +49,7 @@ fn mark_from(words: &mut [u32], n: u32, stack: &mut [u32], p: u32) -> Marking
                 state = pool::read_cell(words, hand, Pool::STATE);
             }
             Onward::To(x) => {
-                pool::mark_cell(words, x);
+                marks::mark_cell(words, x);
                 hand = x;
                 state = pool::read_cell(words, hand, Pool::STATE);
             }
@@ -75,8 +75,8 @@ pub fn clear_marks(words: &mut [u32], n: u32)
 {
     let mut i = n;
     while 0 < i {
-        if pool::is_marked(pool::read_cell(words, i, Pool::STATE)) {
-            pool::unmark_cell(words, i);
+        if marks::is_marked(pool::read_cell(words, i, Pool::STATE)) {
+            marks::unmark_cell(words, i);
             i -= 1;
         } else {
             i -= 1;
@@ -94,7 +94,7 @@ pub fn mark_registers(words: &mut [u32], n: u32, stack: &mut [u32]) -> Marking
     while k < Pool::REGISTERS {
         let p = pool::read_register(words, k);
         if visit::is_unmarked(words, p) {
-            pool::mark_cell(words, p);
+            marks::mark_cell(words, p);
             let run = mark_from(words, n, stack, p);
             checks += run.checks;
             if !run.enough {

@@ -16,7 +16,7 @@ pub fn collect_in(words: &mut [u32], n: u32) -> Answer
 {
     if questions::well_formed(words, n) {
         let visits = reversal::mark(words, n);
-        let kept = pool::sweep(words, n);
+        let kept = marks::sweep(words, n);
         Answer::Pair(kept, visits)
     } else {
         Answer::Refused(Refusal::Malformed)

@@ -1,15 +1,11 @@
--- The laws of a cell whose state and links are written, as a visit does it, or all four words; and of one that is marked or made used again.
+-- The laws of a cell whose state and links are written, as a visit does it, or all four words.
 use Prim.Native.Nat.{ℕ, zero, suc, _<_, _≤_}
 use native.Mathlib.Omega.{arith}
-use mathlib.Core.Path.{_≡_, ap, _∙_}
-use mathlib.Core.Bool.{true}
+use mathlib.Core.Path.{_≡_, _∙_}
 use mathlib.Core.List.{List}
 use lib.ListN.{length}
-use lib.Bits.{bitXor}
-use Rattle.pool.specs.Layout.{poolLength, cell, setCell, setNode, putCell, state, left, right, markCell, unmarkCell}
-use Rattle.pool.specs.States.{markedPairState, isUsed, isMarked, asMarked, asUsed}
+use Rattle.pool.specs.Layout.{poolLength, cell, setCell, setNode, putCell, state, left, right}
 use Rattle.pool.proofs.Laws.{length-setCell, cell-same, cell-other, setCell-again, setCell-comm, setCell-cell}
-use Rattle.pool.proofs.States.{used-marked, marked-used}
 
 pub length-setNode : (R : ℕ) (w : List ℕ) (p s l r : ℕ) → length (setNode R w p s l r) ≡ length w
 length-setNode R w p s l r = simp length-setCell
@@ -115,16 +111,3 @@ module _ (R : ℕ) (w : List ℕ) (i : ℕ) (positive : 0 < i) (s l r v : ℕ) w
   cell-putCell-other j f hj hf apart =
       cell-other R (setNode R w i s l r) i 3 v j f positive (omega arith) hj hf (λ e. apart (omega arith))
       ∙ cell-setNode R w i positive s l r j f hj hf (λ e. absurd (apart e))
-
--- the bits of the mark are exchanged in the state that was read
-module _ (R : ℕ) (w : List ℕ) (i : ℕ) {s : ℕ} {v : List ℕ} (read : s ≡ state R w i) (written : v ≡ setCell R w i 0 (bitXor s markedPairState)) where
-  made : (t : ℕ) → bitXor (state R w i) markedPairState ≡ t → v ≡ setCell R w i 0 t
-  made t e = written ∙ ap (setCell R w i 0) (ap (λ (x : ℕ). bitXor x markedPairState) read ∙ e)
-
-  -- of a used cell
-  pub mark-made : isUsed (state R w i) ≡ true → v ≡ markCell R w i
-  mark-made used = made (asMarked (state R w i)) (used-marked (state R w i) used)
-
-  -- of a marked one
-  pub unmark-made : isMarked (state R w i) ≡ true → v ≡ unmarkCell R w i
-  unmark-made marked = made (asUsed (state R w i)) (marked-used (state R w i) marked)

@@ -1,8 +1,8 @@
--- The words of a retained pool, field by field, and the sweep that makes them, turn by turn.
+-- The words of a retained pool, field by field, and how they come about, cell by cell.
 use Prim.Native.Nat.{ℕ, zero, suc, _+_, _-_, _/_, _%_, _<_, _≤_}
 use native.Mathlib.Omega.{arith}
 use native.Mathlib.Decide.{decLe, decLt, ℕ-discrete}
-use mathlib.Core.Path.{_≡_, refl, sym, ap, ap₂, _∙_}
+use mathlib.Core.Path.{_≡_, refl, sym, ap, _∙_}
 use mathlib.Core.List.{List}
 use mathlib.Core.Bool.{Bool, true, false, cond, _||_}
 use lib.ListN.{length, getD, List·getD-eq-default}
@@ -10,10 +10,10 @@ use lib.Seq.{getD-set-same, getD-set-other}
 use lib.Dec.{ltb, leb}
 use borrow.Author.Tests.{lt-ltb, le-ltb, le-leb, lt-leb, ne-eqb}
 use Rattle.pool.specs.Words.{tabulate}
-use Rattle.pool.specs.Layout.{firstRegister, firstCell, poolLength, cellAt, cell, setCell, setNode, putCell, state, head, setHead, count, register, unmarkCell}
-use Rattle.pool.specs.States.{freeState, isMarked, asUsed}
-use Rattle.pool.specs.Retain.{lowestFree, freeAbove, keptField, freeField, retainedField, retainedWord, retain, keptCount, markedCell, sweepOf}
-use Rattle.pool.proofs.Laws.{cell-same, cell-other, length-setCell, length-setHead}
+use Rattle.pool.specs.Layout.{firstRegister, firstCell, poolLength, cellAt, cell, setCell, setNode, putCell, head, setHead, count, register}
+use Rattle.pool.specs.States.{freeState}
+use Rattle.pool.specs.Retain.{lowestFree, freeAbove, keptField, freeField, retainedField, retainedWord, retain, keptCount}
+use Rattle.pool.proofs.Laws.{length-setHead}
 use Rattle.pool.proofs.Node.{written, length-putCell, cell-putCell, cell-putCell-other}
 use Rattle.pool.proofs.Every.{length-tabulate, getD-tabulate, tabulate-list, tabulate-cong}
 
@@ -80,7 +80,7 @@ place R n k = go (ℕ-discrete k 1) (decLt k (firstCell R)) (decLe (poolLength R
     go (no other) (no low) (no high) =
         Place.field (suc ((k - (firstCell R)) / 4)) ((k - (firstCell R)) % 4) (omega arith) (omega arith) (omega arith) (omega arith)
 
--- the words after the turns of the sweep for the cells n to i + 1
+-- the words after the turns for the cells n to i + 1, of a loop that keeps some cells and frees the others
 pub record Swept (R n : ℕ) (keep : ℕ → Bool) (w₀ w : List ℕ) (i : ℕ) : Type 0 where
   pub len : length w ≡ length w₀
   pub elsewhere : (k : ℕ) → Elsewhere R n k → getD w k 0 ≡ getD w₀ k 0
@@ -93,30 +93,6 @@ module _ (R n : ℕ) (keep : ℕ → Bool) (w₀ : List ℕ) where
       record { len = refl; elsewhere = λ k away. refl; below = λ j f hj low hf. refl; above = λ j f low high hf. absurd (omega arith) }
 
   module _ (w : List ℕ) (i : ℕ) (here : i < n) (room : poolLength R n ≤ length w₀) (s : Swept R n keep w₀ w (suc i)) where
-    pub swept-kept : keep (suc i) ≡ true → Swept R n keep w₀ (unmarkCell R w (suc i)) i
-    swept-kept e =
-        record {
-          len = length-setCell R w (suc i) 0 (asUsed (state R w (suc i))) ∙ s .len;
-          elsewhere = λ k away. setCell-elsewhere R n w (suc i) 0 (asUsed (state R w (suc i))) k (omega arith) here (omega arith) away ∙ s .elsewhere k away;
-          below = λ j f hj low hf.
-              cell-other R w (suc i) 0 (asUsed (state R w (suc i))) j f (omega arith) (omega arith) hj hf (λ q. omega arith) ∙ s .below j f hj (omega arith) hf;
-          above = λ j f low high hf. go j f low high hf (ℕ-discrete j (suc i));
-        }
-      where
-        this : (f : ℕ) → f < 4 → cell R (unmarkCell R w (suc i)) (suc i) f ≡ keptField R w₀ (suc i) f
-        this zero hf =
-            cell-same R w (suc i) 0 (asUsed (state R w (suc i))) (omega arith) hf (omega (arith, s .len))
-            ∙ ap asUsed (s .below (suc i) 0 (omega arith) (omega arith) hf)
-        this (suc f) hf =
-            cell-other R w (suc i) 0 (asUsed (state R w (suc i))) (suc i) (suc f) (omega arith) (omega arith) (omega arith) hf (λ q. omega arith)
-            ∙ s .below (suc i) (suc f) (omega arith) (omega arith) hf
-
-        go : (j f : ℕ) → i < j → j ≤ n → f < 4 → Dec (j ≡ suc i) → cell R (unmarkCell R w (suc i)) j f ≡ retainedField R n keep w₀ j f
-        go j f low high hf (yes same) = rw (same, e) (this f hf)
-        go j f low high hf (no other) =
-            cell-other R w (suc i) 0 (asUsed (state R w (suc i))) j f (omega arith) (omega arith) (omega arith) hf (λ q. other (omega arith))
-            ∙ s .above j f (omega arith) high hf
-
     pub swept-free : (next : ℕ) → keep (suc i) ≡ false → next ≡ freeAbove keep n (suc i) → Swept R n keep w₀ (putCell R w (suc i) freeState next 0 0) i
     swept-free next e chain =
         record {
@@ -199,17 +175,7 @@ module _ (R n : ℕ) (keep : ℕ → Bool) (w₀ : List ℕ) where
     retain-cell i f low high hf =
         getD-tabulate (length w₀) (retainedWord R n keep w₀) (cellAt R i f) 0 (omega arith) ∙ word-field i f low high hf
 
--- how many cells are kept, the topmost first
-pub kept-more : (keep : ℕ → Bool) (i : ℕ) → 0 < i → keep i ≡ true → keptCount keep i ≡ suc (keptCount keep (i - 1))
-unfolding keptCount
-kept-more keep zero some e = absurd (omega arith)
-kept-more keep (suc i) some e = let less : suc i - 1 ≡ i = omega arith in simp (less, e) (omega arith)
-
-pub kept-same : (keep : ℕ → Bool) (i : ℕ) → 0 < i → keep i ≡ false → keptCount keep i ≡ keptCount keep (i - 1)
-unfolding keptCount
-kept-same keep zero some e = absurd (omega arith)
-kept-same keep (suc i) some e = let less : suc i - 1 ≡ i = omega arith in simp (less, e) (omega arith)
-
+-- at most all cells are kept
 pub kept-most : (keep : ℕ → Bool) (n : ℕ) → keptCount keep n ≤ n
 unfolding keptCount
 kept-most keep zero = omega arith
@@ -218,61 +184,6 @@ kept-most keep (suc n) = go (keep (suc n)) (kept-most keep n)
     go : (t : Bool) → keptCount keep n ≤ n → cond t 1 0 + keptCount keep n ≤ suc n
     go true h = omega arith
     go false h = omega arith
-
--- what the loop of the sweep keeps: the cells above i are done, next is the lowest free one of them, and freed counts those that are free
-pub record Turn (R n : ℕ) (w₀ w : List ℕ) (i next freed : ℕ) : Type 0 where
-  pub few : freed + i ≤ n
-  pub swept : Swept R n (markedCell R w₀) w₀ w i
-  pub chain : next ≡ freeAbove (markedCell R w₀) n i
-  pub counted : keptCount (markedCell R w₀) n + freed + i ≡ n + keptCount (markedCell R w₀) i
-
-module _ (R n : ℕ) (w₀ : List ℕ) (room : poolLength R n ≤ length w₀) where
-  pub turn-first : Turn R n w₀ w₀ n 0 0
-  unfolding lowestFree
-  turn-first =
-      let none : n - n ≡ 0 = omega arith in
-      record { few = omega arith; swept = swept-none R n (markedCell R w₀) w₀; chain = rw none; counted = omega arith }
-
-  module _ (w : List ℕ) (i next freed : ℕ) (some : 0 < i) (t : Turn R n w₀ w i next freed) where
-    top : i - 1 < n
-    top = omega (arith, t .few)
-
-    this : suc (i - 1) ≡ i
-    this = omega arith
-
-    -- the state that is read is still the one at the start
-    state-read : (s : ℕ) → s ≡ cell R w i 0 → cell R w₀ (suc (i - 1)) 0 ≡ s
-    state-read s read = rw this (sym (read ∙ t .swept .below i 0 some (omega arith) (omega arith)))
-
-    pub turn-kept : (s u : ℕ) (w' : List ℕ) → s ≡ cell R w i 0 → isMarked s ≡ true → asUsed s ≡ u → w' ≡ setCell R w i 0 u → Turn R n w₀ w' (i - 1) next freed
-    turn-kept s u w' read is used write =
-        let made : w' ≡ unmarkCell R w i = write ∙ ap (setCell R w i 0) (sym used ∙ ap asUsed read) in
-        let keep : markedCell R w₀ (suc (i - 1)) ≡ true = ap isMarked (state-read s read) ∙ is in
-        record {
-          few = omega (arith, t .few);
-          swept = rw (made ∙ ap (λ (k : ℕ). unmarkCell R w k) (sym this))
-              (swept-kept R n (markedCell R w₀) w₀ w (i - 1) top room (rw this (t .swept)) keep);
-          chain = t .chain ∙ sym (free-kept (markedCell R w₀) n (i - 1) top keep ∙ ap (freeAbove (markedCell R w₀) n) this);
-          counted = omega (arith, t .counted, kept-more (markedCell R w₀) i some (rw this at keep));
-        }
-
-    pub turn-free : (s : ℕ) (w' : List ℕ) → s ≡ cell R w i 0 → isMarked s ≡ false → w' ≡ putCell R w i freeState next 0 0 → Turn R n w₀ w' (i - 1) i (freed + 1)
-    turn-free s w' read is write =
-        let drop : markedCell R w₀ (suc (i - 1)) ≡ false = ap isMarked (state-read s read) ∙ is in
-        record {
-          few = omega (arith, t .few);
-          swept = rw (write ∙ ap (λ (k : ℕ). putCell R w k freeState next 0 0) (sym this))
-              (swept-free R n (markedCell R w₀) w₀ w (i - 1) top room (rw this (t .swept)) next drop (t .chain ∙ ap (freeAbove (markedCell R w₀) n) (sym this)));
-          chain = sym (free-here (markedCell R w₀) n (i - 1) top drop ∙ this);
-          counted = omega (arith, t .counted, kept-same (markedCell R w₀) i some (rw this at drop));
-        }
-
-  pub turn-last : (w w' : List ℕ) (i next freed : ℕ) → i ≤ 0 → Turn R n w₀ w i next freed → w' ≡ setHead w next
-      → _≡_ {A = ℕ × List ℕ} (n - freed, w') (sweepOf R n w₀)
-  unfolding keptCount
-  turn-last w w' zero next freed last t write =
-      ap₂ (λ (k : ℕ) (l : List ℕ). (k, l)) (omega (arith, t .counted)) (write ∙ (ap (setHead w) (t .chain) ∙ swept-all R n (markedCell R w₀) w₀ w room (t .swept)))
-  turn-last w w' (suc i) next freed last t write = absurd (omega arith)
 
 -- the lowest free cell, and the number of kept ones, are the same where the same cells from 1 to n are kept
 lowest-cong : (keep keep' : ℕ → Bool) (k i : ℕ) → ((j : ℕ) → i ≤ j → j < i + k → keep j ≡ keep' j) → lowestFree keep k i ≡ lowestFree keep' k i

@@ -1,17 +1,15 @@
-// The words of a pool of cells: where everything stands, reads and writes of cells and registers, the sweep that rebuilds the free list, and fresh
-// words.
+// The words of a pool of cells: where everything stands, reads and writes of cells and registers, and fresh words.
 //
 // Functions that take a cell's number, or the number of cells, ask that the words hold so many.
 use answers::Answer;
 use answers::Refusal;
 ghost use mathlib.Core.Path.{_≡_};
-ghost use mathlib.Core.Bool.{true};
-ghost use Prim.Native.Nat.{_+_, _<_, _≤_};
+ghost use Prim.Native.Nat.{_<_, _≤_};
 ghost use lib.ListN.{length, replicate};
-ghost use Rattle.pool.specs.Layout.{registerCount, poolLength, cellCountOfLength, cell, setCell, putCell, state, isPointAt, linkOf, register, setRegister, head, setHead, markCell, unmarkCell};
-ghost use Rattle.pool.specs.States.{isPoint, isUsed, isMarked, isFree};
+ghost use Rattle.pool.specs.Layout.{registerCount, poolLength, cellCountOfLength, cell, setCell, putCell, isPointAt, linkOf, register, setRegister, head, setHead};
+ghost use Rattle.pool.specs.States.{isPoint, isUsed, isFree};
 ghost use lib.Dec.{leb};
-ghost use Rattle.pool.specs.Retain.{retain, sweepOf, blankWords};
+ghost use Rattle.pool.specs.Retain.{retain, blankWords};
 ghost use Rattle.pool.specs.Steps.{FirstUsed};
 ghost use Rattle.answers.specs.Outcome.{answerOutcome};
 ghost use Rattle.pool.specs.Fresh.{freshOf};
@@ -149,51 +147,10 @@ pub fn is_used(state: u32) -> bool
     state == Pool::POINT
 }
 
-pub fn is_marked(state: u32) -> bool
-    ensures { λ r. ⌜ r ≡ isMarked state ⌝ }
-{
-    if state == Pool::MARKED_PAIR {
-        return true;
-    }
-    state == Pool::MARKED_POINT
-}
-
 pub fn is_free(state: u32) -> bool
     ensures { λ r. ⌜ r ≡ isFree state ⌝ }
 {
     state == Pool::FREE
-}
-
-// The bits in which the state of a marked cell differs from that of a used one of its kind: 3 from 0, and 6 from 5.
-const MARK: u32 = 3;
-
-// Marks a used cell, or makes a marked cell used again.
-pub fn mark_cell(words: &mut [u32], i: u32)
-    requires { ⌜ (0 < i) × (poolLength registerCount i ≤ length (now words)) × (isUsed (state registerCount (now words) i) ≡ true) ⌝ }
-    ensures { λ _. ⌜ now (words .exit) ≡ markCell registerCount (now (words .entry)) i ⌝ }
-{
-    let used = read_cell(words, i, Pool::STATE);
-    write_cell(words, i, Pool::STATE, used ^ MARK);
-}
-
-pub fn unmark_cell(words: &mut [u32], i: u32)
-    requires { ⌜ (0 < i) × (poolLength registerCount i ≤ length (now words)) × (isMarked (state registerCount (now words) i) ≡ true) ⌝ }
-    ensures { λ _. ⌜ now (words .exit) ≡ unmarkCell registerCount (now (words .entry)) i ⌝ }
-{
-    let marked = read_cell(words, i, Pool::STATE);
-    write_cell(words, i, Pool::STATE, marked ^ MARK);
-}
-
-// Marks two used cells. Both states are read before one is written, so that they need not be read again after they were tested.
-pub fn mark_both(words: &mut [u32], i: u32, j: u32)
-    requires { ⌜ (0 < i) × (0 < j) × (i ≡ j → ⊥) × (poolLength registerCount i ≤ length (now words)) × (poolLength registerCount j ≤ length (now words)) ⌝ }
-    requires { ⌜ (isUsed (state registerCount (now words) i) ≡ true) × (isUsed (state registerCount (now words) j) ≡ true) ⌝ }
-    ensures { λ _. ⌜ now (words .exit) ≡ markCell registerCount (markCell registerCount (now (words .entry)) i) j ⌝ }
-{
-    let first = read_cell(words, i, Pool::STATE);
-    let second = read_cell(words, j, Pool::STATE);
-    write_cell(words, i, Pool::STATE, first ^ MARK);
-    write_cell(words, j, Pool::STATE, second ^ MARK);
 }
 
 // Is the cell a point, marked or not?
@@ -224,34 +181,6 @@ pub fn put_cell(words: &mut [u32], i: u32, state: u32, left: u32, right: u32, va
     write_cell(words, i, Pool::LEFT, left);
     write_cell(words, i, Pool::RIGHT, right);
     write_cell(words, i, Pool::VALUE, value);
-}
-
-// Makes every marked cell used and puts all others onto the free list, in ascending order. Gives the number of marked cells. A point is asked for first, and
-// the freed cells are counted: the compiler then makes the fewest instructions of a marked pair.
-pub fn sweep(words: &mut [u32], n: u32) -> u32
-    requires { ⌜ poolLength registerCount n ≤ length (now words) ⌝ }
-    ensures { λ r. ⌜ (r, now (words .exit)) ≡ sweepOf registerCount n (now (words .entry)) ⌝ }
-{
-    let mut i = n;
-    let mut next = 0;
-    let mut freed = 0;
-    while 0 < i {
-        let state = read_cell(words, i, Pool::STATE);
-        if state == Pool::MARKED_POINT {
-            write_cell(words, i, Pool::STATE, Pool::POINT);
-            i -= 1;
-        } else if state == Pool::MARKED_PAIR {
-            write_cell(words, i, Pool::STATE, Pool::PAIR);
-            i -= 1;
-        } else {
-            put_cell(words, i, Pool::FREE, next, 0, 0);
-            next = i;
-            freed += 1;
-            i -= 1;
-        }
-    }
-    write_head(words, next);
-    n - freed
 }
 
 // Puts the cells above the first k of n onto the free list, in ascending order. The first k are used, and stay.

@@ -28,10 +28,10 @@ fn visit(words: &mut [u32], n: u32, depth: u32, p: u32, visits: u32) -> u32
 {
     if visit::is_unmarked(words, p) {
         if pool::is_point_at(words, p) {
-            pool::mark_cell(words, p);
+            marks::mark_cell(words, p);
             return visits + 1;
         }
-        pool::mark_cell(words, p);
+        marks::mark_cell(words, p);
         let left = pool::link_of(words, p, Pool::LEFT);
         let after_left = visit(words, n, depth - 1, left, visits + 1);
         let right = pool::link_of(words, p, Pool::RIGHT);
@@ -64,7 +64,7 @@ fn collect_in(words: &mut [u32], n: u32) -> Answer
 {
     if questions::well_formed(words, n) {
         let visits = mark(words, n);
-        let kept = pool::sweep(words, n);
+        let kept = marks::sweep(words, n);
         Answer::Pair(kept, visits)
     } else {
         Answer::Refused(Refusal::Malformed)

@@ -71,7 +71,7 @@ fn walk(words: &mut [u32], n: u32, entry: u32) -> u32
         match look(words, n, p, state) {
             Onward::Both(_, _) => return p,
             Onward::To(x) => {
-                pool::mark_cell(words, x);
+                marks::mark_cell(words, x);
                 p = x;
                 state = pool::read_cell(words, p, Pool::STATE);
             }

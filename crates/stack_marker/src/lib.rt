@@ -42,7 +42,7 @@ fn collect_in(words: &mut [u32], n: u32, stack: &mut [u32]) -> StackAnswer
 {
     if questions::well_formed(words, n) {
         let marking = mark(words, n, stack);
-        let kept = pool::sweep(words, n);
+        let kept = marks::sweep(words, n);
         pool::clear(stack);
         StackAnswer::Collected {
             kept,

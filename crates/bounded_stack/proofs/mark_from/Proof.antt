@@ -4,8 +4,8 @@ use Rattle.bounded_stack.proofs.mark_from.Statement.{statement}
 use Rattle.bounded_stack.proofs.mark_from.Tie as tie
 use Rattle.bounded_stack.proofs.mark_from.Reads as reads
 use Rattle.bounded_stack.proofs.mark_from.Lts as lts
-use Rattle.pool.proofs.mark_both.Reads as mark-both-reads
-use Rattle.pool.proofs.mark_cell.Reads as mark-cell-reads
+use Rattle.marks.proofs.mark_both.Reads as mark-both-reads
+use Rattle.marks.proofs.mark_cell.Reads as mark-cell-reads
 use Rattle.pool.proofs.read_cell.Reads as read-cell-reads
 use Rattle.stack_check.proofs.check.Reads as check-reads
 use Rattle.stack_check.proofs.look.Reads as look-reads

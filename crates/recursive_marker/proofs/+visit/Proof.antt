@@ -10,7 +10,7 @@ use Rattle.recursive_marker.proofs.+visit.Lts-visit as visit-lts
 use Rattle.visit.proofs.is_unmarked.Reads as is-unmarked-reads
 use Rattle.pool.proofs.is_point_at.Reads as is-point-at-reads
 use Rattle.pool.proofs.link_of.Reads as link-of-reads
-use Rattle.pool.proofs.mark_cell.Reads as mark-cell-reads
+use Rattle.marks.proofs.mark_cell.Reads as mark-cell-reads
 use Rattle.recursive_marker.proofs.+visit.{statement}
 use Rattle.recursive_marker.proofs.+visit.Tie.{close}
 use Rattle.pool.specs.Layout.{registerCount}

@@ -1,15 +1,15 @@
--- `pool::mark_both` meets its contract: the first mark does not change the other cell's state.
+-- `marks::mark_both` meets its contract: the first mark does not change the other cell's state.
 use borrow.Author.Needs.{needs}
 use Prim.Native.Nat.{ℕ}
 use native.Mathlib.Omega.{arith}
 use mathlib.Core.Path.{sym, ap, _∙_}
 use mathlib.Core.List.{List}
 use Rattle.pool.specs.Layout.{registerCount, state, markCell}
 use Rattle.pool.specs.States.{isUsed}
-use Rattle.pool.proofs.mark_both.Statement.{statement}
-use Rattle.pool.proofs.mark_both.Tie as tie
+use Rattle.marks.proofs.mark_both.Statement.{statement}
+use Rattle.marks.proofs.mark_both.Tie as tie
 use Rattle.pool.proofs.Laws.{cell-other}
-use Rattle.pool.proofs.Node.{mark-made}
+use Rattle.marks.proofs.Marking.{mark-made}
 
 read-cell-requires : tie.Need-read-cell-requires
 read-cell-requires c κs = search needs

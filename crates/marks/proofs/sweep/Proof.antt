@@ -1,11 +1,11 @@
--- `pool::sweep` meets its contract: each turn is a turn of the definition's (`Turn`), from the highest cell down.
-use Rattle.pool.proofs.sweep.Statement.{statement}
-use Rattle.pool.proofs.sweep.Tie as tie
+-- `marks::sweep` meets its contract: each turn is a turn of the definition's (`Turn`), from the highest cell down.
+use Rattle.marks.proofs.sweep.Statement.{statement}
+use Rattle.marks.proofs.sweep.Tie as tie
 use native.Mathlib.Omega.{arith}
 use mathlib.Core.Path.{_∙_}
 use Rattle.pool.specs.Layout.{registerCount}
 use Rattle.pool.proofs.States.{marked-pair-is, marked-point-is, other-unmarked}
-use Rattle.pool.proofs.Retained.{Turn, turn-first, turn-kept, turn-free, turn-last}
+use Rattle.marks.proofs.Turns.{Turn, turn-first, turn-kept, turn-free, turn-last}
 
 abbrev Inv-loop : tie.InvT-loop
 Inv-loop words₀ n i₀ next₀ freed₀ words i next freed = Turn registerCount n words₀ words i next freed

@@ -1,9 +1,9 @@
--- `pool::mark_cell` meets its contract: the state that is read is that of a used cell.
+-- `marks::mark_cell` meets its contract: the state that is read is that of a used cell.
 use borrow.Author.Needs.{needs}
 use Rattle.pool.specs.Layout.{registerCount}
-use Rattle.pool.proofs.mark_cell.Statement.{statement}
-use Rattle.pool.proofs.mark_cell.Tie as tie
-use Rattle.pool.proofs.Node.{mark-made}
+use Rattle.marks.proofs.mark_cell.Statement.{statement}
+use Rattle.marks.proofs.mark_cell.Tie as tie
+use Rattle.marks.proofs.Marking.{mark-made}
 
 read-cell-requires : tie.Need-read-cell-requires
 read-cell-requires c κs = search needs

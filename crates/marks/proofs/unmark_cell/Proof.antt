@@ -1,9 +1,9 @@
--- `pool::unmark_cell` meets its contract: the state that is read is that of a marked one.
+-- `marks::unmark_cell` meets its contract: the state that is read is that of a marked one.
 use borrow.Author.Needs.{needs}
 use Rattle.pool.specs.Layout.{registerCount}
-use Rattle.pool.proofs.unmark_cell.Statement.{statement}
-use Rattle.pool.proofs.unmark_cell.Tie as tie
-use Rattle.pool.proofs.Node.{unmark-made}
+use Rattle.marks.proofs.unmark_cell.Statement.{statement}
+use Rattle.marks.proofs.unmark_cell.Tie as tie
+use Rattle.marks.proofs.Marking.{unmark-made}
 
 read-cell-requires : tie.Need-read-cell-requires
 read-cell-requires c κs = search needs

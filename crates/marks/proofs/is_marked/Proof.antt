@@ -1,8 +1,8 @@
--- `pool::is_marked` meets its contract: the state is one of two.
-use Rattle.pool.proofs.is_marked.Statement.{statement}
-use Rattle.pool.proofs.is_marked.Tie as tie
+-- `marks::is_marked` meets its contract: the state is one of two.
+use Rattle.marks.proofs.is_marked.Statement.{statement}
+use Rattle.marks.proofs.is_marked.Tie as tie
 use Rattle.pool.specs.States.{isMarked}
 use Rattle.pool.proofs.States.{first-of, second-of}
 
 returns : tie.Need-returns
 unfolding isMarked
