@@ -19,7 +19,12 @@ same-length : tie.Need-same-length
 same-length c = search needs
 
 returns : tie.Need-returns
-returns c = cc
+returns c =
+    let fourth = c .before .before in
+    let third = fourth .before .before .before .before in
+    let second = third .before .before .before .before in
+    let first = second .before .before .before .before in
+    rw (fourth .write-cell4 .ensures, third .write-cell3 .ensures, second .write-cell2 .ensures, first .write-cell .ensures)
 
 pub put-cell-spec : {M : Type 1} → statement M
 put-cell-spec =
