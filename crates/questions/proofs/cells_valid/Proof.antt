@@ -4,16 +4,15 @@ use Rattle.questions.proofs.cells_valid.Statement.{statement}
 use Rattle.questions.proofs.cells_valid.Tie as tie
 use Prim.Native.Nat.{ℕ, suc, _≤_, _-_}
 use native.Mathlib.Omega.{arith}
-use mathlib.Core.Path.{_≡_, sym, _∙_}
+use mathlib.Core.Path.{_≡_, sym, ap, _∙_}
 use mathlib.Core.List.{List}
-use mathlib.Core.Bool.{Bool, true, false}
+use mathlib.Core.Bool.{Bool}
 use Rattle.pool.specs.Words.{every}
 use Rattle.pool.specs.Layout.{registerCount}
 use Rattle.questions.specs.Validity.{cellsValid}
 use Rattle.questions.specs.Steps.{plausibleCell}
 use Rattle.pool.proofs.Every.{every-none, every-pass, every-fail}
 use Rattle.questions.proofs.Plausible.{plausible-valid}
-use denote.Ref.{now}
 
 -- is cell k + 1 plausible?
 abbrev test : ℕ → List ℕ → ℕ → Bool
@@ -39,17 +38,17 @@ loop-less c = omega arith
 
 loop-again : tie.Need-loop-again Inv-loop μ-loop
 loop-again c =
-    let a = c .before .before .before .before .before .args in
-    let this : suc (c .before .before .before .loop .cell - 1) ≡ c .before .before .before .loop .cell = omega arith in
-    let tested : test (a .n) (now (a .words)) (c .before .before .before .loop .cell - 1) ≡ true = cc in
-    (omega arith, c .before .before .before .loop .inv .1 ∙ every-pass (test _ _) _ (c .before .before .loop-test .taken) tested)
+    let at-loop = c .before .before .before in
+    let this : suc (at-loop .loop .cell - 1) ≡ at-loop .loop .cell = omega arith in
+    let tested = ap (plausibleCell registerCount _ _) this ∙ (sym (c .before .plausible-cell .ensures) ∙ c .if1 .taken) in
+    (omega arith, at-loop .loop .inv .1 ∙ every-pass (test _ _) _ (c .before .before .loop-test .taken) tested)
 
 returns : tie.Need-returns Inv-loop μ-loop
 returns c =
-    let a = c .before .before .before .before .before .args in
-    let this : suc (c .before .before .before .loop .cell - 1) ≡ c .before .before .before .loop .cell = omega arith in
-    let tested : test (a .n) (now (a .words)) (c .before .before .before .loop .cell - 1) ≡ false = cc in
-    sym (c .before .before .before .loop .inv .1 ∙ every-fail (test _ _) _ (c .before .before .loop-test .taken) tested)
+    let at-loop = c .before .before .before in
+    let this : suc (at-loop .loop .cell - 1) ≡ at-loop .loop .cell = omega arith in
+    let tested = ap (plausibleCell registerCount _ _) this ∙ (sym (c .before .plausible-cell .ensures) ∙ c .if1 .left) in
+    sym (at-loop .loop .inv .1 ∙ every-fail (test _ _) _ (c .before .before .loop-test .taken) tested)
 
 returns-2 : tie.Need-returns-2 Inv-loop μ-loop
 returns-2 c = sym (c .before .loop .inv .1 ∙ every-none (test _ _) _ (c .loop-test .left))

@@ -1,12 +1,11 @@
 -- `questions::registers_valid` meets its contract. The registers above k are valid, so what is left to test decides; k falls.
 use Rattle.questions.proofs.registers_valid.Statement.{statement}
 use Rattle.questions.proofs.registers_valid.Tie as tie
-use Prim.Native.Nat.{ℕ, _≤_, _-_}
+use Prim.Native.Nat.{ℕ, _≤_}
 use native.Mathlib.Omega.{arith}
-use mathlib.Core.Path.{_≡_, refl, sym, _∙_}
+use mathlib.Core.Path.{_≡_, refl, sym, ap, _∙_}
 use mathlib.Core.List.{List}
-use mathlib.Core.Bool.{Bool, true, false}
-use denote.Ref.{now}
+use mathlib.Core.Bool.{Bool}
 use Rattle.pool.specs.Words.{every}
 use Rattle.pool.specs.Layout.{registerCount, register}
 use Rattle.questions.specs.Validity.{validLink, registersValid}
@@ -42,15 +41,17 @@ loop-less c = omega arith
 
 loop-again : tie.Need-loop-again Inv-loop μ-loop
 loop-again c =
-    let a = c .before .before .before .before .before .before .args in
-    let tested : test (a .n) (now (a .words)) (c .before .before .before .before .loop .k - 1) ≡ true = cc in
-    (omega arith, c .before .before .before .before .loop .inv .1 ∙ every-pass (test _ _) _ (c .before .before .before .loop-test .taken) tested)
+    let at-read = c .before .before in
+    let at-loop = at-read .before .before in
+    let tested = ap (validLink registerCount _ _) (sym (at-read .read-register .ensures)) ∙ (sym (c .before .valid-link .ensures) ∙ c .if1 .taken) in
+    (omega arith, at-loop .loop .inv .1 ∙ every-pass (test _ _) _ (at-read .before .loop-test .taken) tested)
 
 returns : tie.Need-returns Inv-loop μ-loop
 returns c =
-    let a = c .before .before .before .before .before .before .args in
-    let tested : test (a .n) (now (a .words)) (c .before .before .before .before .loop .k - 1) ≡ false = cc in
-    sym (c .before .before .before .before .loop .inv .1 ∙ every-fail (test _ _) _ (c .before .before .before .loop-test .taken) tested)
+    let at-read = c .before .before in
+    let at-loop = at-read .before .before in
+    let tested = ap (validLink registerCount _ _) (sym (at-read .read-register .ensures)) ∙ (sym (c .before .valid-link .ensures) ∙ c .if1 .left) in
+    sym (at-loop .loop .inv .1 ∙ every-fail (test _ _) _ (at-read .before .loop-test .taken) tested)
 
 returns-2 : tie.Need-returns-2 Inv-loop μ-loop
 returns-2 c = sym (c .before .loop .inv .1 ∙ every-none (test _ _) _ (c .loop-test .left))
