@@ -1,4 +1,5 @@
 -- `allocator::new_in` meets its contract: both registers are read first, and then the head decides.
+use denote.Ref.{now}
 use borrow.Author.Needs.{needs}
 use Rattle.allocator.proofs.new_in.Statement.{statement}
 use Rattle.allocator.proofs.new_in.Tie as tie
@@ -51,8 +52,9 @@ returns-3 c =
     let at-if1 = c .before .before .before .before in
     let at-y = at-if1 .before .before .before .before in
     let at-x = at-y .before .before .before .before .before in
-    new-made _ _ (holds _ _ _ (at-x .before .before .read-link .ensures) (at-x .x .given .1)) _ _ (holds _ _ _ (at-y .before .before .read-link2 .ensures) (at-y .y .given .1))
-    (allocate-collected _ _ _ _ _ _ _ (at-if1 .before .read-head .ensures) (at-if1 .if1 .taken) (c .before .before .take-collected .ensures))
+    let a = at-x .before .before .before .before .before .args in
+    new-made (a .n) (now (a .words)) (holds _ _ _ (at-x .before .before .read-link .ensures) (at-x .x .given .1)) (a .r) (a .v) (holds _ _ _ (at-y .before .before .read-link2 .ensures) (at-y .y .given .1))
+    (allocate-collected (a .n) (now (a .words)) (a .r) _ _ _ (a .v) (at-if1 .before .read-head .ensures) (at-if1 .if1 .taken) (c .before .before .take-collected .ensures))
 
 take-free-requires : tie.Need-take-free-requires
 take-free-requires c κs = search needs
@@ -65,8 +67,9 @@ returns-4 c =
     let at-if1 = c .before .before .before .before in
     let at-y = at-if1 .before .before .before .before in
     let at-x = at-y .before .before .before .before .before in
-    new-made _ _ (holds _ _ _ (at-x .before .before .read-link .ensures) (at-x .x .given .1)) _ _ (holds _ _ _ (at-y .before .before .read-link2 .ensures) (at-y .y .given .1))
-    (allocate-free _ _ _ _ _ _ _ (at-if1 .before .read-head .ensures) (at-if1 .if1 .left) (c .before .before .take-free .ensures))
+    let a = at-x .before .before .before .before .before .args in
+    new-made (a .n) (now (a .words)) (holds _ _ _ (at-x .before .before .read-link .ensures) (at-x .x .given .1)) (a .r) (a .v) (holds _ _ _ (at-y .before .before .read-link2 .ensures) (at-y .y .given .1))
+    (allocate-free (a .n) (now (a .words)) (a .r) _ _ _ (a .v) (at-if1 .before .read-head .ensures) (at-if1 .if1 .left) (c .before .before .take-free .ensures))
 
 pub new-in-spec : {M : Type 1} → statement M
 new-in-spec =
