@@ -1,4 +1,4 @@
--- What a part of the cells may be relied on for.
+-- What `free_above` asks of the cells that it leaves as they are.
 use Prim.Native.Nat.{ℕ, _<_, _≤_}
 use mathlib.Core.Path.{_≡_}
 use mathlib.Core.List.{List}
