@@ -1,18 +1,17 @@
 -- The image at the start of the bytes: what is known of one that was read.
-use Prim.Native.Nat.{ℕ, _+_, _<_, _≤_}
+use Prim.Native.Nat.{ℕ, _≤_}
 use native.Mathlib.Omega.{arith}
-use mathlib.Core.Path.{_≡_, refl, sym, ap, subst, _∙_}
+use mathlib.Core.Path.{_≡_, refl, sym, subst, _∙_}
 use mathlib.Core.List.{List}
 use mathlib.Core.Bool.{Bool, true, false, cond}
-use lib.ListN.{length, getD}
+use lib.ListN.{length}
 use lib.Dec.{leb}
-use borrow.Author.Tests.{leb-true, le-leb}
+use borrow.Author.Tests.{leb-true}
 use Rattle.leb128.specs.Leb128.{encode, Bytes, Between, readAt}
 use Rattle.leb128.specs.declared.Number.{Number}
 use Rattle.leb128.specs.declared.Number.the-variants as number
 use Rattle.leb128.proofs.Theorems.{reads-encodings}
 use Rattle.answers.specs.declared.Refusal.{Refusal}
-use Rattle.answers.specs.declared.Refusal.the-variants as refusal
 use Rattle.image.specs.declared.ImageCell.{ImageCell}
 use Rattle.image.specs.Image.{isPointKind, Image, cellBytes, imageBytes, Parsed, parsed, fault, anyNumber, readNumber, atMost, readCount, readLink, readKind, readWord, readCell, readEach, readImage}
 use Rattle.image.specs.OneForm.{ReadsImageBytes, OneImage}

@@ -1,15 +1,15 @@
 -- An image in the form of before has too few numbers: each number that is read takes one of those that are there.
-use Prim.Native.Nat.{ℕ, zero, suc, _+_, _*_, _^_, _<_, _≤_}
+use Prim.Native.Nat.{ℕ, zero, suc, _+_, _*_, _^_, _<_}
 use native.Mathlib.Omega.{arith}
-use mathlib.Core.Path.{_≡_, refl, sym, ap, subst, _∙_}
+use mathlib.Core.Path.{_≡_, refl, sym, subst, _∙_}
 use mathlib.Core.Bool.{Bool, true, false, cond}
-use mathlib.Core.List.{List, [], _∷_, _++_, append-assoc, append-nil, flatMap, List·Memᴰ, List·Memᴰ·head, List·Memᴰ·tail}
+use mathlib.Core.List.{List, [], _∷_, _++_, append-assoc, flatMap, List·Memᴰ, List·Memᴰ·head, List·Memᴰ·tail}
 use lib.ListN.{length, drop}
 use Rattle.leb128.specs.Leb128.{encode, readGroups, readAt}
 use Rattle.answers.specs.declared.Refusal.{Refusal}
 use Rattle.answers.specs.declared.Refusal.the-variants as refusal
 use Rattle.image.specs.declared.ImageCell.{ImageCell}
-use Rattle.image.specs.Image.{isPointKind, Image, Parsed, parsed, fault, anyNumber, readNumber, readLink, readWord, readCell, readEach, readImage}
+use Rattle.image.specs.Image.{isPointKind, Image, Parsed, parsed, fault, readNumber, readLink, readWord, readCell, readEach, readImage}
 use Rattle.image.specs.OldForm.{OldCell, oldCellBytes, oldImageBytes, OldNumbers, OldImageRefused}
 use Rattle.image.proofs.Reading.{each-first}
 use Rattle.image.proofs.Images.{bounded, cell-read, image-read}

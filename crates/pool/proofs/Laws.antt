@@ -1,6 +1,6 @@
 -- The laws of reading and writing the words of a pool, over the register count R. Two fields of cells are at different places where
 -- 4 × i + f differs.
-use Prim.Native.Nat.{ℕ, _+_, _*_, _-_, _<_, _≤_}
+use Prim.Native.Nat.{ℕ, _+_, _*_, _<_, _≤_}
 use native.Mathlib.Omega.{arith}
 use mathlib.Core.Path.{_≡_}
 use mathlib.Core.List.{List}

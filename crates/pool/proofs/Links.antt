@@ -1,14 +1,12 @@
 -- The links of a cell: a pair's fields, nil of a point.
-use Prim.Native.Nat.{ℕ, zero, suc, _<_, _≤_}
-use native.Mathlib.Omega.{arith}
+use Prim.Native.Nat.{ℕ, suc, _<_, _≤_}
 use mathlib.Core.Path.{_≡_, refl, ap, ap₂, _∙_}
 use mathlib.Core.Bool.{Bool, true, false, cond}
 use mathlib.Core.List.{List}
 use lib.ListN.{length}
-use Rattle.pool.specs.Layout.{poolLength, cell, setCell, state, isPointAt, linkOf}
+use Rattle.pool.specs.Layout.{poolLength, cell, state, isPointAt, linkOf}
 use Rattle.pool.specs.States.{isPoint}
 use Rattle.pool.specs.Retain.{retain}
-use Rattle.pool.proofs.Laws.{cell-other}
 use Rattle.pool.proofs.States.{point-used}
 use Rattle.pool.proofs.RetainedPool.{retained-state, retained-same}
 

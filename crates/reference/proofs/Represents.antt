@@ -19,7 +19,7 @@ use Rattle.pool.proofs.Links.{link-pair, link-point}
 use Rattle.pool.proofs.Every.{length-tabulate, getD-tabulate}
 use Rattle.questions.proofs.PoolGraph.{Used, reached-used, pool-within}
 use Rattle.reversal.specs.Reached.{reachedCount, pairCount, pointCount, visitsOf, reachedVisits}
-use Rattle.reference.specs.Model.{Entry, Model, entry, entryLink, held, modelGraph, livePlaces, live, liveVisits}
+use Rattle.reference.specs.Model.{Entry, Model, entry, entryLink, held, modelGraph, live, liveVisits}
 use Rattle.reference.proofs.Places.{each-place}
 use Rattle.invariant.proofs.Standing.{Standing}
 use Rattle.reference.proofs.Fields.{Field, number, number-below, get, Related, related-map, link-related, Linked}

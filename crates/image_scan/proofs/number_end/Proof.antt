@@ -8,8 +8,6 @@ use Rattle.image_scan.specs.Steps.{endOf}
 use Rattle.image_scan.proofs.Ends.{furtherEnd, first-ends, first-goes-on, group-padded, group-ends, group-goes-on, fifth-ends, fifth-beyond}
 use Rattle.image_scan.proofs.number_end.Statement.{statement}
 use Rattle.image_scan.proofs.number_end.Tie as tie
-use Rattle.image_scan.proofs.number_end.Reads as reads
-use Rattle.image_scan.proofs.number_end.Lts as lts
 
 abbrev Inv-loop : tie.InvT-loop
 Inv-loop bytes at fifth i₀ i = (furtherEnd bytes (at + 4 - i) i ≡ endOf (readNumber bytes at)) × (i ≤ at + 4)

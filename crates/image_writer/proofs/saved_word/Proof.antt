@@ -1,5 +1,4 @@
 -- `image_writer::saved_word` meets its contract: the kind decides.
-use borrow.Author.Needs.{needs}
 use Rattle.image_writer.proofs.saved_word.Statement.{statement}
 use Rattle.image_writer.proofs.saved_word.Tie as tie
 

@@ -1,7 +1,7 @@
 -- `pool::clear` meets its contract: the first k words are 0; what is left of the words falls.
 use Rattle.pool.proofs.clear.Statement.{statement}
 use Rattle.pool.proofs.clear.Tie as tie
-use Prim.Native.Nat.{_+_, _≤_, _<_, _-_}
+use Prim.Native.Nat.{_≤_, _<_, _-_}
 use native.Mathlib.Omega.{arith}
 use mathlib.Core.Path.{_≡_, refl, _∙_}
 use mathlib.Core.List.{_++_, append-nil}

@@ -1,7 +1,6 @@
 -- `stack_check::is_open` meets its contract: the bit tells a marked state from a used one.
 use borrow.Author.Needs.{needs}
 use native.Mathlib.Omega.{arith}
-use mathlib.Core.Path.{sym, _∙_}
 use borrow.Author.Tests.{eq-eqb, ne-eqb}
 use Rattle.pool.proofs.States.{marked-bit}
 use Rattle.stack_check.proofs.is_open.Statement.{statement}
