@@ -34,14 +34,6 @@ module _ (R len : ℕ) where
   unfolding cellCountOfLength
   too-long long = simp (le-leb (poolLength R 1) len (omega arith), lt-leb len (poolLength R cellLimit + leftoverLimit) long)
 
--- so a number of cells within the limit is that of its length, 0 too
-pub counted : (R len : ℕ) → firstCell R ≤ len → (len - firstCell R) / 4 ≤ cellLimit → (len - firstCell R) / 4 ≡ cellCountOfLength R len
-counted R len low high = go (decLe (poolLength R 1) len)
-  where
-    go : Dec (poolLength R 1 ≤ len) → (len - firstCell R) / 4 ≡ cellCountOfLength R len
-    go (yes some) = fitting R len some (omega arith)
-    go (no none) = let zero : (len - firstCell R) / 4 ≡ 0 = omega arith in zero ∙ too-short R len (omega arith)
-
 -- a length that has a number of cells is that of so many cells, with the words behind them
 pub length-of : (R len : ℕ) → 0 < cellCountOfLength R len → LengthOf R (cellCountOfLength R len) (leftoverOfLength R len) len
 length-of R len some = go (decLe (poolLength R 1) len) (decLe len (poolLength R cellLimit + leftoverLimit))

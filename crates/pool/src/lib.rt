@@ -75,7 +75,7 @@ impl Pool {
 pub fn cell_count_of_length(len: usize) -> u32
     ensures { λ r. ⌜ r ≡ cellCountOfLength registerCount len ⌝ }
 {
-    if len < Pool::FIRST_CELL {
+    if len < Pool::FIRST_CELL + Pool::CELL_WORDS {
         return 0;
     }
     let cells = (len - Pool::FIRST_CELL) / Pool::CELL_WORDS;
