@@ -1,5 +1,5 @@
 -- The loop over the registers: it makes the runs of the definition, in the order of the registers.
-use Prim.Native.Nat.{ℕ, _+_, _<_, _≤_}
+use Prim.Native.Nat.{ℕ, suc, _+_, _<_, _≤_}
 use native.Mathlib.Omega.{arith}
 use native.Mathlib.Numerals.{add-one}
 use mathlib.Core.Path.{_≡_, refl, sym, ap, _∙_}
@@ -15,9 +15,9 @@ use Rattle.pool.proofs.Laws.{register-setCell, length-setCell}
 use Rattle.questions.proofs.WellFormed.{well-formed-read}
 use Rattle.questions.proofs.PoolGraph.{pool-within}
 use Rattle.visit.specs.declared.Marker.{Marker}
-use Rattle.visit.specs.Visit.{unmarked}
+use Rattle.visit.specs.Visit.{unmarked, marker}
 use Rattle.reversal.specs.Reversal.{Visits, Run, MarkRoots}
-use Rattle.reversal.specs.Steps.{EndingRun}
+use Rattle.reversal.specs.Steps.{Ending}
 use Rattle.reversal.specs.ReversalTheorem.{markedOf}
 use Rattle.reversal.proofs.RunLoop.{visit-keeps, counted}
 use Rattle.reversal.specs.Reached.{reachedCells}
@@ -87,11 +87,11 @@ module _ (R n : ℕ) where
       marking-bound =
           rw this (pool-within (well-formed-read R n w₀ well) .root (register w₀ k) (member-tabulate R (λ j. register w₀ j) k here))
 
-      pub marking-ends : n ≤ cellLimit → unmarked R w p ≡ true → EndingRun R n p (visits, w)
+      pub marking-ends : n ≤ cellLimit → unmarked R w p ≡ true → Ending R n (marker p (suc n) visits, w)
       marking-ends limit e =
           let (u, run, rest) = next .0 e in
           let most = preorder-length n (graphOf R w₀) (rootsOf R w₀) (pool-within (well-formed-read R n w₀ well)) in
-          record { last = u; run = run; fits = omega (arith, roots-more rest, visits-most (isPointAt R w₀) (reachedCells R n w₀)) }
+          record { last = (marker (suc n) (run .1) (u .0), u .1); count = run .0; visits = run .2; past = omega arith; fits = omega (arith, roots-more rest, visits-most (isPointAt R w₀) (reachedCells R n w₀)) }
 
       pub marking-run : (visits' : ℕ) (w' : List ℕ) → unmarked R w p ≡ true
           → ((u : ℕ × List ℕ) → Run R n p (visits, w) u → _≡_ {A = ℕ × List ℕ} (visits', w') u) → Marking w₀ w' visits' (k + 1)

@@ -1,6 +1,6 @@
 -- Marking by link reversal: from (p, q), with p unmarked, three visits for each pair newly marked and one for each point lead to (q, p); and what their
 -- cases are.
-use Prim.Native.Nat.{ℕ, zero, suc, _+_, _*_, _<_, _≤_}
+use Prim.Native.Nat.{ℕ, zero, suc, _+_, _<_, _≤_}
 use native.Mathlib.Omega.{arith}
 use mathlib.Core.Path.{_≡_, refl, sym, ap, ap₂, subst, _∙_}
 use mathlib.Core.Logic.{inl, inr}

@@ -1,17 +1,19 @@
 -- The loop that makes the visits of a run: it makes exactly those, until the virtual root is in hand.
-use Prim.Native.Nat.{ℕ, suc, _+_, _-_, _^_, _<_, _≤_}
+use Prim.Native.Nat.{ℕ, zero, suc, _+_, _-_, _^_, _<_, _≤_}
 use native.Mathlib.Omega.{arith}
 use mathlib.Core.Path.{_≡_, refl, ap, _∙_}
 use mathlib.Core.List.{List}
 use mathlib.Core.Bool.{Bool, true, false, cond, _||_}
 use lib.ListN.{length}
+use lib.Dec.{eqb}
+use borrow.Author.Tests.{eqb-true, eq-eqb, ne-eqb}
 use Rattle.pool.specs.Layout.{poolLength, setCell, state, left, right, isPointAt}
 use Rattle.pool.specs.States.{isMarked}
 use Rattle.pool.proofs.Laws.{length-setCell}
 use Rattle.visit.specs.declared.Marker.{Marker}
 use Rattle.visit.specs.Visit.{unmarked, visitOf, Visitable, marker}
 use Rattle.reversal.specs.Reversal.{Visits, Run}
-use Rattle.reversal.specs.Steps.{EndingRun}
+use Rattle.reversal.specs.Steps.{Ending, InHand, turnOf}
 
 module _ (R : ℕ) (s : Marker × List ℕ) where
   abbrev p : ℕ
@@ -81,56 +83,89 @@ module _ (R n : ℕ) where
   pub run-length : {p : ℕ} {s t u : ℕ × List ℕ} (a : Run R n p s t) (b : Run R n p s u) → a .0 ≡ b .0
   run-length (j, q, a) (k, q′, b) = omega (arith, counted a, counted b, ap (λ (x : ℕ × List ℕ). x .0) (run-same (j, q, a) (k, q′, b)))
 
-  -- what the loop keeps: of every run from the start, visits are left that lead to its end
-  pub record Going (p c : ℕ) (w₀ w : List ℕ) (m : Marker) : Type 0 where
-    pub len : length w ≡ length w₀
-    pub rest : (u : ℕ × List ℕ) → Run R n p (c, w₀) u → (k q : ℕ) × Visits R n k (m, w) (marker (suc n) q (u .0), u .1)
+  -- what a turn and the loop keep: from s' on, visits lead to every end that they lead to from s
+  pub record Leads (s s' : Marker × List ℕ) : Type 0 where
+    pub len : length (s' .1) ≡ length (s .1)
+    pub rest : (t : Marker × List ℕ) (k : ℕ) → n < t .0 .cell → Visits R n k s t → (j : ℕ) × Visits R n j s' t
 
-  pub going-first : (p c : ℕ) (w₀ : List ℕ) (root : ℕ) → root ≡ suc n → Going p c w₀ w₀ (marker p root c)
-  going-first p c w₀ root e = record { len = refl; rest = λ u run. rw e run }
+  pub leads-here : (s : Marker × List ℕ) → Leads s s
+  leads-here s = record { len = refl; rest = λ t k past v. (k, v) }
 
--- with the virtual root in hand the run is at its end
-pub going-last : {R n p c : ℕ} {w₀ w : List ℕ} {m : Marker} → Going R n p c w₀ w m → n < m .cell → (u : ℕ × List ℕ) → Run R n p (c, w₀) u
-    → _≡_ {A = ℕ × List ℕ} (m .visits, w) u
-going-last {R} {n} g past u run =
-    let (k, q, left) = g .rest u run in
-    ap (λ (s : Marker × List ℕ). (s .0 .visits, s .1)) (visits-end R n left past)
+  leads-visit : {s s' : Marker × List ℕ} → Leads s s' → s' .0 .cell ≤ n → Leads s (visitOf R s')
+  leads-visit {s} {s'} l bounded =
+      record {
+        len = visit-keeps R s' length (length-setCell R) ∙ l .len;
+        rest = λ t k past v. let (j, left) = l .rest t k past v in visits-next left past bounded .2;
+      }
 
--- a cell is in hand, in a turn of the loop that began with `top` numbers left to count with
-pub record InHand (R n p c : ℕ) (w₀ : List ℕ) (top : ℕ) (w : List ℕ) (m : Marker) : Type 0 where
-  pub going : Going R n p c w₀ w m
-  pub bounded : m .cell ≤ n
-  pub most : 2 ^ 32 - m .visits ≤ top
+  pub leads-turn : (k : ℕ) {s s' : Marker × List ℕ} → Leads s s' → s' .0 .cell ≤ n → Leads s (turnOf R k s')
+  unfolding turnOf
+  leads-turn zero l bounded = leads-visit l bounded
+  leads-turn (suc k) {s} {s'} l bounded =
+      go (eqb (visitOf R s' .0 .cell) (s' .0 .cell)) refl (λ (on : visitOf R s' .0 .cell ≤ n). leads-turn k (leads-visit l bounded) on)
+    where
+      go : (t : Bool) → eqb (visitOf R s' .0 .cell) (s' .0 .cell) ≡ t → (visitOf R s' .0 .cell ≤ n → Leads s (turnOf R k (visitOf R s')))
+          → Leads s (cond t (turnOf R k (visitOf R s')) (visitOf R s'))
+      go true e more = more (omega (arith, eqb-true (visitOf R s' .0 .cell) (s' .0 .cell) e))
+      go false e more = leads-visit l bounded
 
-pub in-hand : {R n p c : ℕ} {w₀ w : List ℕ} {m : Marker} → Going R n p c w₀ w m → m .cell ≤ n → InHand R n p c w₀ (2 ^ 32 - m .visits) w m
-in-hand g bounded = record { going = g; bounded = bounded; most = omega arith }
+  -- so there is an end from there too
+  pub ending-from : {s s' : Marker × List ℕ} → Ending R n s → Leads s s' → Ending R n s'
+  ending-from ends l =
+      let (j, left) = l .rest (ends .last) (ends .count) (ends .past) (ends .visits) in
+      record { last = ends .last; count = j; visits = left; past = ends .past; fits = ends .fits }
 
-module _ {R n p c : ℕ} {w₀ : List ℕ} {top : ℕ} {w : List ℕ} {m : Marker} (h : InHand R n p c w₀ top w m) (ends : EndingRun R n p (c, w₀)) where
-  next : Visitable R n (m, w) × (m .visits < ends .last .0)
-  next =
-      let (k, q, left) = h .going .rest (ends .last) (ends .run) in
-      let (v, fewer, others) = visits-next R n left (omega arith) (h .bounded) in
-      (v, fewer)
+  pub hand-from : {s s' : Marker × List ℕ} → Ending R n s → poolLength R n ≤ length (s .1) → Leads s s' → s' .0 .cell ≤ n → InHand R n s'
+  hand-from ends room l bounded = record { ending = ending-from ends l; bounded = bounded; room = omega (arith, l .len) }
 
-  -- a visit can be made, and counted
-  pub in-hand-visit : poolLength R n ≤ length w₀ → Visitable R n (m, w) × (poolLength R n ≤ length w) × (m .visits + 1 < 2 ^ 32)
-  in-hand-visit room = (next .0, omega (arith, h .going .len), omega (arith, next .1, ends .fits))
+  -- at the end, the visits and the words are those of the run
+  pub leads-last : {p c : ℕ} {w₀ w : List ℕ} {m : Marker} → Leads (marker p (suc n) c, w₀) (m, w) → n < m .cell → (u : ℕ × List ℕ)
+      → Run R n p (c, w₀) u → _≡_ {A = ℕ × List ℕ} (m .visits, w) u
+  leads-last l past u (k, q, run) =
+      let (j, left) = l .rest (marker (suc n) q (u .0), u .1) k (omega arith) run in
+      ap (λ (s : Marker × List ℕ). (s .0 .visits, s .1)) (visits-end left past)
 
-  module _ {m' : Marker} {w' : List ℕ} (e : _≡_ {A = Marker × List ℕ} (m', w') (visitOf R (m, w))) where
-    -- it leads on, and leaves fewer numbers to count with
-    pub in-hand-next : Going R n p c w₀ w' m' × (2 ^ 32 - m' .visits < top)
-    in-hand-next =
-        let once : m' .visits ≡ suc (m .visits) = ap (λ (s : Marker × List ℕ). s .0 .visits) e ∙ visits-visit R (m, w) in (
-          record {
-            len = ap (λ (s : Marker × List ℕ). length (s .1)) e ∙ (visit-keeps R (m, w) length (length-setCell R) ∙ h .going .len);
-            rest = λ u run.
-                let (k, q, left) = h .going .rest u run in
-                let (v, fewer, (j, others)) = visits-next R n left (omega arith) (h .bounded) in
-                (j, q, rw e others);
-          },
-          omega (arith, once, next .1, ends .fits, h .most),
-        )
+-- with a cell in hand a visit can be made, and counted
+pub hand-visit : {R n : ℕ} {s : Marker × List ℕ} → InHand R n s → Visitable R n s × (poolLength R n ≤ length (s .1)) × (s .0 .visits + 1 < 2 ^ 32)
+hand-visit {R} {n} h =
+    let (v, fewer, others) = visits-next R n (h .ending .visits) (h .ending .past) (h .bounded) in
+    (v, h .room, omega (arith, fewer, h .ending .fits))
 
-    -- and where a cell is in hand after it, the turn can go on
-    pub in-hand-again : m' .cell ≤ n → InHand R n p c w₀ top w' m'
-    in-hand-again bounded = record { going = in-hand-next .0; bounded = bounded; most = omega (arith, in-hand-next .1) }
+-- where the cell stays in hand after a visit the turn goes on, and else it is over
+module _ (R : ℕ) (s : Marker × List ℕ) {t : Marker × List ℕ} (visited : t ≡ visitOf R s) where
+  pub hand-again : {n : ℕ} → InHand R n s → t .0 .cell ≡ s .0 .cell → InHand R n t
+  hand-again {n} h stays =
+      let on : Leads R n s t = rw visited (leads-visit R n (leads-here R n s) (h .bounded)) in
+      hand-from R n (h .ending) (h .room) on (omega (arith, h .bounded))
+
+  pub turn-once : t ≡ turnOf R 0 s
+  unfolding turnOf
+  turn-once = visited
+
+  pub turn-again : (k : ℕ) → t .0 .cell ≡ s .0 .cell → {u : Marker × List ℕ} → u ≡ turnOf R k t → u ≡ turnOf R (suc k) s
+  unfolding turnOf
+  turn-again k stays made = rw (← visited, eq-eqb (t .0 .cell) (s .0 .cell) stays) made
+
+  pub turn-moved : (k : ℕ) → (t .0 .cell ≡ s .0 .cell → ⊥) → t ≡ turnOf R (suc k) s
+  unfolding turnOf
+  turn-moved k moved = rw (← visited, ne-eqb (t .0 .cell) (s .0 .cell) moved) refl
+
+-- it is counted, and leaves fewer numbers to count with
+turn-counts : (R k : ℕ) (s : Marker × List ℕ) → s .0 .visits < turnOf R k s .0 .visits
+unfolding turnOf
+turn-counts R zero s = omega (arith, visits-visit R s)
+turn-counts R (suc k) s = go (eqb (visitOf R s .0 .cell) (s .0 .cell)) (turn-counts R k (visitOf R s))
+  where
+    go : (t : Bool) → visitOf R s .0 .visits < turnOf R k (visitOf R s) .0 .visits
+        → s .0 .visits < (cond t (turnOf R k (visitOf R s)) (visitOf R s)) .0 .visits
+    go true more = omega (arith, visits-visit R s)
+    go false more = omega (arith, visits-visit R s)
+
+module _ {R n : ℕ} (k : ℕ) {s s' t : Marker × List ℕ} (made : t ≡ turnOf R k s') (l : Leads R n s s') (bounded : s' .0 .cell ≤ n) where
+  pub turn-leads : Leads R n s t
+  turn-leads = rw made (leads-turn R n k l bounded)
+
+  pub turn-less : Ending R n s → 2 ^ 32 - t .0 .visits < 2 ^ 32 - s' .0 .visits
+  turn-less ends =
+      let after = ending-from R n ends turn-leads in
+      omega (arith, turn-counts R k s', ap (λ (x : Marker × List ℕ). x .0 .visits) made, counted R n (after .visits), after .fits)

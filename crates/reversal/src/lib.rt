@@ -2,25 +2,51 @@
 use pool::Pool;
 use visit::Marker;
 ghost use mathlib.Core.Path.{_≡_};
-ghost use Prim.Native.Nat.{ℕ, _≤_};
+ghost use Prim.Native.Nat.{ℕ, suc, _≤_};
 ghost use mathlib.Core.List.{List};
 ghost use mathlib.Core.Bool.{true};
 ghost use lib.ListN.{length};
 ghost use Rattle.pool.specs.Layout.{registerCount, cellLimit, poolLength};
 ghost use Rattle.questions.specs.Validity.{wellFormed};
+ghost use Rattle.visit.specs.Visit.{marker};
 ghost use Rattle.reversal.specs.Reversal.{Run};
-ghost use Rattle.reversal.specs.Steps.{EndingRun};
+ghost use Rattle.reversal.specs.Steps.{Ending, InHand, turnOf};
 ghost use Rattle.reversal.specs.ReversalTheorem.{markedOf};
 
-// The mark of a pair that was visited twice. A cell in hand that has a higher state is a point.
-const SECOND_MARK: u32 = 2;
+// The mark of a pair that was visited once.
+const FIRST_MARK: u32 = 1;
+
+// A visit of the cell in hand, and one more where it stays in hand.
+fn visit_twice(m: Marker, words: &mut [u32], n: u32) -> Marker
+    requires { ⌜ InHand registerCount n (m, now words) ⌝ }
+    ensures { λ r. ⌜ (r, now (words .exit)) ≡ turnOf registerCount 1 (m, now (words .entry)) ⌝ }
+{
+    let cell = m.cell;
+    let next = m.visit(words, n);
+    if next.cell != cell {
+        return next;
+    }
+    next.visit(words, n)
+}
+
+// The same with up to two more.
+fn visit_thrice(m: Marker, words: &mut [u32], n: u32) -> Marker
+    requires { ⌜ InHand registerCount n (m, now words) ⌝ }
+    ensures { λ r. ⌜ (r, now (words .exit)) ≡ turnOf registerCount 2 (m, now (words .entry)) ⌝ }
+{
+    let cell = m.cell;
+    let next = m.visit(words, n);
+    if next.cell != cell {
+        return next;
+    }
+    visit_twice(next, words, n)
+}
 
 // Marks from an unmarked link until the virtual root, which is no cell, is in hand. Gives the visits made so far. Gries makes one visit in a turn of
-// the loop; here a turn makes the visits of one cell as long as it stays in hand, three at most, so that the processor need not store and load its words between them; a
-// point has one, and is told apart first, so that no visit of a pair asks for it.
+// the loop; here a turn makes those that the cell in hand has left, as its state says, for as long as it stays in hand: so the processor need not store and load its words
+// between them, and the compiler knows the mark at each.
 fn mark_from(words: &mut [u32], n: u32, p: u32, visits: u32) -> u32
-    requires { ⌜ EndingRun registerCount n p (visits, now words) ⌝ }
-    requires { ⌜ (poolLength registerCount n ≤ length (now words)) × (n ≤ cellLimit) ⌝ }
+    requires { ⌜ (Ending registerCount n (marker p (suc n) visits, now words)) × (poolLength registerCount n ≤ length (now words)) × (n ≤ cellLimit) ⌝ }
     ensures { λ r. ⌜ ((u : ℕ × List ℕ) → Run registerCount n p (visits, now (words .entry)) u → _≡_ {A = ℕ × List ℕ} (r, now (words .exit)) u) ⌝ }
 {
     let mut m = Marker {
@@ -29,20 +55,14 @@ fn mark_from(words: &mut [u32], n: u32, p: u32, visits: u32) -> u32
         visits,
     };
     while m.cell <= n {
-        let cell = m.cell;
-        if SECOND_MARK < pool::read_cell(words, cell, Pool::STATE) {
+        let state = pool::read_cell(words, m.cell, Pool::STATE);
+        if state == Pool::PAIR {
+            m = visit_thrice(m, words, n);
+        } else if state == FIRST_MARK {
+            m = visit_twice(m, words, n);
+        } else {
             m = m.visit(words, n);
-            continue;
         }
-        m = m.visit(words, n);
-        if m.cell != cell {
-            continue;
-        }
-        m = m.visit(words, n);
-        if m.cell != cell {
-            continue;
-        }
-        m = m.visit(words, n);
     }
     m.visits
 }

@@ -33,7 +33,8 @@ mark-from-requires c κs =
     let at-loop = at-loop-test .before in
     let at-start = at-loop .before .before in (
       marking-ends _ _ _ (at-start .pre .0) (at-start .pre .1) _ _ _ _ (at-loop .loop .inv) (at-loop-test .loop-test .taken) (at-read-register .read-register .ensures) (at-start .pre .2) (sym (at-is-unmarked .is-unmarked .ensures) ∙ at-if1 .if1 .taken),
-      (omega (arith, at-start .pre .1, at-loop .loop .inv .len), at-start .pre .2),
+      omega (arith, at-start .pre .1, at-loop .loop .inv .len),
+      at-start .pre .2,
     )
 
 add-k : tie.Need-add-k Inv-loop μ-loop

@@ -1,156 +1,108 @@
--- `reversal::mark_from` meets its contract: the loop makes the visits of the run (`Going`), those of one cell in a turn (`InHand`); each is counted, and the count has an end.
+-- `reversal::mark_from` meets its contract: every turn of the loop leads on to the end of the run (`Leads`) and is counted, and the count has an end.
 use Rattle.reversal.proofs.mark_from.Statement.{statement}
 use Rattle.reversal.proofs.mark_from.Tie as tie
 use Rattle.reversal.proofs.mark_from.Reads as reads
 use Rattle.reversal.proofs.mark_from.Lts as lts
 use Rattle.pool.proofs.read_cell.Reads as read-cell-reads
+use Rattle.reversal.proofs.visit_thrice.Reads as visit-thrice-reads
+use Rattle.reversal.proofs.visit_twice.Reads as visit-twice-reads
 use Rattle.visit.proofs.Marker.visit.Reads as visit-reads
-use denote.Ref.{now}
-use Prim.Native.Nat.{_-_, _^_}
+use Prim.Native.Nat.{suc, _-_, _^_}
 use native.Mathlib.Omega.{arith}
 use native.Mathlib.Numerals.{add-one}
 use Rattle.pool.specs.Layout.{registerCount}
-use Rattle.reversal.proofs.RunLoop.{Going, going-first, going-last, InHand, in-hand, in-hand-visit, in-hand-next, in-hand-again}
+use Rattle.visit.specs.Visit.{marker}
+use Rattle.reversal.specs.Steps.{InHand}
+use Rattle.reversal.proofs.RunLoop.{Leads, leads-here, leads-last, hand-from, hand-visit, turn-once, turn-leads, turn-less}
 
 abbrev Inv-loop : tie.InvT-loop
-Inv-loop words₀ n p visits m₀ words m = Going registerCount n p visits words₀ words m
+Inv-loop words₀ n p visits m₀ words m = Leads registerCount n (marker p (suc n) visits, words₀) (m, words)
 
 abbrev μ-loop : tie.MeasureT-loop
 μ-loop words₀ n p visits m₀ words m = 2 ^ 32 - m .visits
 
 abbrev claims : lts.Claims
-claims = (read-cell-reads.Asked, read-cell-reads.Learnt, visit-reads.Asked, visit-reads.Learnt)
+claims = (
+  read-cell-reads.Asked,
+  read-cell-reads.Learnt,
+  visit-thrice-reads.Asked,
+  visit-thrice-reads.Learnt,
+  visit-twice-reads.Asked,
+  visit-twice-reads.Learnt,
+  visit-reads.Asked,
+  visit-reads.Learnt,
+)
 
 -- a cell is in hand at the beginning of a turn
-first : (c : lts.Then1 claims reads.Pre reads.Post Inv-loop μ-loop)
-    → let at-loop = c .before .before in
-    let s = at-loop .before .before in
-    InHand registerCount (s .args .n) (s .args .p) (s .args .visits) (now (s .args .words)) (2 ^ 32 - at-loop .loop .m .visits) (at-loop .loop .words)
-    (at-loop .loop .m)
-first c = in-hand (c .before .before .loop .inv) (c .if1 .taken)
-
--- it still is after a visit of a pair
-second : (c : lts.Else3 claims reads.Pre reads.Post Inv-loop μ-loop)
-    → let at-visit = c .before .before .before .before in
-    let at-loop = at-visit .before .before .before .before .before .before .before in
-    let s = at-loop .before .before in
-    InHand registerCount (s .args .n) (s .args .p) (s .args .visits) (now (s .args .words)) (2 ^ 32 - at-loop .loop .m .visits) (at-visit .visit2 .last .1 .0)
-    (at-visit .visit2 .result)
-second c =
-    let at-visit = c .before .before .before .before in
-    let at-first = at-visit .before .before .before .before .before in
-    let ends = at-first .before .before .before .before .pre .0 in
-    in-hand-again (first at-first) ends (at-visit .visit2 .ensures) (omega (arith, first at-first .bounded, c .if3 .left))
-
--- and after two
-third : (c : lts.Else4 claims reads.Pre reads.Post Inv-loop μ-loop)
-    → let at-visit = c .before .before .before .before in
-    let at-loop = at-visit .before .before .before .before .before .before .before .before .before .before .before .before .before in
-    let s = at-loop .before .before in
-    InHand registerCount (s .args .n) (s .args .p) (s .args .visits) (now (s .args .words)) (2 ^ 32 - at-loop .loop .m .visits) (at-visit .visit3 .last .1 .0)
-    (at-visit .visit3 .result)
-third c =
-    let at-visit = c .before .before .before .before in
-    let at-second = at-visit .before .before in
-    let at-first = at-second .before .before .before .before .before .before .before .before .before in
-    let ends = at-first .before .before .before .before .pre .0 in
-    in-hand-again (second at-second) ends (at-visit .visit3 .ensures) (omega (arith, first at-first .bounded, c .if4 .left))
+turn : (c : lts.Then1 claims reads.Pre reads.Post Inv-loop μ-loop)
+    → let at-loop = c .before .before in InHand registerCount (at-loop .before .before .args .n) (at-loop .loop .m, at-loop .loop .words)
+turn c =
+    let at-loop = c .before .before in
+    let start = at-loop .before .before in
+    hand-from _ _ (start .pre .0) (start .pre .1) (at-loop .loop .inv) (c .if1 .taken)
 
 add-t7 : tie.Need-add-t7 Inv-loop μ-loop
-add-t7 c = omega (arith, c .before .pre .1 .1)
+add-t7 c = omega (arith, c .before .pre .2)
 
 loop-holds : tie.Need-loop-holds Inv-loop μ-loop
-loop-holds c = going-first _ _ _ _ _ _ (add-one _)
+loop-holds c = rw (add-one (c .before .args .n)) (leads-here _ _ _)
 
 read-cell-requires : tie.Need-read-cell-requires Inv-loop μ-loop
 read-cell-requires c κs =
-    let at-start = c .before .before .before .before .before in
-    let (visitable, room, fits) = in-hand-visit (first (c .before)) (at-start .pre .0) (at-start .pre .1 .0) in
+    let (visitable, room, fits) = hand-visit (turn (c .before)) in
     (visitable .positive, omega arith, omega (arith, room, visitable .bounded))
 
+visit-thrice-requires : tie.Need-visit-thrice-requires Inv-loop μ-loop
+visit-thrice-requires c κs = turn (c .before .before .before .before)
+
+visit-twice-requires : tie.Need-visit-twice-requires Inv-loop μ-loop
+visit-twice-requires c κs = turn (c .before .before .before .before .before)
+
 visit-requires : tie.Need-visit-requires Inv-loop μ-loop
-visit-requires c κs =
-    let at-first = c .before .before .before .before in
-    let at-start = at-first .before .before .before .before in
-    in-hand-visit (first at-first) (at-start .pre .0) (at-start .pre .1 .0)
+visit-requires c κs = hand-visit (turn (c .before .before .before .before .before))
 
-visit-requires-2 : tie.Need-visit-requires-2 Inv-loop μ-loop
-visit-requires-2 c κs =
-    let at-first = c .before .before .before .before in
-    let at-start = at-first .before .before .before .before in
-    in-hand-visit (first at-first) (at-start .pre .0) (at-start .pre .1 .0)
-
-visit-requires-3 : tie.Need-visit-requires-3 Inv-loop μ-loop
-visit-requires-3 c κs =
-    let at-first = c .before .before .before .before .before .before .before .before .before .before in
-    let at-start = at-first .before .before .before .before in
-    in-hand-visit (second (c .before)) (at-start .pre .0) (at-start .pre .1 .0)
-
-visit-requires-4 : tie.Need-visit-requires-4 Inv-loop μ-loop
-visit-requires-4 c κs =
-    let at-second = c .before .before .before .before .before .before .before in
-    let at-first = at-second .before .before .before .before .before .before .before .before .before in
-    let at-start = at-first .before .before .before .before in
-    in-hand-visit (third (c .before)) (at-start .pre .0) (at-start .pre .1 .0)
-
--- after the visit of a point, and where another cell is in hand after the first, the second or the third visit of a pair, the loop goes on
+-- after each kind of turn the loop goes on
 loop-again : tie.Need-loop-again Inv-loop μ-loop
 loop-again c =
-    let at-visit = c .before .before in
-    let at-first = at-visit .before .before .before .before .before in
-    in-hand-next (first at-first) (at-first .before .before .before .before .pre .0) (at-visit .visit .ensures) .0
+    let at-turn = c .before .before in
+    let at-if = at-turn .before .before .before .before .before in
+    turn-leads 2 (at-turn .visit-thrice .ensures) (at-if .before .before .loop .inv) (at-if .if1 .taken)
 
 loop-less : tie.Need-loop-less Inv-loop μ-loop
 loop-less c =
-    let at-visit = c .before .before in
-    let at-first = at-visit .before .before .before .before .before in
-    in-hand-next (first at-first) (at-first .before .before .before .before .pre .0) (at-visit .visit .ensures) .1
+    let at-turn = c .before .before in
+    let at-if = at-turn .before .before .before .before .before in
+    turn-less 2 (at-turn .visit-thrice .ensures) (at-if .before .before .loop .inv) (at-if .if1 .taken) (at-if .before .before .before .before .pre .0)
 
 loop-again-2 : tie.Need-loop-again-2 Inv-loop μ-loop
 loop-again-2 c =
-    let at-visit = c .before .before .before .before in
-    let at-first = at-visit .before .before .before .before .before in
-    in-hand-next (first at-first) (at-first .before .before .before .before .pre .0) (at-visit .visit2 .ensures) .0
+    let at-turn = c .before .before in
+    let at-if = at-turn .before .before .before .before .before .before in
+    turn-leads 1 (at-turn .visit-twice .ensures) (at-if .before .before .loop .inv) (at-if .if1 .taken)
 
 loop-less-2 : tie.Need-loop-less-2 Inv-loop μ-loop
 loop-less-2 c =
-    let at-visit = c .before .before .before .before in
-    let at-first = at-visit .before .before .before .before .before in
-    in-hand-next (first at-first) (at-first .before .before .before .before .pre .0) (at-visit .visit2 .ensures) .1
+    let at-turn = c .before .before in
+    let at-if = at-turn .before .before .before .before .before .before in
+    turn-less 1 (at-turn .visit-twice .ensures) (at-if .before .before .loop .inv) (at-if .if1 .taken) (at-if .before .before .before .before .pre .0)
 
 loop-again-3 : tie.Need-loop-again-3 Inv-loop μ-loop
 loop-again-3 c =
-    let at-visit = c .before .before .before .before in
-    let at-second = at-visit .before .before in
-    let at-first = at-second .before .before .before .before .before .before .before .before .before in
-    in-hand-next (second at-second) (at-first .before .before .before .before .pre .0) (at-visit .visit3 .ensures) .0
+    let at-turn = c .before .before in
+    let at-if = at-turn .before .before .before .before .before .before in
+    turn-leads 0 (turn-once registerCount _ (at-turn .visit .ensures)) (at-if .before .before .loop .inv) (at-if .if1 .taken)
 
 loop-less-3 : tie.Need-loop-less-3 Inv-loop μ-loop
 loop-less-3 c =
-    let at-visit = c .before .before .before .before in
-    let at-second = at-visit .before .before in
-    let at-first = at-second .before .before .before .before .before .before .before .before .before in
-    in-hand-next (second at-second) (at-first .before .before .before .before .pre .0) (at-visit .visit3 .ensures) .1
-
-loop-again-4 : tie.Need-loop-again-4 Inv-loop μ-loop
-loop-again-4 c =
-    let at-third = c .before .before .before .before in
-    let at-second = at-third .before .before .before .before .before .before in
-    let at-first = at-second .before .before .before .before .before .before .before .before .before in
-    in-hand-next (third at-third) (at-first .before .before .before .before .pre .0) (c .before .before .visit4 .ensures) .0
-
-loop-less-4 : tie.Need-loop-less-4 Inv-loop μ-loop
-loop-less-4 c =
-    let at-third = c .before .before .before .before in
-    let at-second = at-third .before .before .before .before .before .before in
-    let at-first = at-second .before .before .before .before .before .before .before .before .before in
-    in-hand-next (third at-third) (at-first .before .before .before .before .pre .0) (c .before .before .visit4 .ensures) .1
+    let at-turn = c .before .before in
+    let at-if = at-turn .before .before .before .before .before .before in
+    turn-less 0 (turn-once registerCount _ (at-turn .visit .ensures)) (at-if .before .before .loop .inv) (at-if .if1 .taken) (at-if .before .before .before .before .pre .0)
 
 same-length : tie.Need-same-length Inv-loop μ-loop
 same-length c = c .before .before .loop .inv .len
 
 returns : tie.Need-returns Inv-loop μ-loop
-returns c = going-last (c .before .before .loop .inv) (c .if1 .left)
+returns c = leads-last _ _ (c .before .before .loop .inv) (c .if1 .left)
 
 pub mark-from-spec : {M : Type 1} → statement M
 mark-from-spec =
@@ -161,17 +113,14 @@ mark-from-spec =
     add-t7
     loop-holds
     read-cell-requires
-    visit-requires
+    visit-thrice-requires
     loop-less
     loop-again
-    visit-requires-2
+    visit-twice-requires
     loop-less-2
     loop-again-2
-    visit-requires-3
+    visit-requires
     loop-less-3
     loop-again-3
-    visit-requires-4
-    loop-less-4
-    loop-again-4
     same-length
     returns)
