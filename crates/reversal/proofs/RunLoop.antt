@@ -150,7 +150,10 @@ module _ (R : ℕ) (s : Marker × List ℕ) {t : Marker × List ℕ} (visited : 
   unfolding turnOf
   turn-moved k moved = rw (← visited, ne-eqb (t .0 .cell) (s .0 .cell) moved) refl
 
--- it is counted, and leaves fewer numbers to count with
+pub turn-by : (R j k : ℕ) (s : Marker × List ℕ) {t : Marker × List ℕ} → t ≡ turnOf R k s → j ≡ k → t ≡ turnOf R j s
+turn-by R j k s made same = rw same made
+
+-- a turn is counted, and leaves fewer numbers to count with
 turn-counts : (R k : ℕ) (s : Marker × List ℕ) → s .0 .visits < turnOf R k s .0 .visits
 unfolding turnOf
 turn-counts R zero s = omega (arith, visits-visit R s)

@@ -1,5 +1,5 @@
 -- `recursive_marker::visit` meets its contract: its calls may rely on what the visits of the two links need (`CellVisit`); the depth left falls.
-use Prim.Native.Nat.{ℕ}
+use Prim.Native.Nat.{ℕ, _<_}
 use native.Mathlib.Omega.{arith}
 use mathlib.Core.Path.{refl, sym, _∙_}
 use borrow.Fn.Kinds.{In}

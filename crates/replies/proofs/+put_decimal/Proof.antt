@@ -1,5 +1,5 @@
 -- The proof of the cycle of calls {put_decimal}: the digits of a tenth of the number, and then its last digit. The measure is the number.
-use Prim.Native.Nat.{ℕ}
+use Prim.Native.Nat.{ℕ, _<_}
 use mathlib.Core.Path.{ap, _∙_}
 use native.Mathlib.Omega.{arith}
 use lib.ListN.{length}
