@@ -137,7 +137,8 @@ pub struct Rest {
     pub at: usize,
 }
 
-// Reads the pairs that some cells of an image of k cells begin with. What is left is read with the same answer as all of them.
+// Reads the pairs that some cells of an image of k cells begin with. What is left is read with the same answer as all of them; how much that is, which only
+// time depends on, is not promised.
 fn skip_pairs(bytes: &[u8], start: usize, k: u32, count: u32) -> Rest
     ensures { λ r. ⌜ (placeOf (readEach (readCell k (now (bytes .entry))) (r .left) (r .at)) ≡ placeOf (readEach (readCell k (now (bytes .entry))) count start)) × (r .left ≤ count) ⌝ }
 {

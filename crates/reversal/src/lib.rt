@@ -44,8 +44,8 @@ fn visit_thrice(m: Marker, words: &mut [u32], n: u32) -> Marker
     visit_twice(next, words, n)
 }
 
-// A turn of the loop: the visits that the cell in hand has left, as its state says, for as long as it stays in hand. A point has one, and so has a pair that was
-// visited twice.
+// A turn of the loop: a visit of the cell in hand, and then the others that it has left, 2 less its mark, for as long as it stays in hand. A point, whose
+// state is above 2, has no other.
 fn turn(m: Marker, words: &mut [u32], n: u32) -> Marker
     requires { ⌜ InHand registerCount n (m, now words) ⌝ }
     ensures { λ r. ⌜ (r, now (words .exit)) ≡ turnOf registerCount (2 - state registerCount (now (words .entry)) (m .cell)) (m, now (words .entry)) ⌝ }
