@@ -56,10 +56,13 @@ unfolding marks
 marks-keeps m [] y h = h
 marks-keeps m (x ∷ t) y h = marks-keeps (mark m x) t y (mark-keeps m x y h)
 
-pub marks-member : (m : ℕ → ℕ) {t : List ℕ} (y : ℕ) → Memᴰ y t → 0 < marks m t y
+marks_of : {y : ℕ} {t : List ℕ} (m : ℕ → ℕ) → Memᴰ y t → 0 < marks m t y
 unfolding marks
-marks-member m y (Memᴰ.head {x = x} {xs = t} e) = marks-keeps (mark m x) t y (mark_self m x y e)
-marks-member m y (Memᴰ.tail {x = x} {xs = t} h) = marks-member (mark m x) {t = t} y h
+marks_of {y = y} m (Memᴰ.head {x = x} {xs = t} e) = marks-keeps (mark m x) t y (mark_self m x y e)
+marks_of m (Memᴰ.tail {x = x} h) = marks_of (mark m x) h
+
+pub marks-member : (m : ℕ → ℕ) {t : List ℕ} (y : ℕ) → Memᴰ y t → 0 < marks m t y
+marks-member m y h = marks_of m h
 
 pub marks_cases : (m : ℕ → ℕ) (t : List ℕ) (y : ℕ) → 0 < marks m t y → Memᴰ y t ⊎ (0 < m y)
 unfolding marks

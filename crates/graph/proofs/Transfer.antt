@@ -39,7 +39,7 @@ same-mark {m} {f} p s x = (mark_along m f p p x x (λ e. e) (s x).0, mark_along 
 pub same-marks : {m f : ℕ → ℕ} (t : List ℕ) → Same m f → Same (marks m t) (marks f t)
 unfolding marks
 same-marks [] s = s
-same-marks (p ∷ t) s = same-marks t (same-mark p s)
+same-marks {m = m} {f = f} (p ∷ t) s = same-marks {m = mark m p} {f = mark f p} t (same-mark p s)
 
 module _ {g h : Graph} where
   -- A visit marks the same cells in the second graph, from marks of the same numbers.
