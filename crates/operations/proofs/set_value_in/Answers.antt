@@ -1,0 +1,13 @@
+-- `operations::set_value_in` meets its contract: the value is written to the cell that a holds.
+use native.Mathlib.Omega.{arith}
+use Rattle.operations.proofs.Bodies.{cell_there, with_cell_lem, with_none}
+use Rattle.operations.proofs.set_value_in.Goals as goal
+
+pub write_cell-requires : goal.write_cell-requires
+write_cell-requires c = omega (arith, cell_there _ _ _ c.held_cell.ensures c.in-Cell.is)
+
+pub returns-in-Cell : goal.returns-in-Cell
+returns-in-Cell c = with_cell_lem _ c.held_cell.ensures _ c.in-Cell.is (simp c.write_cell.ensures)
+
+pub returns-in-Refused : goal.returns-in-Refused
+returns-in-Refused c = with_none _ c.held_cell.ensures _ c.in-Refused.is
