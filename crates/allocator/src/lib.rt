@@ -1,4 +1,6 @@
 // The allocation of a cell: "new" and "point" behind their first two questions. Functions take the number of cells, n, of a pool, and valid registers.
+#![tactic(auto)]
+
 ghost use Rattle.std.specs.Prelude.{◌≡◌, ◌<◌, ◌≤◌, length};
 ghost use Rattle.pool.specs.Layout.{cell_limit, register_count, pool_length, head};
 ghost use Rattle.answers.specs.Outcome.{answer_outcome};

@@ -1,9 +1,11 @@
 // Why an operation is refused, what it answers, and the numbers of an answer.
+#![tactic(auto)]
+
 ghost use Rattle.std.specs.Prelude.{◌≡◌};
 ghost use Rattle.answers.specs.Outcome.{refusal_number, status, given, answer_outcome};
 
 // Why a call is refused.
-#[derive(Drop)]
+#[derive(Clone, Copy)]
 pub enum Refusal {
     // The words are no pool: their length, or their number of cells; or N or the kept cells are out of range.
     Size,
@@ -36,7 +38,7 @@ pub enum Refusal {
 }
 
 // What an operation answers.
-#[derive(Drop)]
+#[derive(Clone, Copy)]
 pub enum Answer {
     // Done, with nothing to tell.
     Done,

@@ -1,4 +1,6 @@
 // Runs a list of calls that stands in lent words, and writes the answers to lent words.
+#![tactic(auto)]
+
 ghost use Rattle.std.specs.Prelude.{◌≡◌, ◌+◌, ◌*◌, ◌≤◌, length};
 ghost use Rattle.answers.specs.Outcome.{answer_outcome};
 ghost use Rattle.batch.specs.Program.{call_numbered};
@@ -9,14 +11,14 @@ use answers::Answer;
 use calls::Call;
 
 // The call of an entry of the list.
-#[derive(Drop)]
+#[derive(Clone, Copy)]
 pub enum Decoded {
     Known(Call),
     Unknown,
 }
 
 // How a run ended, and how many calls ran.
-#[derive(Drop)]
+#[derive(Clone, Copy)]
 pub enum Ran {
     // At the end of the list.
     All(usize),

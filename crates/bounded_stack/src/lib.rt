@@ -1,4 +1,6 @@
 // Marking with a lent stack, whose entries are checked where its words are full.
+#![tactic(auto)]
+
 ghost use Rattle.std.specs.Prelude.{◌≡◌, [], ◌∷◌, ◌≤◌, length, true};
 ghost use Rattle.pool.specs.Layout.{register_count, pool_length};
 ghost use Rattle.questions.specs.Validity.{well_formed};
@@ -9,7 +11,7 @@ use pool::Pool;
 use stack_check::Onward;
 
 // How a marking went: was the stack enough, and how many checks ran?
-#[derive(Drop)]
+#[derive(Clone, Copy)]
 pub struct Marking {
     pub enough: bool,
     pub checks: u32,

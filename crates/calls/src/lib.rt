@@ -1,5 +1,7 @@
 // The fourteen calls on a pool. Each asks the first two questions and then runs its body, which is in `operations`, `allocator` or `collector`. They take
 // any words and any numbers.
+#![tactic(auto)]
+
 ghost use Rattle.std.specs.Prelude.{◌≡◌};
 ghost use Rattle.answers.specs.Outcome.{answer_outcome};
 ghost use Rattle.calls.specs.Calls.{names, call_of};
@@ -9,7 +11,7 @@ use pool::Pool;
 use questions::{Admitted, Named};
 
 // A call: r, a and b are register numbers, v is a value, x and y are coordinates.
-#[derive(Drop)]
+#[derive(Clone, Copy)]
 pub enum Call {
     Copy { r: u32, a: u32 },
     Clear { r: u32 },

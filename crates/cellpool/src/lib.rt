@@ -1,5 +1,7 @@
 // The pool as the firmware calls it: every operation as a C function. Each answers 0 or the number of its refusal, asks nothing of its arguments, and
 // stores the numbers that it gives in lent places; a refusal neither reads nor writes these.
+#![tactic(auto)]
+
 ghost use Rattle.std.specs.Prelude.{◌≡◌, cond};
 ghost use Rattle.answers.specs.Outcome.{answer_outcome};
 ghost use Rattle.pool.specs.Fresh.{fresh_of};

@@ -1,4 +1,6 @@
 // The collection: it marks by link reversal, and sweeps.
+#![tactic(auto)]
+
 ghost use Rattle.std.specs.Prelude.{◌≡◌, ◌≤◌, length};
 ghost use Rattle.pool.specs.Layout.{register_count, cell_limit, pool_length};
 ghost use Rattle.answers.specs.Outcome.{answer_outcome};

@@ -1,5 +1,7 @@
 // A marker without reversal and without a stack: passes over all cells until a pass marks nothing more. The marks stand in words of their own, mark i
 // for cell i, and the pool is only read.
+#![tactic(auto)]
+
 ghost use Rattle.std.specs.Prelude.{◌≡◌, ℕ, ◌<◌, ◌≤◌, true, length};
 ghost use Rattle.pool.specs.Layout.{register_count, pool_length};
 ghost use Rattle.questions.specs.Validity.{well_formed};

@@ -1,4 +1,6 @@
 // Reading an image number by number: each with its bound, or why it is refused.
+#![tactic(auto)]
+
 ghost use Rattle.std.specs.Prelude.{◌≡◌};
 ghost use Rattle.image.specs.Image.{at_most, read_number, read_count, read_link, read_kind, read_word};
 ghost use Rattle.image_reader.specs.Steps.{field_parsed, highest_word};
@@ -7,7 +9,7 @@ use answers::Refusal;
 use leb128::Number;
 
 // A number of an image, and the place behind it, or why it is refused.
-#[derive(Drop)]
+#[derive(Clone, Copy)]
 pub enum Field {
     Value { value: u32, next: usize },
     Refused(Refusal),

@@ -1,4 +1,6 @@
 // The scan of a whole image, and the check of an image.
+#![tactic(auto)]
+
 ghost use Rattle.std.specs.Prelude.{◌≡◌, ◌+◌, ◌<◌, ◌≤◌, length};
 ghost use Rattle.pool.specs.Layout.{register_count};
 ghost use Rattle.image.specs.Image.{read_number, read_link, read_cell, read_each, read_image};
@@ -10,14 +12,14 @@ use image_reader::Field;
 use pool::Pool;
 
 // The place behind some numbers of an image, or why they are refused.
-#[derive(Drop)]
+#[derive(Clone, Copy)]
 pub enum Place {
     Behind(usize),
     Refused(Refusal),
 }
 
 // What stands at the start of the bytes.
-#[derive(Drop)]
+#[derive(Clone, Copy)]
 pub enum Scan {
     // An image with this number of cells, and the place behind it.
     Whole { cells: u32, end: usize },
@@ -133,7 +135,7 @@ fn pair_end(bytes: &[u8], at: usize, k: u32) -> usize
 }
 
 // Cells of an image that are still to be read: how many, and where they start.
-#[derive(Drop)]
+#[derive(Clone, Copy)]
 pub struct Rest {
     pub left: u32,
     pub at: usize,

@@ -1,4 +1,6 @@
 // The bytes of the image of a pool whose cells are numbered in lent scratch: how many there are, and writing them.
+#![tactic(auto)]
+
 ghost use Rattle.std.specs.Prelude.{◌≡◌, ◌++◌, false, ◌+◌, ◌<◌, ◌≤◌, length, get_or, drop};
 ghost use Rattle.pool.specs.Layout.{register_count, roots_of};
 ghost use Rattle.reversal.specs.Reached.{reached_cells, reached_count};

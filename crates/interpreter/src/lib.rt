@@ -1,4 +1,6 @@
 // Scripts on a pool: what a line does to the pool, and what is printed for it.
+#![tactic(auto)]
+
 ghost use Rattle.std.specs.Prelude.{◌≡◌, ◌≤◌, length};
 ghost use Rattle.replies.specs.Replies.{reply_text};
 ghost use Rattle.interpreter.specs.Execute.{used_of, size_of, execute_of};
@@ -10,7 +12,7 @@ use pool::Pool;
 use replies::Reply;
 
 // What a line leaves beside the words: how many of them are the pool's, and what is printed.
-#[derive(Drop)]
+#[derive(Clone, Copy)]
 pub struct Turn {
     pub used: usize,
     pub reply: Reply,

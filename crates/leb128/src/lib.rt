@@ -1,9 +1,11 @@
 // Numbers in groups of seven bits, lowest first: unsigned LEB128 of 32 bits.
+#![tactic(auto)]
+
 ghost use Rattle.std.specs.Prelude.{◌≡◌, ◌++◌, ◌+◌, ◌≤◌, length, take, drop};
 ghost use Rattle.leb128.specs.Leb128.{encode, read_at};
 
 // What a reader finds at a place of the bytes.
-#[derive(Drop)]
+#[derive(Clone, Copy)]
 pub enum Number {
     // A number, and the place behind its last byte.
     Value { value: u32, next: usize },

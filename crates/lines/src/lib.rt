@@ -1,11 +1,13 @@
 // The lines of scripts: what a letter and its numbers say.
+#![tactic(auto)]
+
 ghost use Rattle.std.specs.Prelude.{◌≡◌, [], ◌∷◌};
 ghost use Rattle.lines.specs.Lines.{command};
 
 use calls::Call;
 
 // What a line says.
-#[derive(Drop)]
+#[derive(Clone, Copy)]
 pub enum Line {
     Bad,
     // Make the pool anew, of that many cells.

@@ -1,4 +1,6 @@
 // Load: an image becomes a pool.
+#![tactic(auto)]
+
 ghost use Rattle.std.specs.Prelude.{◌≡◌, ℕ, ◌<◌, ◌≤◌, length};
 ghost use Rattle.pool.specs.Layout.{register_count, pool_length, set_register};
 ghost use Rattle.image.specs.Image.{read_link, read_cell, read_each, read_image};
@@ -11,7 +13,7 @@ use image_scan::Scan;
 use pool::Pool;
 
 // What load answers: 0 or the refusal's number, and where the bytes behind the image start.
-#[derive(Drop)]
+#[derive(Clone, Copy)]
 pub struct Loaded {
     pub verdict: u32,
     pub end: usize,

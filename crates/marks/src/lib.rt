@@ -1,4 +1,6 @@
 // The marks of cells, and the sweep, which rebuilds the free list of those that are not marked.
+#![tactic(auto)]
+
 ghost use Rattle.std.specs.Prelude.{◌≡◌, true, ◌<◌, ◌≤◌, length};
 ghost use Rattle.pool.specs.Layout.{register_count, pool_length, state, mark_cell, unmark_cell};
 ghost use Rattle.pool.specs.States.{is_used, is_marked};

@@ -1,4 +1,6 @@
 // The reached cells of a pool, numbered in the order of the visits.
+#![tactic(auto)]
+
 ghost use Rattle.std.specs.Prelude.{◌≡◌, ◌*◌, ◌≤◌, length};
 ghost use Rattle.pool.specs.Layout.{register_count};
 ghost use Rattle.reversal.specs.Reached.{reached_count};

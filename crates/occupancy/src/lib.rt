@@ -1,4 +1,6 @@
 // The occupancy of a pool.
+#![tactic(auto)]
+
 ghost use Rattle.std.specs.Prelude.{◌≡◌};
 ghost use Rattle.answers.specs.Outcome.{answer_outcome};
 ghost use Rattle.occupancy.specs.Occupancy.{occupancy_of};

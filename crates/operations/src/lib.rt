@@ -1,5 +1,7 @@
 // The bodies of the calls but `new`, `point` and `collect`: each is a call behind its first two questions. The words hold n cells, and every register number is
 // below the register count.
+#![tactic(auto)]
+
 ghost use Rattle.std.specs.Prelude.{◌≡◌, ◌<◌, ◌≤◌, length, true};
 ghost use Rattle.pool.specs.Layout.{register_count, pool_length, state};
 ghost use Rattle.pool.specs.States.{is_used};
@@ -11,7 +13,7 @@ use pool::Pool;
 use questions::Held;
 
 // The cell that a register holds, or why the call is refused.
-#[derive(Drop)]
+#[derive(Clone, Copy)]
 pub enum HeldCell {
     Cell(u32),
     Refused(Refusal),

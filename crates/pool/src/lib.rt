@@ -1,6 +1,8 @@
 // The words of a pool of cells: where everything stands, reads and writes of cells and registers, and fresh words.
 //
 // Functions that take a cell's number, or the number of cells, ask that the words hold so many.
+#![tactic(auto)]
+
 ghost use Rattle.std.specs.Prelude.{◌≡◌, ◌<◌, ◌≤◌, length, replicate, leb};
 ghost use Rattle.pool.specs.Layout.{register_count, pool_length, cell_count_of_length, cell, set_cell, put_cell, is_point_at, link_of, register, set_register, head, set_head};
 ghost use Rattle.pool.specs.States.{is_point, is_used, is_free};
@@ -12,7 +14,7 @@ ghost use Rattle.pool.specs.Fresh.{fresh_of};
 use answers::{Answer, Refusal};
 
 // The pool: its limits, and where everything stands in its words.
-#[derive(Drop)]
+#[derive(Clone, Copy)]
 pub struct Pool {}
 
 impl Pool {

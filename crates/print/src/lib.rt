@@ -1,4 +1,6 @@
 // What the examples print: a line of a label and numbers, or of a label and an answer.
+#![tactic(auto)]
+
 use answers::Answer;
 use libc::STDOUT_FILENO;
 use replies::{Reply, Written};

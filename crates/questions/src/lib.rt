@@ -1,4 +1,6 @@
 // The questions that are asked of a pool's words before anything else: is this a pool, are these registers, is a link valid, is the pool well-formed?
+#![tactic(auto)]
+
 ghost use Rattle.std.specs.Prelude.{◌≡◌, ◌<◌, ◌≤◌, length};
 ghost use Rattle.pool.specs.Layout.{register_count, pool_length};
 ghost use Rattle.questions.specs.Validity.{valid_link, registers_valid, cells_valid, well_formed};
@@ -9,7 +11,7 @@ use answers::Refusal;
 use pool::Pool;
 
 // The registers that a call names. A call that names fewer than three repeats one.
-#[derive(Drop)]
+#[derive(Clone, Copy)]
 pub struct Named {
     pub first: u32,
     pub second: u32,
@@ -17,14 +19,14 @@ pub struct Named {
 }
 
 // The outcome of the first questions of an operation: the number of cells, or the refusal.
-#[derive(Drop)]
+#[derive(Clone, Copy)]
 pub enum Admitted {
     Cells(u32),
     Refused(Refusal),
 }
 
 // What a register holds: a valid link, or something else.
-#[derive(Drop)]
+#[derive(Clone, Copy)]
 pub enum Held {
     Link(u32),
     Malformed,

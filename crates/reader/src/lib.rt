@@ -1,4 +1,6 @@
 // A reader that is laid over bytes and advances number by number.
+#![tactic(auto)]
+
 ghost use Rattle.std.specs.Prelude.{◌≡◌};
 ghost use Rattle.leb128.specs.Leb128.{read_at};
 ghost use Rattle.reader.specs.Reading.{place_behind};
@@ -6,7 +8,7 @@ ghost use Rattle.reader.specs.Reading.{place_behind};
 use leb128::Number;
 
 // The bytes, and the place of the next number.
-#[derive(Drop)]
+#[derive(Clone, Copy)]
 pub struct Reader<'a> {
     pub bytes: &'a [u8],
     pub at: usize,

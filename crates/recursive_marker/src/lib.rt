@@ -1,4 +1,6 @@
 // The recursive procedure of Gries 2006 as a marker, for pools of at most 64 cells (01: bench marker).
+#![tactic(auto)]
+
 ghost use Rattle.std.specs.Prelude.{◌≡◌, ℕ, ◌≤◌, List, true, length};
 ghost use Rattle.pool.specs.Layout.{register_count, pool_length};
 ghost use Rattle.questions.specs.Validity.{well_formed};

@@ -1,4 +1,6 @@
 // The text of replies: what is printed for a line of a script.
+#![tactic(auto)]
+
 ghost use Rattle.std.specs.Prelude.{◌+◌, ◌<◌, ◌≤◌, ◌≡◌, [], ◌∷◌, length};
 ghost use Rattle.answers.specs.Outcome.{answer_outcome};
 ghost use Rattle.replies.specs.Replies.{decimal, after_space, spaced, outcome_text, reply_text, reply_room, PutText, reply_at};
@@ -6,7 +8,7 @@ ghost use Rattle.replies.specs.Replies.{decimal, after_space, spaced, outcome_te
 use answers::Answer;
 
 // What is printed for a line.
-#[derive(Drop)]
+#[derive(Clone, Copy)]
 pub enum Reply {
     // To a line of another form.
     Bad,
@@ -14,7 +16,7 @@ pub enum Reply {
 }
 
 // What a writer did.
-#[derive(Drop)]
+#[derive(Clone, Copy)]
 pub enum Written {
     // It wrote the text; the place behind its last byte.
     Next(usize),

@@ -1,4 +1,6 @@
 // Marking by link reversal: its visits from one register and from all.
+#![tactic(auto)]
+
 ghost use Rattle.std.specs.Prelude.{◌≡◌, ℕ, suc, ◌-◌, ◌≤◌, List, true, length};
 ghost use Rattle.pool.specs.Layout.{register_count, cell_limit, pool_length, state};
 ghost use Rattle.questions.specs.Validity.{well_formed};

@@ -1,4 +1,6 @@
 // Scripts that are read in parts and run on a pool, with replies that are written in parts.
+#![tactic(auto)]
+
 ghost use Rattle.std.specs.Prelude.{◌≡◌, ◌+◌, ◌&&◌, leb, ltb};
 ghost use Rattle.replies.specs.Replies.{reply_room};
 ghost use Rattle.runner.specs.Work.{HasRoom, LineRun, Advanced, Worked, initial, handed};
@@ -8,7 +10,7 @@ use replies::{Reply, Written};
 use script::{Found, LineReader};
 
 // How far a script is run.
-#[derive(Drop)]
+#[derive(Clone, Copy)]
 pub struct Progress {
     // How many words are the pool's.
     pub used: usize,

@@ -1,4 +1,6 @@
 // Runs a script from standard input, and writes the reply to each line to standard output. Its memory does not grow with the script.
+#![tactic(auto)]
+
 ghost use Rattle.std.specs.Prelude.{◌≡◌, true, ◌<◌, ◌≤◌, length};
 ghost use Rattle.replies.specs.Replies.{reply_room};
 ghost use Rattle.runscript.specs.Parts.{LinesRun, PartRun, Finished, ReadRun, Continued};
@@ -11,7 +13,7 @@ use runner::Progress;
 const WORDS: usize = Pool::FIRST_CELL + Pool::CELL_WORDS * Pool::CELLS as usize;
 
 // Where a script stands, and whether it goes on.
-#[derive(Drop)]
+#[derive(Clone, Copy)]
 struct Step {
     progress: Progress,
     more: bool,

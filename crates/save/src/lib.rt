@@ -1,4 +1,6 @@
 // The image of a pool, written to lent bytes.
+#![tactic(auto)]
+
 ghost use Rattle.std.specs.Prelude.{◌≡◌, ◌≤◌, length};
 ghost use Rattle.pool.specs.Layout.{register_count, cell_limit, pool_length};
 ghost use Rattle.image.specs.Image.{image_of};
@@ -9,7 +11,7 @@ use answers::Refusal;
 use questions::Admitted;
 
 // What `save` answers.
-#[derive(Drop)]
+#[derive(Clone, Copy)]
 pub enum Saved {
     // So many bytes were written.
     Bytes(usize),

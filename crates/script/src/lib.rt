@@ -1,4 +1,6 @@
 // The text of scripts, read a byte at a time.
+#![tactic(auto)]
+
 ghost use Rattle.std.specs.Prelude.{◌+◌, ◌<◌, ◌≤◌, ◌≡◌, drop};
 ghost use Rattle.lines.specs.Lines.{is_digit};
 ghost use Rattle.script.specs.Reader.{without_numbers, new_reader, bad_reader, space_of, letter_of, digit_of, feed_of, end_of, begun_of};
@@ -7,7 +9,7 @@ ghost use Rattle.script.specs.Scripts.{next_line};
 use lines::Line;
 
 // How far a line is read.
-#[derive(Drop)]
+#[derive(Clone, Copy)]
 pub struct LineReader {
     // No line that starts so is good.
     pub bad: bool,
@@ -23,7 +25,7 @@ pub struct LineReader {
 }
 
 // What a part of a script gives next.
-#[derive(Drop)]
+#[derive(Clone, Copy)]
 pub enum Found {
     // A line ends: what it says, and the place behind its line feed.
     Line { line: Line, next: usize },
@@ -32,7 +34,7 @@ pub enum Found {
 }
 
 // How far a reader has come.
-#[derive(Drop)]
+#[derive(Clone, Copy)]
 struct Reached {
     reader: LineReader,
     next: usize,

@@ -1,4 +1,6 @@
 // Where the stack marker goes on to from a cell, and the check of its entries where the lent words are full.
+#![tactic(auto)]
+
 ghost use Rattle.std.specs.Prelude.{◌≡◌, true, ◌<◌, ◌≤◌, length};
 ghost use Rattle.pool.specs.Layout.{register_count, pool_length, cell, link_of};
 ghost use Rattle.pool.specs.States.{is_marked};
@@ -11,7 +13,7 @@ use pool::Pool;
 const MARKED_BIT: u32 = 2;
 
 // Where the marker goes on to from a cell: with two links unmarked it goes to the left one and pushes the right one.
-#[derive(Drop)]
+#[derive(Clone, Copy)]
 pub enum Onward {
     Nowhere,
     To(u32),

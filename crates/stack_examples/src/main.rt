@@ -1,4 +1,6 @@
 // Tries what the customer's scope and change requests say of the collection with a stack, and prints each with its result.
+#![tactic(auto)]
+
 use answers::Answer;
 use pool::Pool;
 use stack_marker::StackAnswer;

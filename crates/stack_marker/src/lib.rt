@@ -1,4 +1,6 @@
 // Marking with a lent stack, by reversal where it is not enough, and the collection that marks so.
+#![tactic(auto)]
+
 ghost use Rattle.std.specs.Prelude.{◌≡◌, ◌≤◌, length, true};
 ghost use Rattle.pool.specs.Layout.{register_count, cell_limit, pool_length};
 ghost use Rattle.questions.specs.Validity.{well_formed};
@@ -9,7 +11,7 @@ use bounded_stack::Marking;
 use questions::Admitted;
 
 // What a collection with a lent stack answers.
-#[derive(Drop)]
+#[derive(Clone, Copy)]
 pub enum StackAnswer {
     // How many cells it kept, whether the stack was enough, and how many checks of its entries ran.
     Collected {

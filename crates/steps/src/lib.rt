@@ -1,4 +1,6 @@
 // One step: a call that stands in an enum, run on a pool.
+#![tactic(auto)]
+
 ghost use Rattle.std.specs.Prelude.{◌≡◌};
 ghost use Rattle.answers.specs.Outcome.{answer_outcome};
 ghost use Rattle.calls.specs.Calls.{call_of};
@@ -7,7 +9,7 @@ use answers::Answer;
 use calls::Call;
 
 // A call with its answer.
-#[derive(Drop)]
+#[derive(Clone, Copy)]
 pub struct Step {
     pub call: Call,
     pub answer: Answer,

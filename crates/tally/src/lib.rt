@@ -1,4 +1,6 @@
 // Collecting with a tally that the caller lends.
+#![tactic(auto)]
+
 ghost use Rattle.std.specs.Prelude.{◌≡◌};
 ghost use Rattle.answers.specs.Outcome.{answer_outcome};
 ghost use Rattle.tally.specs.TallyOf.{counted, advanced_of, tally_after, tally_of};
@@ -6,7 +8,7 @@ ghost use Rattle.tally.specs.TallyOf.{counted, advanced_of, tally_after, tally_o
 use answers::Answer;
 
 // How many collections were made, and the visits of all of them. Each count stops at its limit.
-#[derive(Drop)]
+#[derive(Clone, Copy)]
 pub struct Tally {
     pub collections: u32,
     pub visits: u32,

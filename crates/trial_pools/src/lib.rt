@@ -1,4 +1,6 @@
 // Pseudo-random pools: each word is computed from the seed, the number of cells and its place, so the same seed gives the same pool.
+#![tactic(auto)]
+
 ghost use Rattle.std.specs.Prelude.{◌≤◌};
 
 use trial_words::put;

@@ -1,4 +1,6 @@
 // Reads and writes of slices of words, and what a collection has to leave of a pool's words by the marks of its cells.
+#![tactic(auto)]
+
 ghost use Rattle.std.specs.Prelude.{◌≡◌, ℕ, ◌<◌, true, length, slice_index, slice_set};
 
 // Stores a word, where there is that place.

@@ -1,5 +1,7 @@
 // Tries every marker on many pseudo-random pools: a marker of another make says which cells a collection has to keep, and the answers and all words of
 // the others are compared with what follows from its marks alone.
+#![tactic(auto)]
+
 mod totals;
 
 ghost use Rattle.std.specs.Prelude.{◌≡◌, ◌≤◌, true, length};
@@ -25,7 +27,7 @@ const N_WORDS: u32 = 4;
 const MARKERS: u32 = 5;
 
 // One marker on the pool of a seed, as it is or damaged, with some words behind its cells.
-#[derive(Drop)]
+#[derive(Clone, Copy)]
 struct Trial {
     n: u32,
     leftover: u32,
@@ -35,7 +37,7 @@ struct Trial {
 }
 
 // What a collection said: 0 or the refusal, the kept cells, the visits, or with a stack 1 where it was enough, and the checks of its entries.
-#[derive(Drop)]
+#[derive(Clone, Copy)]
 struct Said {
     status: u32,
     kept: u32,
@@ -44,7 +46,7 @@ struct Said {
 }
 
 // How a trial went: whether the answer and all words were as expected, the kept cells that were expected, how many of them are points, and the answer's further numbers.
-#[derive(Drop)]
+#[derive(Clone, Copy)]
 struct Outcome {
     agreed: bool,
     kept: u32,

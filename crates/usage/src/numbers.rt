@@ -5,7 +5,7 @@ ghost use Rattle.usage.specs.Numbers.{two_numbers};
 use leb128::Number;
 
 // Two numbers that a reader read, and the place where it stands behind them.
-#[derive(Drop)]
+#[derive(Clone, Copy)]
 pub struct Two {
     pub first: Number,
     pub second: Number,

@@ -1,4 +1,6 @@
 // One visit of a cell in marking by link reversal, by its cases.
+#![tactic(auto)]
+
 ghost use Rattle.std.specs.Prelude.{◌≡◌, ◌+◌, ◌^◌, ◌<◌, ◌≤◌, false, length};
 ghost use Rattle.pool.specs.Layout.{register_count, pool_length, state, left};
 ghost use Rattle.pool.specs.States.{point_state, is_marked};
@@ -8,7 +10,7 @@ ghost use Rattle.visit.specs.Cases.{set_links, case_of, act_of};
 use pool::Pool;
 
 // The cell in hand, its predecessor, and how many visits were made.
-#[derive(Drop)]
+#[derive(Clone, Copy)]
 pub struct Marker {
     pub cell: u32,
     pub previous: u32,
@@ -28,7 +30,7 @@ pub fn is_unmarked(words: &[u32], x: u32) -> bool
 
 // What a visit does: of a pair the five cases of Gries 2006, in their order there, and the one of a point. m[p] is the mark of the cell p in hand, to which 1
 // was just added.
-#[derive(Drop)]
+#[derive(Clone, Copy)]
 pub enum VisitCase {
     // 1. m[p] = 3.
     Retreat,

@@ -1,5 +1,7 @@
 // Tries the examples of the customer's scope that have no star, and what its last section warns of, and prints each with its result. (Those with a star are
 // the table of theorems, specs/Table.antt; those of the stack are tried by the program stack_examples.)
+#![tactic(auto)]
+
 use pool::Pool;
 
 // Fresh of so many of the words.

@@ -1,4 +1,6 @@
 // The pool that fills the stack of the stack marker: for whoever sizes the stack.
+#![tactic(auto)]
+
 ghost use Rattle.std.specs.Prelude.{◌≡◌, ◌≤◌, length};
 ghost use Rattle.pool.specs.Layout.{register_count, cell_limit, pool_length};
 ghost use Rattle.answers.specs.Outcome.{answer_outcome};
