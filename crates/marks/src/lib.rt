@@ -40,8 +40,8 @@ pub fn unmark_cell(words: &mut [u32], i: u32)
 
 // Marks two used cells. Both states are read before one is written, so that they need not be read again after they were tested.
 pub fn mark_both(words: &mut [u32], i: u32, j: u32)
-    requires i_nonzero { (0 < i) × (0 < j) × (i ≡ j → ⊥) × (pool_length register_count i ≤ length words.old) × (pool_length register_count j ≤ length words.old) }
-    requires i_value { (is_used (state register_count words.old i) ≡ true) × (is_used (state register_count words.old j) ≡ true) }
+    requires cells { (0 < i) × (0 < j) × (i ≡ j → ⊥) × (pool_length register_count i ≤ length words.old) × (pool_length register_count j ≤ length words.old) }
+    requires used { (is_used (state register_count words.old i) ≡ true) × (is_used (state register_count words.old j) ≡ true) }
     ensures { words.new ≡ mark_cell register_count (mark_cell register_count words.old i) j }
 {
     let first = pool::read_cell(words, i, Pool::STATE);

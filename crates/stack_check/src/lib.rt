@@ -34,9 +34,9 @@ fn is_open(words: &[u32], x: u32) -> bool
 
 // Looks at both links of a marked cell of that state. Two equal unmarked links are one.
 pub fn look(words: &[u32], n: u32, p: u32, state: u32) -> Onward
-    requires state_value { (state ≡ cell register_count words.now p 0) × (is_marked state ≡ true) }
+    requires marked_state { (state ≡ cell register_count words.now p 0) × (is_marked state ≡ true) }
     requires used_or_marked { UsedOrMarked register_count words.now (link_of register_count words.now p 1) × UsedOrMarked register_count words.now (link_of register_count words.now p 2) }
-    requires p_nonzero { (0 < p) × (p ≤ n) × (link_of register_count words.now p 1 ≤ n) × (link_of register_count words.now p 2 ≤ n) × (pool_length register_count n ≤ length words.now) }
+    requires cells { (0 < p) × (p ≤ n) × (link_of register_count words.now p 1 ≤ n) × (link_of register_count words.now p 2 ≤ n) × (pool_length register_count n ≤ length words.now) }
     ensures { links_of result ≡ onward_in register_count words.now p }
 {
     if state == Pool::MARKED_POINT {

@@ -49,8 +49,8 @@ pub enum VisitCase {
 // The case of the cell p, by its mark, to which 1 was added, and by the state of the next link. At the third visit that is the backpointer, of which nothing
 // is read: it may be the virtual root. Nor is anything read of a point's words.
 fn choose(words: &[u32], p: u32) -> VisitCase
-    requires p_nonzero { (0 < p) × (pool_length register_count p ≤ length words.now) × (state register_count words.now p ≡ point_state → ⊥) }
-    requires p_in_bounds { is_marked (state register_count words.now p) ≡ false → pool_length register_count (left register_count words.now p) ≤ length words.now }
+    requires pair { (0 < p) × (pool_length register_count p ≤ length words.now) × (state register_count words.now p ≡ point_state → ⊥) }
+    requires next_link { is_marked (state register_count words.now p) ≡ false → pool_length register_count (left register_count words.now p) ≤ length words.now }
     ensures { result ≡ case_of register_count words.now p }
 {
     let mark = pool::read_cell(words, p, Pool::STATE);

@@ -11,8 +11,8 @@ use Rattle.marks.proofs.mark_both.Goals as goal
 
 pub returns : goal.returns
 returns c =
-    let (low, low', apart, fits, fits') = c.requires.0 in
-    let first = mark_made register_count _ _ c.read_cell-first.ensures c.write_cell.ensures c.requires.1.0 in
+    let (low, low', apart, fits, fits') = c.requires.cells in
+    let first = mark_made register_count _ _ c.read_cell-first.ensures c.write_cell.ensures c.requires.used.0 in
     let other = ap (λ (v : List ℕ). state register_count v c.args.j) first ∙ cell_other register_count _ _ 0 _ _ 0 low (omega arith) low' (omega arith) (λ e. apart (omega arith)) in
-    mark_made register_count _ _ (c.read_cell-second.ensures ∙ sym other) c.write_cell-2.ensures (ap is_used other ∙ c.requires.1.1)
+    mark_made register_count _ _ (c.read_cell-second.ensures ∙ sym other) c.write_cell-2.ensures (ap is_used other ∙ c.requires.used.1)
     ∙ ap (λ (v : List ℕ). mark_cell register_count v c.args.j) first

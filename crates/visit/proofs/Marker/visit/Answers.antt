@@ -9,13 +9,14 @@ overflow_add-mark c = omega (arith, mark_bound c.requires.0, c.read_cell-mark.en
 
 pub choose-case-requires : goal.choose-case-requires
 choose-case-requires c =
-    choosable
+    let h = choosable
     (record {
       visitable = c.requires.0;
       room = c.requires.1;
       words = c.write_cell.ensures ∙ rw c.read_cell-mark.ensures refl;
     })
-    c.write_cell.auto.words
+    c.write_cell.auto.words in
+    record { pair = h.0; next_link = h.1 }
 
 pub returns : goal.returns
 returns c =
