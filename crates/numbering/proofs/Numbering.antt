@@ -25,16 +25,16 @@ place_none from [] x out = refl
 place_none from (y ∷ ys) x out =
     place_there from y ys x (λ e. out (Memᴰ.head e)) ∙ place_none (suc from) ys x (λ m. out (Memᴰ.tail m))
 
-place-least : (from : ℕ) (l : List ℕ) (x : ℕ) → Memᴰ x l → from ≤ place_from from l x
-place-least from l x (Memᴰ.head {x = y} {xs = ys} e) = omega (arith, place_here from y ys x e)
-place-least from l x (Memᴰ.tail {x = y} {xs = ys} m) = go (place-least (suc from) ys x m) (ℕ_discrete x y)
+place-least : (x from : ℕ) (l : List ℕ) → Memᴰ x l → from ≤ place_from from l x
+place-least x from l (Memᴰ.head {x = y} {xs = ys} e) = omega (arith, place_here from y ys x e)
+place-least x from l (Memᴰ.tail {x = y} {xs = ys} m) = go (place-least x (suc from) ys m) (ℕ_discrete x y)
   where
     go : suc from ≤ place_from (suc from) ys x → Dec (x ≡ y) → from ≤ place_from from (y ∷ ys) x
     go rest (yes e) = omega (arith, place_here from y ys x e)
     go rest (no apart) = omega (arith, place_there from y ys x apart)
 
 pub number-member : (l : List ℕ) (x : ℕ) → Memᴰ x l → 0 < number_in l x
-number-member l x m = place-least 1 l x m
+number-member l x m = place-least x 1 l m
 
 -- A number is at most as high as the list is long, and names the place.
 pub record Placed (from : ℕ) (l : List ℕ) (x : ℕ) : Type 0 where

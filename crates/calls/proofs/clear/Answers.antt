@@ -8,7 +8,7 @@ pub clear_in-requires : goal.clear_in-requires
 clear_in-requires c = omega (arith, runs c.args.words.now (call.Clear c.args.r) c.names.ensures c.admit.ensures c.in-Cells.is)
 
 pub returns-in-Cells : goal.returns-in-Cells
-returns-in-Cells c = ran c.args.words.now (call.Clear c.args.r) c.names.ensures c.admit.ensures c.in-Cells.is c.Clear-in.ensures
+returns-in-Cells c = ran c.args.words.now (call.Clear c.args.r) c.names.ensures c.admit.ensures c.in-Cells.is c.clear_in.ensures
 
 pub returns-in-Refused : goal.returns-in-Refused
 returns-in-Refused c = refusing c.args.words.now (call.Clear c.args.r) c.names.ensures c.admit.ensures c.in-Refused.is

@@ -1,15 +1,8 @@
 -- `numbering::list_cells` meets its contract: the cells from i on are done (`Listing`); i falls.
 use Prim.Native.Nat.{◌-◌, ◌≤◌}
 use native.Mathlib.Omega.{arith}
-use lib.ListN.{get_or}
 use Rattle.numbering.proofs.Listing.{listing_first, listing_last, listing_room, listing_none, listing_put}
 use Rattle.numbering.proofs.list_cells.Goals as goal
-
--- the number is one of the n
-room : (c : tie.Else1 invariant-loop decreases-loop) → let l = c.before.before.before in get_or l.loop.scratch (l.loop.i - 1) 0 ≤ l.before.args.n
-room c =
-    let l = c.before.before.before in
-    listing_room _ _ l.before.requires.0 l.before.requires.1 _ _ l.loop.invariant c.before.before.loop-test.true
 
 pub loop-i-init : goal.loop-i-init
 loop-i-init c = listing_first _ _ c.requires.0 c.requires.1
@@ -24,16 +17,16 @@ pub loop-i-preserved-then-number-eq0 : goal.loop-i-preserved-then-number-eq0
 loop-i-preserved-then-number-eq0 c = listing_none _ _ c.requires.0 c.requires.1 _ _ c.loop-i.invariant c.loop-i-test.true c.if-number-eq0.true
 
 pub overflow_cast-scratch : goal.overflow_cast-scratch
-overflow_cast-scratch c = omega (arith, room c)
+overflow_cast-scratch c = omega (arith, listing_room _ _ c.requires.0 c.requires.1 _ _ c.loop-i.invariant c.loop-i-test.true)
 
 pub overflow_add-scratch : goal.overflow_add-scratch
-overflow_add-scratch c = omega (arith, room c)
+overflow_add-scratch c = omega (arith, listing_room _ _ c.requires.0 c.requires.1 _ _ c.loop-i.invariant c.loop-i-test.true)
 
 pub offset_bounds-scratch-base : goal.offset_bounds-scratch-base
-offset_bounds-scratch-base c = omega (arith, room c, c.loop-i.invariant.len)
+offset_bounds-scratch-base c = omega (arith, listing_room _ _ c.requires.0 c.requires.1 _ _ c.loop-i.invariant c.loop-i-test.true, c.loop-i.invariant.len)
 
 pub bounds-scratch-base : goal.bounds-scratch-base
-bounds-scratch-base c = omega (arith, room c, c.loop-i.invariant.len, c.requires.0)
+bounds-scratch-base c = omega (arith, listing_room _ _ c.requires.0 c.requires.1 _ _ c.loop-i.invariant c.loop-i-test.true, c.loop-i.invariant.len, c.requires.0)
 
 pub loop-i-preserved : goal.loop-i-preserved
 loop-i-preserved c = listing_put _ _ c.requires.0 c.requires.1 _ _ c.loop-i.invariant c.loop-i-test.true c.if-number-eq0.false

@@ -4,65 +4,50 @@ use Prim.Native.Nat.{◌-◌, ◌<◌}
 use native.Mathlib.Omega.{arith}
 use lib.ListN.{length-set}
 use Rattle.pool.specs.Layout.{register_count}
-use Rattle.numbering.proofs.Turns.{Bounds, turn_first, turn_bounds, turn_room, turn_take, turn_pop, turn_root, turn_end}
+use Rattle.numbering.proofs.Turns.{turn_first, turn_bounds, turn_room, turn_take, turn_pop, turn_root, turn_end}
 use Rattle.numbering.proofs.number_cells.Goals as goal
-
--- at the loop's head
-bounds : (c : tie.At-loop invariant-loop decreases-loop)
-    → let a = c.before.before.before.args in
-    let l = c.loop in
-    Bounds register_count a.n a.words.now l.scratch l.hand l.depth l.count l.root
-bounds c = turn_bounds register_count _ _ _ c.before.before.before.requires.0 _ _ _ _ _ c.loop.invariant
-
--- where the cell in hand is new
-room : (c : tie.Then1 invariant-loop decreases-loop)
-    → let l = c.before.before.before in
-    (0 < l.loop.hand) × (l.loop.count < l.before.before.before.args.n)
-room c =
-    let l = c.before.before.before in
-    turn_room register_count _ _ _ l.before.before.before.requires.0 _ _ _ _ _ l.loop.invariant _ c.before.unnumbered.ensures c.if1.true
 
 pub loop-left-init : goal.loop-left-init
 loop-left-init c = turn_first register_count _ _ _ c.requires.0 c.requires.1
 
 pub unnumbered-requires : goal.unnumbered-requires
-unnumbered-requires c = omega (arith, bounds c)
+unnumbered-requires c = omega (arith, turn_bounds register_count _ _ _ c.requires.0 _ _ _ _ _ c.loop-left.invariant)
 
 pub link_of-left-requires : goal.link_of-left-requires
-link_of-left-requires c = omega (arith, bounds c, room c)
+link_of-left-requires c = omega (arith, turn_bounds register_count _ _ _ c.requires.0 _ _ _ _ _ c.loop-left.invariant, turn_room register_count _ _ _ c.requires.0 _ _ _ _ _ c.loop-left.invariant _ c.unnumbered.ensures c.if-unnumbered.true)
 
 pub link_of-right-requires : goal.link_of-right-requires
-link_of-right-requires c = omega (arith, bounds c, room c)
+link_of-right-requires c = omega (arith, turn_bounds register_count _ _ _ c.requires.0 _ _ _ _ _ c.loop-left.invariant, turn_room register_count _ _ _ c.requires.0 _ _ _ _ _ c.loop-left.invariant _ c.unnumbered.ensures c.if-unnumbered.true)
 
 pub overflow_add-count : goal.overflow_add-count
-overflow_add-count c = omega (arith, bounds c, room c)
+overflow_add-count c = omega (arith, turn_bounds register_count _ _ _ c.requires.0 _ _ _ _ _ c.loop-left.invariant, turn_room register_count _ _ _ c.requires.0 _ _ _ _ _ c.loop-left.invariant _ c.unnumbered.ensures c.if-unnumbered.true)
 
 pub overflow_cast-scratch : goal.overflow_cast-scratch
-overflow_cast-scratch c = omega (arith, bounds c)
+overflow_cast-scratch c = omega (arith, turn_bounds register_count _ _ _ c.requires.0 _ _ _ _ _ c.loop-left.invariant)
 
 pub overflow_sub-scratch : goal.overflow_sub-scratch
-overflow_sub-scratch c = omega (arith, room c)
+overflow_sub-scratch c = omega (arith, turn_room register_count _ _ _ c.requires.0 _ _ _ _ _ c.loop-left.invariant _ c.unnumbered.ensures c.if-unnumbered.true)
 
 pub offset_bounds-scratch-hand : goal.offset_bounds-scratch-hand
-offset_bounds-scratch-hand c = omega (arith, bounds c, room c)
+offset_bounds-scratch-hand c = omega (arith, turn_bounds register_count _ _ _ c.requires.0 _ _ _ _ _ c.loop-left.invariant, turn_room register_count _ _ _ c.requires.0 _ _ _ _ _ c.loop-left.invariant _ c.unnumbered.ensures c.if-unnumbered.true)
 
 pub bounds-scratch-hand : goal.bounds-scratch-hand
-bounds-scratch-hand c = omega (arith, bounds c, room c)
+bounds-scratch-hand c = omega (arith, turn_bounds register_count _ _ _ c.requires.0 _ _ _ _ _ c.loop-left.invariant, turn_room register_count _ _ _ c.requires.0 _ _ _ _ _ c.loop-left.invariant _ c.unnumbered.ensures c.if-unnumbered.true)
 
 pub overflow_add-scratch : goal.overflow_add-scratch
-overflow_add-scratch c = omega (arith, bounds c, room c)
+overflow_add-scratch c = omega (arith, turn_bounds register_count _ _ _ c.requires.0 _ _ _ _ _ c.loop-left.invariant, turn_room register_count _ _ _ c.requires.0 _ _ _ _ _ c.loop-left.invariant _ c.unnumbered.ensures c.if-unnumbered.true)
 
 pub offset_bounds-scratch-base : goal.offset_bounds-scratch-base
-offset_bounds-scratch-base c = omega (arith, bounds c, room c)
+offset_bounds-scratch-base c = omega (arith, turn_bounds register_count _ _ _ c.requires.0 _ _ _ _ _ c.loop-left.invariant, turn_room register_count _ _ _ c.requires.0 _ _ _ _ _ c.loop-left.invariant _ c.unnumbered.ensures c.if-unnumbered.true)
 
 pub bounds-scratch-base : goal.bounds-scratch-base
-bounds-scratch-base c = simp length-set (omega (arith, bounds c, room c))
+bounds-scratch-base c = simp length-set (omega (arith, turn_bounds register_count _ _ _ c.requires.0 _ _ _ _ _ c.loop-left.invariant, turn_room register_count _ _ _ c.requires.0 _ _ _ _ _ c.loop-left.invariant _ c.unnumbered.ensures c.if-unnumbered.true))
 
 pub overflow_add-depth : goal.overflow_add-depth
-overflow_add-depth c = omega (arith, bounds c, room c)
+overflow_add-depth c = omega (arith, turn_bounds register_count _ _ _ c.requires.0 _ _ _ _ _ c.loop-left.invariant, turn_room register_count _ _ _ c.requires.0 _ _ _ _ _ c.loop-left.invariant _ c.unnumbered.ensures c.if-unnumbered.true)
 
 pub loop-left-smaller-then-unnumbered : goal.loop-left-smaller-then-unnumbered
-loop-left-smaller-then-unnumbered c = omega (arith, bounds c, room c)
+loop-left-smaller-then-unnumbered c = omega (arith, turn_bounds register_count _ _ _ c.requires.0 _ _ _ _ _ c.loop-left.invariant, turn_room register_count _ _ _ c.requires.0 _ _ _ _ _ c.loop-left.invariant _ c.unnumbered.ensures c.if-unnumbered.true)
 
 pub loop-left-preserved-then-unnumbered : goal.loop-left-preserved-then-unnumbered
 loop-left-preserved-then-unnumbered c =
@@ -70,16 +55,16 @@ loop-left-preserved-then-unnumbered c =
     c.link_of-left.ensures c.link_of-right.ensures
 
 pub overflow_add-hand : goal.overflow_add-hand
-overflow_add-hand c = omega (arith, bounds c)
+overflow_add-hand c = omega (arith, turn_bounds register_count _ _ _ c.requires.0 _ _ _ _ _ c.loop-left.invariant)
 
 pub offset_bounds-scratch-base-then-depth-gt0 : goal.offset_bounds-scratch-base-then-depth-gt0
-offset_bounds-scratch-base-then-depth-gt0 c = omega (arith, bounds c)
+offset_bounds-scratch-base-then-depth-gt0 c = omega (arith, turn_bounds register_count _ _ _ c.requires.0 _ _ _ _ _ c.loop-left.invariant)
 
 pub bounds-scratch-base-then-depth-gt0 : goal.bounds-scratch-base-then-depth-gt0
-bounds-scratch-base-then-depth-gt0 c = omega (arith, bounds c)
+bounds-scratch-base-then-depth-gt0 c = omega (arith, turn_bounds register_count _ _ _ c.requires.0 _ _ _ _ _ c.loop-left.invariant)
 
 pub loop-left-smaller-then-depth-gt0 : goal.loop-left-smaller-then-depth-gt0
-loop-left-smaller-then-depth-gt0 c = omega (arith, bounds c)
+loop-left-smaller-then-depth-gt0 c = omega (arith, turn_bounds register_count _ _ _ c.requires.0 _ _ _ _ _ c.loop-left.invariant)
 
 pub loop-left-preserved-then-depth-gt0 : goal.loop-left-preserved-then-depth-gt0
 loop-left-preserved-then-depth-gt0 c =
@@ -87,10 +72,10 @@ loop-left-preserved-then-depth-gt0 c =
     c.if-depth-gt0.true
 
 pub read_register-hand-requires : goal.read_register-hand-requires
-read_register-hand-requires c = omega (arith, bounds c)
+read_register-hand-requires c = omega (arith, turn_bounds register_count _ _ _ c.requires.0 _ _ _ _ _ c.loop-left.invariant)
 
 pub loop-left-smaller : goal.loop-left-smaller
-loop-left-smaller c = omega (arith, bounds c)
+loop-left-smaller c = omega (arith, turn_bounds register_count _ _ _ c.requires.0 _ _ _ _ _ c.loop-left.invariant)
 
 pub loop-left-preserved : goal.loop-left-preserved
 loop-left-preserved c =

@@ -1,0 +1,11 @@
+use Prim.Native.Nat.{◌-◌, ◌≤◌}
+use Rattle.pool.specs.Layout.{register_count}
+use Rattle.image_writer.specs.Steps.{order_bytes}
+use Rattle.image_writer.proofs.ImageBytes.{Sizing}
+use Rattle.image_writer.proofs.cells_size.Given as goal
+
+abbrev pub invariant-loop-p : goal.invariant-loop-p
+invariant-loop-p l = (l.p ≤ l.k) × Sizing (order_bytes register_count l.n l.words 0) (order_bytes register_count l.n l.words l.p) l.size
+
+abbrev pub decreases-loop-p : goal.decreases-loop-p
+decreases-loop-p l = l.k - l.p
