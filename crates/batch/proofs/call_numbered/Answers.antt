@@ -1,4 +1,5 @@
 -- `batch::call_numbered` meets its contract: each arm is its number's.
+use native.Mathlib.Omega.{arith}
 use borrow.Author.Tests.{ne_eqb}
 use Rattle.batch.proofs.call_numbered.Goals as goal
 
@@ -45,4 +46,4 @@ pub returns-in-13 : goal.returns-in-13
 returns-in-13 c = rw c.in-13.is
 
 pub returns-in_default : goal.returns-in_default
-returns-in_default c = simp (ne_eqb _ _ c.in-0.rest.0.0.0.0.0.0.0.0.0.0.0.0.0.1, ne_eqb _ _ c.in-0.rest.0.0.0.0.0.0.0.0.0.0.0.0.1, ne_eqb _ _ c.in-0.rest.0.0.0.0.0.0.0.0.0.0.0.1, ne_eqb _ _ c.in-0.rest.0.0.0.0.0.0.0.0.0.0.1, ne_eqb _ _ c.in-0.rest.0.0.0.0.0.0.0.0.0.1, ne_eqb _ _ c.in-0.rest.0.0.0.0.0.0.0.0.1, ne_eqb _ _ c.in-0.rest.0.0.0.0.0.0.0.1, ne_eqb _ _ c.in-0.rest.0.0.0.0.0.0.1, ne_eqb _ _ c.in-0.rest.0.0.0.0.0.1, ne_eqb _ _ c.in-0.rest.0.0.0.0.1, ne_eqb _ _ c.in-0.rest.0.0.0.1, ne_eqb _ _ c.in-0.rest.0.0.1, ne_eqb _ _ c.in-0.rest.0.1, ne_eqb _ _ c.in-0.rest.1)
+returns-in_default c = simp (ne_eqb c.args.code 0 (λ e. omega arith), ne_eqb c.args.code 1 (λ e. omega arith), ne_eqb c.args.code 2 (λ e. omega arith), ne_eqb c.args.code 3 (λ e. omega arith), ne_eqb c.args.code 4 (λ e. omega arith), ne_eqb c.args.code 5 (λ e. omega arith), ne_eqb c.args.code 6 (λ e. omega arith), ne_eqb c.args.code 7 (λ e. omega arith), ne_eqb c.args.code 8 (λ e. omega arith), ne_eqb c.args.code 9 (λ e. omega arith), ne_eqb c.args.code 10 (λ e. omega arith), ne_eqb c.args.code 11 (λ e. omega arith), ne_eqb c.args.code 12 (λ e. omega arith), ne_eqb c.args.code 13 (λ e. omega arith))

@@ -20,7 +20,7 @@ write_number-behind_right-requires c =
       c.write_number-behind_kind.ensures.0,
       c.write_number-behind_kind.auto.out,
       c.write_number-behind_left.ensures.0,
-      c.write_number-behind_left.auto.0,
+      c.write_number-behind_left.auto.out,
     )
 
 pub write_number-requires : goal.write_number-requires
@@ -32,9 +32,9 @@ write_number-requires c =
       c.write_number-behind_kind.ensures.0,
       c.write_number-behind_kind.auto.out,
       c.write_number-behind_left.ensures.0,
-      c.write_number-behind_left.auto.0,
+      c.write_number-behind_left.auto.out,
       c.write_number-behind_right.ensures.0,
-      c.write_number-behind_right.auto.0,
+      c.write_number-behind_right.auto.out,
     )
 
 pub returns : goal.returns

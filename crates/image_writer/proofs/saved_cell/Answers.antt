@@ -2,21 +2,11 @@
 use Prim.Native.Nat.{◌+◌}
 use native.Mathlib.Omega.{arith}
 use mathlib.Core.Path.{ap, ◌∙◌}
-use lib.ListN.{get_or}
 use Rattle.pool.specs.Layout.{register_count}
-use Rattle.questions.proofs.PoolGraph.{Used}
 use Rattle.image_writer.specs.Steps.{word_at}
 use Rattle.numbering.proofs.Ordering.{few-kept}
 use Rattle.image_writer.proofs.ImageNumber.{cell-used, word_bound, cell-saved}
 use Rattle.image_writer.proofs.saved_cell.Goals as goal
-
--- the cell whose fields are read
-used : (c : tie.After-shared-slice-known3)
-    → let a = c.before.before.before.args in
-    Used register_count a.n a.words.now (get_or a.scratch.now (a.n + a.p) 0)
-used c =
-    let at-start = c.before.before.before in
-    cell-used register_count _ _ at-start.args.scratch.now at-start.requires.0 at-start.requires.1 _ at-start.requires.2
 
 pub bounds-scratch-n : goal.bounds-scratch-n
 bounds-scratch-n c =
@@ -24,10 +14,10 @@ bounds-scratch-n c =
     omega (arith, c.requires.0.scratch, c.requires.2)
 
 pub is_point_at-point-requires : goal.is_point_at-point-requires
-is_point_at-point-requires c = omega (arith, used c, c.requires.0.room)
+is_point_at-point-requires c = omega (arith, cell-used register_count _ _ c.args.scratch.now c.requires.0 c.requires.1 _ c.requires.2, c.requires.0.room)
 
 pub read_cell-requires : goal.read_cell-requires
-read_cell-requires c = omega (arith, used c, c.requires.0.room)
+read_cell-requires c = omega (arith, cell-used register_count _ _ c.args.scratch.now c.requires.0 c.requires.1 _ c.requires.2, c.requires.0.room)
 
 pub saved_word-left-requires : goal.saved_word-left-requires
 saved_word-left-requires c =
@@ -41,7 +31,7 @@ saved_word-left-requires c =
     )
 
 pub read_cell-requires-2 : goal.read_cell-requires-2
-read_cell-requires-2 c = omega (arith, used c, c.requires.0.room)
+read_cell-requires-2 c = omega (arith, cell-used register_count _ _ c.args.scratch.now c.requires.0 c.requires.1 _ c.requires.2, c.requires.0.room)
 
 pub saved_word-right-requires : goal.saved_word-right-requires
 saved_word-right-requires c =
@@ -55,7 +45,7 @@ saved_word-right-requires c =
     )
 
 pub read_cell-value-requires : goal.read_cell-value-requires
-read_cell-value-requires c = omega (arith, used c, c.requires.0.room)
+read_cell-value-requires c = omega (arith, cell-used register_count _ _ c.args.scratch.now c.requires.0 c.requires.1 _ c.requires.2, c.requires.0.room)
 
 pub returns : goal.returns
 returns c =

@@ -34,7 +34,7 @@ write_cells-requires c =
         c.write_number-registers.ensures.0,
         c.write_number-registers.auto.out,
         c.write_registers-cells.ensures.0,
-        c.write_registers-cells.auto.1.1.1.0,
+        c.write_registers-cells.auto.out,
       ),
     )
 

@@ -1,4 +1,5 @@
 -- `lines::one` meets its contract: in each arm the letter decides the tests of the definition.
+use native.Mathlib.Omega.{arith}
 use borrow.Author.Tests.{ne_eqb}
 use Rattle.lines.specs.Lines.{command}
 use Rattle.lines.proofs.one.Goals as goal
@@ -25,11 +26,4 @@ returns-in-111 c = simp c.in-111.is
 
 pub returns-in_default : goal.returns-in_default
 unfolding command
-returns-in_default c =
-    simp (
-      ne_eqb _ _ c.in-102.rest.1,
-      ne_eqb _ _ c.in-102.rest.0.1,
-      ne_eqb _ _ c.in-102.rest.0.0.1,
-      ne_eqb _ _ c.in-102.rest.0.0.0.1,
-      ne_eqb _ _ c.in-102.rest.0.0.0.0.1,
-    )
+returns-in_default c = simp (ne_eqb c.args.letter 102 (λ e. omega arith), ne_eqb c.args.letter 122 (λ e. omega arith), ne_eqb c.args.letter 118 (λ e. omega arith), ne_eqb c.args.letter 101 (λ e. omega arith), ne_eqb c.args.letter 111 (λ e. omega arith))

@@ -1,4 +1,5 @@
 -- `lines::two` meets its contract: in each arm the letter decides the tests of the definition.
+use native.Mathlib.Omega.{arith}
 use borrow.Author.Tests.{ne_eqb}
 use Rattle.lines.specs.Lines.{command}
 use Rattle.lines.proofs.two.Goals as goal
@@ -33,13 +34,4 @@ returns-in-115 c = simp c.in-115.is
 
 pub returns-in_default : goal.returns-in_default
 unfolding command
-returns-in_default c =
-    simp (
-      ne_eqb _ _ c.in-99.rest.1,
-      ne_eqb _ _ c.in-99.rest.0.1,
-      ne_eqb _ _ c.in-99.rest.0.0.1,
-      ne_eqb _ _ c.in-99.rest.0.0.0.1,
-      ne_eqb _ _ c.in-99.rest.0.0.0.0.1,
-      ne_eqb _ _ c.in-99.rest.0.0.0.0.0.1,
-      ne_eqb _ _ c.in-99.rest.0.0.0.0.0.0.1,
-    )
+returns-in_default c = simp (ne_eqb c.args.letter 99 (λ e. omega arith), ne_eqb c.args.letter 108 (λ e. omega arith), ne_eqb c.args.letter 114 (λ e. omega arith), ne_eqb c.args.letter 76 (λ e. omega arith), ne_eqb c.args.letter 82 (λ e. omega arith), ne_eqb c.args.letter 86 (λ e. omega arith), ne_eqb c.args.letter 115 (λ e. omega arith))

@@ -1,0 +1,13 @@
+-- `replies::write_reply` meets its contract: where there is room for any text, the reply's is put.
+use native.Mathlib.Omega.{arith}
+use Rattle.replies.proofs.Putting.{written, no_room}
+use Rattle.replies.proofs.write_reply.Goals as goal
+
+pub returns-then-out-at : goal.returns-then-out-at
+returns-then-out-at c = no_room _ _ _ (omega arith)
+
+pub returns-then-out-at-lt-ROOM : goal.returns-then-out-at-lt-ROOM
+returns-then-out-at-lt-ROOM c = no_room _ _ _ (omega arith)
+
+pub returns : goal.returns
+returns c = written c.put_reply.ensures.0 c.put_reply.ensures.1 (omega arith)
