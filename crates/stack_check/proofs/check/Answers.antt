@@ -3,4 +3,4 @@ use Rattle.stack_check.proofs.Descending.{check_made}
 use Rattle.stack_check.proofs.check.Goals as goal
 
 pub returns : goal.returns
-returns c = λ h. check_made _ _ _ _ _ c.walk_entries.new.1.1.0 _ _ c.walk_entries.auto.1.1.0 h (c.walk_entries.ensures h) c.close_gaps.ensures
+returns c = λ h. check_made _ _ _ _ _ c.walk_entries.new.stack _ _ c.walk_entries.auto.stack h (c.walk_entries.ensures h) c.close_gaps.ensures

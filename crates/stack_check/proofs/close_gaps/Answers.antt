@@ -1,6 +1,5 @@
 -- `stack_check::close_gaps` meets its contract: each turn passes over a gap, or moves an entry down (`Closing`).
 use native.Mathlib.Omega.{arith}
-use Prim.Native.Nat.{◌-◌}
 use Rattle.stack_check.proofs.Entries.{closing_first, closing_gap, closing_entry, closing_last}
 use Rattle.stack_check.proofs.close_gaps.Goals as goal
 

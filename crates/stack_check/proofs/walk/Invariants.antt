@@ -1,5 +1,4 @@
 use mathlib.Core.Path.{◌≡◌}
-use mathlib.Core.List.Memᴰ
 use Rattle.pool.specs.Layout.{register_count, cell}
 use Rattle.stack_check.proofs.Marked.{unmarked_count}
 use Rattle.stack_check.proofs.Walking.{WalkLoop}

@@ -10,7 +10,11 @@ pub bounds-stack-i : goal.bounds-stack-i
 bounds-stack-i c = omega (arith, c.loop-i-test.true, c.loop-i.invariant.fits, c.loop-i.invariant.lent)
 
 pub walk-reached-requires : goal.walk-reached-requires
-walk-reached-requires c = (down_walkable _ _ _ _ c.loop-i.invariant c.loop-i-test.true c.requires.0, omega (arith, c.requires.1, down_length _ _ _ _ c.loop-i.invariant c.requires.0))
+walk-reached-requires c =
+    record {
+      walkable = down_walkable _ _ _ _ c.loop-i.invariant c.loop-i-test.true c.requires.checkable;
+      n_in_bounds = omega (arith, c.requires.n_in_bounds, down_length _ _ _ _ c.loop-i.invariant c.requires.checkable);
+    }
 
 pub bounds-stack-i-in-loop-i : goal.bounds-stack-i-in-loop-i
 bounds-stack-i-in-loop-i c = omega (arith, c.loop-i-test.true, c.loop-i.invariant.fits, c.loop-i.invariant.lent)
@@ -19,7 +23,7 @@ pub loop-i-preserved : goal.loop-i-preserved
 loop-i-preserved c = down_next _ _ _ _ c.loop-i.invariant c.loop-i-test.true _ _ c.walk-reached.ensures
 
 pub shape_of-words : goal.shape_of-words
-shape_of-words c = down_length _ _ _ _ c.loop-i.invariant c.requires.0
+shape_of-words c = down_length _ _ _ _ c.loop-i.invariant c.requires.checkable
 
 pub shape_of-stack : goal.shape_of-stack
 shape_of-stack c = c.loop-i.invariant.lent
