@@ -126,7 +126,14 @@ def main():
         return 0
 
     def turn(text):
-        return TOKEN.sub(lambda m: change.get(m.group(0), m.group(0)), text)
+        return "\n".join(comment(l) if l.lstrip().startswith("--") else TOKEN.sub(lambda m: change.get(m.group(0), m.group(0)), l) for l in text.split("\n"))
+
+    def comment(line):
+        """Outside back quotes a word with a dash is English, as in well-formed."""
+        parts = re.split(r"(`[^`]*`)", line)
+        parts[::2] = [TOKEN.sub(lambda m: m.group(0) if "-" in m.group(0) else change.get(m.group(0), m.group(0)), x) for x in parts[::2]]
+        parts[1::2] = [TOKEN.sub(lambda m: change.get(m.group(0), m.group(0)), x) for x in parts[1::2]]
+        return "".join(parts)
 
     def ticks(text):
         return re.sub(r"`[^`\n]*`", lambda m: TOKEN.sub(lambda t: change.get(t.group(0), snake_known(t.group(0))), m.group(0)), text)

@@ -103,7 +103,7 @@ module _ (R : ℕ) where
       still y low h (no apart) =
           rw (cell_other R w x 0 (as_marked (state R w x)) y 0 (from x (Memᴰ.head refl)).0 (omega arith) low (omega arith) (λ e. apart (omega arith))) h
 
-  -- clearing undoes the marking of used cells of a is_well_formed pool
+  -- clearing undoes the marking of used cells of a well-formed pool
   pub cleared-marks : (n : ℕ) (w t : List ℕ) → WellFormed R n w → pool_length R n ≤ length w → ((x : ℕ) → Memᴰ x t → Used R n w x)
       → cleared R n (mark_all R w t) ≡ w
   unfolding Markable

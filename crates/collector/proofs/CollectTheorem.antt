@@ -1,4 +1,4 @@
--- The proof of what a collection does to a is_well_formed pool.
+-- The proof of what a collection does to a well-formed pool.
 use Prim.Native.Nat.{ℕ, ◌<◌, ◌≤◌}
 use native.Mathlib.Omega.{arith}
 use mathlib.Core.Path.{◌≡◌, refl, sym, ap, ap₂, ◌∙◌}

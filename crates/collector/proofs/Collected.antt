@@ -1,4 +1,4 @@
--- A collected pool: what it keeps, that it is is_well_formed with the same graph, and when nothing changes.
+-- A collected pool: what it keeps, that it is well-formed with the same graph, and when nothing changes.
 use Prim.Native.Nat.{ℕ, zero, suc, ◌<◌, ◌≤◌}
 use native.Mathlib.Omega.{arith}
 use mathlib.Core.Path.{◌≡◌, refl, sym, ap, ◌∙◌}
@@ -82,7 +82,7 @@ module _ (R n : ℕ) (w : List ℕ) (well : WellFormed R n w) where
     collected-roots =
         tabulate_cong R (λ k. register (collected R n w) k) (λ k. register w k) λ k low. retain-register R n (is_reached R n w) w room k low
 
-    -- it is is_well_formed
+    -- it is well-formed
     kept-link : (x : ℕ) → (0 < x → Reach (graph_of R w) (roots_of R w) x) → Kept n (is_reached R n w) x
     kept-link zero r = Kept.nil refl
     kept-link (suc x) r =

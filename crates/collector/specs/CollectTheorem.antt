@@ -1,4 +1,4 @@
--- Demand 2 for readers: what a collection does to a is_well_formed pool. `collect_of` is what the contract of `collect` says.
+-- Demand 2 for readers: what a collection does to a well-formed pool. `collect_of` is what the contract of `collect` says.
 use Rattle.std.specs.Prelude.{ℕ, ◌<◌, ◌≤◌, ◌≡◌, ◌↔◌, true, length}
 use mathlib.Core.List.{List, [], ◌∷◌, Memᴰ}
 use Rattle.graph.specs.Graph.{Reach}
@@ -37,7 +37,7 @@ pub record Collected (n : ℕ) (w w' kept : List ℕ) : Type 0 where
   -- The registers and N are as before.
   pub registers : (k : ℕ) → k < register_count → register w' k ≡ register w k
   pub count : count w' ≡ count w
-  -- The result is a is_well_formed pool, and collecting it again answers the same and changes nothing.
+  -- The result is a well-formed pool, and collecting it again answers the same and changes nothing.
   pub cells : cell_count register_count w' ≡ n
   pub is_well_formed : well_formed register_count n w' ≡ true
   pub again : collect_of w' ≡ (answered (length kept ∷ visits_of (is_point_at register_count w) kept ∷ []), w')

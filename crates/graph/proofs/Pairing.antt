@@ -1,4 +1,4 @@
--- Two graphs whose pairing is one_to_one are visited in step.
+-- Two graphs whose pairing is one-to-one are visited in step.
 use Prim.Native.Nat.{ℕ, ◌<◌}
 use native.Mathlib.Omega.{arith}
 use mathlib.Core.Path.{◌≡◌, sym, subst}

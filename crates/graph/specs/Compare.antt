@@ -14,7 +14,7 @@ pub data Paired (g : Graph) (rs : List ℕ) (h : Graph) (ss : List ℕ) : ℕ �
   left : {x y : ℕ} → Paired g rs h ss x y → 0 < x → 0 < y → Paired g rs h ss (g.left x) (h.left y)
   right : {x y : ℕ} → Paired g rs h ss x y → 0 < x → 0 < y → Paired g rs h ss (g.right x) (h.right y)
 
--- A relation between links is one_to_one: it relates nil with nil only, and no link with two.
+-- A relation between links is one-to-one: it relates nil with nil only, and no link with two.
 pub record OneToOne (P : ℕ → ℕ → Type 0) : Type 0 where
   pub nil : (x y : ℕ) → P x y → (x ≡ 0) ↔ (y ≡ 0)
   pub forward : (x y z : ℕ) → P x y → P x z → y ≡ z

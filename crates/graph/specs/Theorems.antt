@@ -52,7 +52,7 @@ PreorderAgree =
     (n : ℕ) (g h : Graph) (roots : List ℕ) → Within n g roots → ((x : ℕ) → Reach g roots x → Agree g h x)
     → preorder n g roots ≡ preorder n h roots
 
--- Two graphs with root lists of one length, whose pairing is one_to_one, have orders of one length.
+-- Two graphs with root lists of one length, whose pairing is one-to-one, have orders of one length.
 abbrev pub LengthPaired : Type 0
 LengthPaired =
     (n : ℕ) (g : Graph) (rs : List ℕ) (k : ℕ) (h : Graph) (ss : List ℕ) → Within n g rs → Within k h ss → length rs ≡ length ss
@@ -65,8 +65,8 @@ PreorderPaired =
     → OneToOne (Paired g rs h ss) → (i : ℕ) → i < length (preorder n g rs)
     → Paired g rs h ss (get_or (preorder n g rs) i 0) (get_or (preorder k h ss) i 0)
 
--- The pairing is one_to_one where a relation is that holds of the roots, place by place, and with two cells of their links. So it stays
--- one_to_one when a root or a link is changed to what such a relation allows.
+-- The pairing is one-to-one where a relation is that holds of the roots, place by place, and with two cells of their links. So it stays
+-- one-to-one when a root or a link is changed to what such a relation allows.
 abbrev pub PairingKept : Type 1
 PairingKept =
     (g : Graph) (rs : List ℕ) (h : Graph) (ss : List ℕ) (P : ℕ → ℕ → Type 0) → OneToOne P

@@ -1,4 +1,4 @@
--- The instances of specs/Instances.antt, computed from the definitions or by the laws of is_well_formed pools.
+-- The instances of specs/Instances.antt, computed from the definitions or by the laws of well-formed pools.
 use Prim.Native.Nat.{ℕ, zero, suc, ◌^◌, ◌<◌, ◌≤◌}
 use native.Mathlib.Omega.{arith}
 use mathlib.Core.Path.{◌≡◌, refl}

@@ -98,7 +98,7 @@ pub record ReversalInstance : Type 0 where
   pub recursive : Markable register_count 3 3 1 0 three
   -- `VisitIsByCase`: the first visit of cell 1
   pub visitable : Visitable register_count 3 (marker 1 4 0, three)
-  -- A cell with two leaves: the nine visits of the run meet all five cases. Cases 2 and 4 go to cells 2 and 3, and five visits are four_way_lem exchanges.
+  -- A cell with two leaves: the nine visits of the run meet all five cases. Cases 2 and 4 go to cells 2 and 3, and five visits are four-way exchanges.
   pub five_cases : trace register_count 9 (marker 1 4 0, fork_pool)
       ≡ (visit.FollowLeft, 2) ∷ (visit.PassLeft, 2) ∷ (visit.PassRight, 2) ∷ (visit.Retreat, 1) ∷ (visit.FollowRight, 3) ∷ (visit.PassLeft, 3)
       ∷ (visit.PassRight, 3) ∷ (visit.Retreat, 1) ∷ (visit.Retreat, 4) ∷ []
@@ -286,7 +286,7 @@ pub record CheckInstance : Type 0 where
   pub turns : 5 ≤ 6
   pub entries : max_entries 5 (comb 5) (1 ∷ []) ≤ 2
 
--- `WorstCaseBuilt`, `HalfIsEnough`, `FewerAreChecked`, `NoneIsNotEnough` and `OneLessIsChecked`. (`NoPoolHoldsMore` asks for a is_well_formed pool, as in
+-- `WorstCaseBuilt`, `HalfIsEnough`, `FewerAreChecked`, `NoneIsNotEnough` and `OneLessIsChecked`. (`NoPoolHoldsMore` asks for a well-formed pool, as in
 -- PoolInstance; `CombReached`, `CombHolds`, `CombChecks` and `CombWithoutWords` ask for no more than numbers of cells and of words.)
 pub record WorstCaseInstance : Type 0 where
   pub target : 0 < cell_count_of_length register_count (length lent)

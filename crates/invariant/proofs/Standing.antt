@@ -1,4 +1,4 @@
--- A standing pool: words that are a is_well_formed pool of N cells, whatever its free list. What its questions answer, and that writes of links keep it.
+-- A standing pool: words that are a well-formed pool of N cells, whatever its free list. What its questions answer, and that writes of links keep it.
 use Prim.Native.Nat.{ℕ, zero, suc, ◌+◌, ◌*◌, ◌<◌, ◌≤◌}
 use native.Mathlib.Omega.{arith}
 use native.Mathlib.Decide.{ℕ_discrete}

@@ -16,7 +16,7 @@ pub record ExactFreeList (n : ℕ) (w : List ℕ) : Type 0 where
   pub free : (i : ℕ) → Memᴰ i (free_list register_count n w) → (0 < i) × (i ≤ n) × (is_free (state register_count w i) ≡ true)
   pub all : (i : ℕ) → 0 < i → i ≤ n → is_free (state register_count w i) ≡ true → Memᴰ i (free_list register_count n w)
 
--- Every pool that calls lead to from fresh words, whatever e words stand behind its cells, is a pool of N cells, is_well_formed, and its free list has every
+-- Every pool that calls lead to from fresh words, whatever e words stand behind its cells, is a pool of N cells, well-formed, and its free list has every
 -- free cell once.
 abbrev pub ReachedPools : Type 0
 ReachedPools =

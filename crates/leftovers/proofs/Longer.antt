@@ -94,7 +94,7 @@ module _ (R n : ℕ) (u t : List ℕ) (long : length u ≡ pool_length R n) (som
   pub roots-longer : roots_of R (u ++ t) ≡ roots_of R u
   roots-longer = tabulate_cong R (λ k. register (u ++ t) k) (λ k. register u k) register-longer
 
-  -- the cells that are reached, and the image, of a is_well_formed pool
+  -- the cells that are reached, and the image, of a well-formed pool
   module _ (well : WellFormed R n u) where
     pub agree : (x : ℕ) → Reach (graph_of R u) (roots_of R u) x → Agree (graph_of R u) (graph_of R (u ++ t)) x
     agree x reach =

@@ -1,4 +1,4 @@
--- The words that load leaves, read: registers, links and values of the image, the free list, and that they are is_well_formed.
+-- The words that load leaves, read: registers, links and values of the image, the free list, and that they are well-formed.
 use Prim.Native.Nat.{ℕ, zero, suc, ◌<◌, ◌≤◌}
 use native.Mathlib.Omega.{arith}
 use mathlib.Core.Path.{◌≡◌, refl, sym, ◌∙◌}

@@ -52,7 +52,7 @@ check_is_load n e bytes w few long = go (dec_le 1 n) (dec_le n cell_limit)
     go (yes low) (no high) = simp (le-leb 1 n low, lt-leb n cell_limit (omega arith)) (sym (outside (λ a b. high b)))
     go (no low) high = simp (lt-leb 1 n (omega arith)) (sym (outside (λ a b. low a)))
 
--- Every accepted load leaves a is_well_formed pool.
+-- Every accepted load leaves a well-formed pool.
 refusal_positive : (why : Refusal) → 0 < refusal_number why
 refusal_positive refusal.Size = omega arith
 refusal_positive refusal.Register = omega arith

@@ -59,7 +59,7 @@ pub record Handed (loaded : Loaded × List ℕ) (bytes w : List ℕ) (v : ℕ) (
 abbrev pub CheckIsLoad : Type 0
 CheckIsLoad = (n e : ℕ) (bytes w : List ℕ) → e ≤ leftover_limit → length w ≡ pool_length register_count n + e → check_of bytes n ≡ (load_of w bytes).0.verdict
 
--- Every accepted load leaves a is_well_formed pool of as many cells as the words hold: whoever has checked an image need not check the pool.
+-- Every accepted load leaves a well-formed pool of as many cells as the words hold: whoever has checked an image need not check the pool.
 abbrev pub LoadIsWellFormed : Type 0
 LoadIsWellFormed =
     (w bytes : List ℕ)

@@ -1,4 +1,4 @@
--- The numbers of a is_well_formed pool's links: nil has none, and no two cells that are reached have the same.
+-- The numbers of a well-formed pool's links: nil has none, and no two cells that are reached have the same.
 use Prim.Native.Nat.{ℕ, ◌-◌, ◌<◌}
 use native.Mathlib.Omega.{arith}
 use mathlib.Core.Path.{◌≡◌, sym, ap, ◌∙◌}

@@ -5,7 +5,7 @@ use Rattle.questions.specs.Validity.{well_formed}
 use Rattle.reversal.specs.Reached.{reached_cells, reached_count}
 use Rattle.image.specs.Image.{number_in}
 
--- A is_well_formed pool of n cells, with scratch of s words.
+-- A well-formed pool of n cells, with scratch of s words.
 pub record Savable (R n : ℕ) (w : List ℕ) (s : ℕ) : Type 0 where
   pub most : n ≤ cell_limit
   pub room : pool_length R n ≤ length w

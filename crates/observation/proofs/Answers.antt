@@ -1,4 +1,4 @@
--- Two pools that answer every list of reads alike: what their registers hold is paired one_to_one, and cells that are paired have the same content.
+-- Two pools that answer every list of reads alike: what their registers hold is paired one-to-one, and cells that are paired have the same content.
 use Prim.Native.Nat.{ℕ, ◌<◌}
 use native.Mathlib.Omega.{arith}
 use mathlib.Core.Path.{◌≡◌, refl, sym, ap}

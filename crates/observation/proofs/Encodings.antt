@@ -1,4 +1,4 @@
--- Encodings are one_to_one, whatever stands behind them: numbers, lists of things that are encoded so, and images.
+-- Encodings are one-to-one, whatever stands behind them: numbers, lists of things that are encoded so, and images.
 use Prim.Native.Nat.{ℕ, zero, suc, ◌+◌, ◌/◌, ◌%◌, ◌<◌}
 use native.Mathlib.Omega.{arith}
 use native.Mathlib.Decide.{dec_lt}

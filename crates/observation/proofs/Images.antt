@@ -1,4 +1,4 @@
--- Two pools whose graphs are paired one_to_one, with the same content of paired cells, have the same image.
+-- Two pools whose graphs are paired one-to-one, with the same content of paired cells, have the same image.
 use Prim.Native.Nat.{ℕ, ◌-◌, ◌<◌}
 use native.Mathlib.Omega.{arith}
 use mathlib.Core.Path.{◌≡◌, refl, sym, ap, ◌∙◌}

@@ -1,4 +1,4 @@
--- Two pools with the same image: links with the same number are related one_to_one.
+-- Two pools with the same image: links with the same number are related one-to-one.
 use Prim.Native.Nat.{ℕ, ◌-◌, ◌<◌}
 use native.Mathlib.Omega.{arith}
 use mathlib.Core.Path.{◌≡◌, refl, sym, ap, ◌∙◌}

@@ -1,4 +1,4 @@
--- Two pools whose links are related one_to_one: every read answers alike on both, and keeps the relation.
+-- Two pools whose links are related one-to-one: every read answers alike on both, and keeps the relation.
 use Prim.Native.Nat.{ℕ, ◌<◌}
 use native.Mathlib.Omega.{arith}
 use native.Mathlib.Decide.{ℕ_discrete}

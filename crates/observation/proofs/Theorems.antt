@@ -53,7 +53,7 @@ related_alike {n} {m} F P pool other rel calls reads needs =
     ))
     (standing pool) (standing other) rel
 
--- Where they are related one_to_one, with x and y, to every list.
+-- Where they are related one-to-one, with x and y, to every list.
 one_to_one_alike : {n m : ℕ} {w v : List ℕ} (P : ℕ → ℕ → Type 0) → WholePool n w → WholePool m v → OneToOne P
     → Related (λ k. k < register_count) BothFields P w v → AnswerAlike w v
 one_to_one_alike P pool other o rel calls reads =

@@ -211,7 +211,7 @@ module _ (N M : ℕ) (w v : List ℕ) where
             one true e = refl
             one false e = absurd (omega arith)
 
-  -- So the pairing of the two graphs is one_to_one, and cells that are paired have the same content.
+  -- So the pairing of the two graphs is one-to-one, and cells that are paired have the same content.
   pub alike-paired : Alike N M w v → OneToOne (PairedLinks w v)
   alike-paired alike =
       record {

@@ -11,7 +11,7 @@ use Rattle.save.specs.Save.{save_of}
 use Rattle.save.specs.RoundTrip.{Words}
 use Rattle.observation.specs.Reads.{AnswerAlike}
 
--- The words are a whole pool of n cells: they pass the first question (01, "Questions, in order") and are is_well_formed (01: whole).
+-- The words are a whole pool of n cells: they pass the first question (01, "Questions, in order") and are well-formed (01: whole).
 pub record WholePool (n : ℕ) (w : List ℕ) : Type 0 where
   pub some : 0 < n
   pub cells : cell_count register_count w ≡ n

@@ -1,4 +1,4 @@
--- Fresh words are a is_well_formed pool.
+-- Fresh words are a well-formed pool.
 use Prim.Native.Nat.{◌≤◌}
 use native.Mathlib.Omega.{arith}
 use mathlib.Core.Path.{◌≡◌, sym, ◌∙◌}

@@ -1,4 +1,4 @@
--- A is_well_formed pool, seen as a graph: its links stay within the cells, and what its registers reach is used.
+-- A well-formed pool, seen as a graph: its links stay within the cells, and what its registers reach is used.
 use Prim.Native.Nat.{ℕ, ◌<◌, ◌≤◌}
 use native.Mathlib.Omega.{arith}
 use mathlib.Core.Path.{◌≡◌, sym, ◌∙◌}

@@ -1,4 +1,4 @@
--- A retained pool is is_well_formed where what is kept leads only to what is kept.
+-- A retained pool is well-formed where what is kept leads only to what is kept.
 use Prim.Native.Nat.{ℕ, ◌<◌, ◌≤◌}
 use native.Mathlib.Omega.{arith}
 use mathlib.Core.Path.{◌≡◌, refl, ap, ◌∙◌}

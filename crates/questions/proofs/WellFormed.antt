@@ -1,4 +1,4 @@
--- A is_well_formed pool as facts about its registers and cells, read off the test and put back into it.
+-- A well-formed pool as facts about its registers and cells, read off the test and put back into it.
 use Prim.Native.Nat.{ℕ, suc, ◌-◌, ◌<◌, ◌≤◌}
 use native.Mathlib.Omega.{arith}
 use mathlib.Core.Path.{◌≡◌, refl}
@@ -26,7 +26,7 @@ pub record WellFormed (R n : ℕ) (w : List ℕ) : Type 0 where
   pub registers : (k : ℕ) → k < R → Link R n w (register w k)
   pub cells : (i : ℕ) → 0 < i → i ≤ n → Cell R n w i
 
--- no cell of a is_well_formed pool is marked
+-- no cell of a well-formed pool is marked
 pub cell_unmarked : {R n : ℕ} {w : List ℕ} {i : ℕ} → Cell R n w i → is_marked (state R w i) ≡ false
 cell_unmarked {R} {n} {w} {i} (free s) = free_not_marked (state R w i) s
 cell_unmarked {R} {n} {w} {i} (used s l r) = used_not_marked (state R w i) s

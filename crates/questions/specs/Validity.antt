@@ -1,4 +1,4 @@
--- Valid links and is_well_formed pools (01, "The pool's words": "sound" and "whole").
+-- Valid links and well-formed pools (01, "The pool's words": "sound" and "whole").
 use Rattle.std.specs.Prelude.{ℕ, suc, List, Bool, ◌&&◌, ◌||◌, eqb, leb}
 use Rattle.pool.specs.Words.{every}
 use Rattle.pool.specs.Layout.{register, state, link_of}

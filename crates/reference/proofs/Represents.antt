@@ -72,7 +72,7 @@ pub record Represents (w : List ℕ) (m : Model) : Type 0 where
 abbrev pub More : (ℕ → ℕ → Type 0) → ℕ → ℕ → ℕ → ℕ → Type 0
 More P p q x y = P x y ⊎ ((x ≡ p) × (y ≡ q))
 
--- With one more it is one_to_one if that one agrees with each of the others.
+-- With one more it is one-to-one if that one agrees with each of the others.
 pub more-one : (P : ℕ → ℕ → Type 0) → OneToOne P → (p q : ℕ) → (p ≡ 0) ↔ (q ≡ 0) → ((x y : ℕ) → P x y → (x ≡ p) ↔ (y ≡ q)) → OneToOne (More P p q)
 more-one P one p q ends fits = record { nil = nil; forward = forward; backward = backward }
   where
@@ -96,7 +96,7 @@ more-one P one p q ends fits = record { nil = nil; forward = forward; backward =
 pub nil-one : (P : ℕ → ℕ → Type 0) → OneToOne P → OneToOne (More P 0 0)
 nil-one P one = more-one P one 0 0 (λ e. e, λ e. e) one.nil
 
--- The words represent the model if some one_to_one relation holds between their registers and, wherever it holds between two cells, these are alike.
+-- The words represent the model if some one-to-one relation holds between their registers and, wherever it holds between two cells, these are alike.
 pub rep_made : (w : List ℕ) (m : Model) (P : ℕ → ℕ → Type 0) → OneToOne P → Bounded m
     → ((k : ℕ) → k < register_count → P (register w k) (held m k))
     → ((x y : ℕ) → P x y → 0 < x → 0 < y → Alike P w x (entry m y))

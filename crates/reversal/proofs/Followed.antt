@@ -80,7 +80,7 @@ module _ {R n : ℕ} where
   order (MarkRoots.run {p = p} h r rest) = p ∷ (followed (trace_run r) ++ order rest)
 
 module _ (R n : ℕ) (g : Graph) (point : ℕ → Bool) where
-  -- that order is what the depth-first visits newly mark; each of its pairs has two four_way_lem exchanges and each point one, but for one less in every run
+  -- that order is what the depth-first visits newly mark; each of its pairs has two four-way exchanges and each point one, but for one less in every run
   order-dfs_all : {m : ℕ → ℕ} {ps t : List ℕ} → DfsAll g m ps t → {s end : ℕ × List ℕ} → Agreement R n g point m s.1 → ((x : ℕ) → Memᴰ x ps → x ≤ n)
       → (d : MarkRoots R n ps s end) → (order d ≡ t) × (four_ways (trace_roots d) + length (begins d) ≡ pair_count point t + length t)
   unfolding marks mark_all order trace_roots begins four_ways pair_count

@@ -1,4 +1,4 @@
--- The states of a is_well_formed pool as marks: they agree with its graph, so marking can start.
+-- The states of a well-formed pool as marks: they agree with its graph, so marking can start.
 use Prim.Native.Nat.{ℕ, ◌<◌, ◌≤◌}
 use native.Mathlib.Omega.{arith}
 use mathlib.Core.Path.{◌≡◌, refl}

@@ -31,7 +31,7 @@ use Rattle.graph.proofs.Visits.{marked-none}
 use Rattle.reversal.proofs.Agreement.{unmarked-cell, unmarked-true, unmarked-false, agreement-set_node, agreement-dfs, away}
 use Rattle.reversal.specs.Reached.{pair_count, point_count, visits_of}
 
--- k visits lead from s to t; the cells that they follow links to are f, and j of them are four_way_lem exchanges.
+-- k visits lead from s to t; the cells that they follow links to are f, and j of them are four-way exchanges.
 pub record Traced (R n k : ℕ) (s t : Marker × List ℕ) (f : List ℕ) (j : ℕ) : Type 0 where
   pub visits : Visits R n k s t
   pub followed : followed (trace R k s) ≡ f
@@ -51,7 +51,7 @@ module _ (R n : ℕ) where
   visits-append {s = s} {u = u} (Visits.more v a) b =
       subst (λ (i : ℕ). Visits R n i s u) (omega arith) (Visits.more v (visits-append a b))
 
-  -- so do what they follow, and their four_way_lem exchanges
+  -- so do what they follow, and their four-way exchanges
   traced_append : {k k' : ℕ} {s t u : Marker × List ℕ} {f f' : List ℕ} {j j' : ℕ} → Traced R n k s t f j → Traced R n k' t u f' j'
       → Traced R n (k + k') s u (f ++ f') (j + j')
   traced_append {k} {k'} {s} {t} a b =

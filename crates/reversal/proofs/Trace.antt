@@ -12,7 +12,7 @@ use Rattle.visit.proofs.Cases.{chosen}
 use Rattle.reversal.specs.Reversal.{Visits}
 use Rattle.reversal.specs.Trace.{trace, follows, is_four_way, followed, four_ways}
 
--- the four_way_lem exchange comes at the third visit of a pair and where the link is unmarked
+-- the four-way exchange comes at the third visit of a pair and where the link is unmarked
 pub four_way_lem : (third first onward : Bool) → is_four_way (chosen false third first onward) ≡ (third || onward)
 four_way_lem true first onward = refl
 four_way_lem false true true = refl

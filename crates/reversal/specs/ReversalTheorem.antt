@@ -55,7 +55,7 @@ RunFromRoots =
 abbrev pub marked_of : ℕ → ℕ → List ℕ → ℕ × List ℕ
 marked_of R n w = (reached_visits R n w, mark_all R w (reached_cells R n w))
 
--- The same of a is_well_formed pool and its registers: the runs make three visits for each reached pair and one for each reached point, mark exactly these,
+-- The same of a well-formed pool and its registers: the runs make three visits for each reached pair and one for each reached point, mark exactly these,
 -- and change no other word. (A free cell counts as marked, since its state is not that of a used one; but no free cell is reached.)
 abbrev pub RunOverPool : Type 0
 RunOverPool =

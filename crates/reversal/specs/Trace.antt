@@ -1,4 +1,4 @@
--- The visits of runs by their cases (02, S-4 and S-8): the cells that they go to, and how many are four_way_lem exchanges.
+-- The visits of runs by their cases (02, S-4 and S-8): the cells that they go to, and how many are four-way exchanges.
 use Rattle.std.specs.Prelude.{ℕ, zero, suc, ◌+◌, List, [], ◌∷◌, ◌++◌, Bool, true, false, cond}
 use Rattle.graph.specs.Preorder.{elem}
 use Rattle.visit.specs.declared.Marker.{Marker}
@@ -22,7 +22,7 @@ follows visit.FollowRight = true
 follows visit.PassRight = false
 follows visit.Point = false
 
--- The cases that are four_way_lem exchanges, as `act_of` has them: 1, 2 and 4.
+-- The cases that are four-way exchanges, as `act_of` has them: 1, 2 and 4.
 abbrev pub is_four_way : VisitCase → Bool
 is_four_way visit.Retreat = true
 is_four_way visit.FollowLeft = true
@@ -36,7 +36,7 @@ unfoldable pub followed : List (VisitCase × ℕ) → List ℕ
 followed [] = []
 followed (v ∷ vs) = cond (follows v.0) (v.1 ∷ followed vs) (followed vs)
 
--- How many of the visits are four_way_lem exchanges.
+-- How many of the visits are four-way exchanges.
 unfoldable pub four_ways : List (VisitCase × ℕ) → ℕ
 four_ways [] = 0
 four_ways (v ∷ vs) = cond (is_four_way v.0) 1 0 + four_ways vs

@@ -1,4 +1,4 @@
--- The graph of a loaded save: it is paired one_to_one with the saved graph, so its cells are visited in the order of their numbers.
+-- The graph of a loaded save: it is paired one-to-one with the saved graph, so its cells are visited in the order of their numbers.
 use Prim.Native.Nat.{ℕ, zero, suc, ◌-◌, ◌<◌, ◌≤◌}
 use native.Mathlib.Omega.{arith}
 use mathlib.Core.Path.{◌≡◌, refl, sym, ap, ◌∙◌}

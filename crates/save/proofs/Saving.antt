@@ -12,7 +12,7 @@ use Rattle.answers.specs.Outcome.{Outcome, answered, refused}
 use Rattle.image.specs.Image.{image_of}
 use Rattle.save.specs.Save.{save_image, save_in}
 
--- A is_well_formed pool: the output has room, or not.
+-- A well-formed pool: the output has room, or not.
 module _ (image s t out : List ℕ) (size : ℕ) (sized : size ≡ length image) (clear : t ≡ replicate (length s) 0) where
   pub save-short : length out < size → ◌≡◌ {A = Outcome × List ℕ × List ℕ} (refused 10, t, out) (save_image image s out)
   save-short short = simp (clear, lt-leb (length image) (length out) (omega arith))

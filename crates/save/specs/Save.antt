@@ -17,7 +17,7 @@ saved_outcome (saved.Refused why) = refused (refusal_number why)
 abbrev pub SavedDetermined : Type 0
 SavedDetermined = Determined Saved saved_outcome
 
--- The answer, the scratch and the output afterwards, for a is_well_formed pool: "does the output hold the image? No: 10."; "once save has found
+-- The answer, the scratch and the output afterwards, for a well-formed pool: "does the output hold the image? No: 10."; "once save has found
 -- the pool whole all its scratch is 0, refused or not"; "output past the image stays".
 abbrev pub save_image : List ℕ → List ℕ → List ℕ → Outcome × List ℕ × List ℕ
 save_image image s out =

@@ -16,13 +16,11 @@ use Rattle.script.specs.Scripts.{next_line}
 use Rattle.script.proofs.Scanning.{line_goes_on}
 
 -- What a test for a digit tells, where its answer is turned round.
-pub no_digit : (b : ℕ) (t : Bool) → t ≡ is_digit b → not t ≡ true → is_digit b ≡ false
-no_digit b true e h = let z : ◌≡◌ {A = ℕ} 0 1 = cc in absurd (omega arith)
-no_digit b false e h = sym e
+pub no_digit : (b : ℕ) (t : Bool) → t ≡ is_digit b → t ≡ false → is_digit b ≡ false
+no_digit b t e h = sym e ∙ h
 
-pub a_digit : (b : ℕ) (t : Bool) → t ≡ is_digit b → not t ≡ false → is_digit b ≡ true
-a_digit b true e h = sym e
-a_digit b false e h = let z : ◌≡◌ {A = ℕ} 0 1 = cc in absurd (omega arith)
+pub a_digit : (b : ℕ) (t : Bool) → t ≡ is_digit b → t ≡ true → is_digit b ≡ true
+a_digit b t e h = sym e ∙ h
 
 pub digit_bounds : (b : ℕ) → is_digit b ≡ true → (code "0" ≤ b) × (b ≤ code "9")
 digit_bounds b digit =

@@ -217,7 +217,7 @@ module _ (R n : ℕ) (pool : List ℕ) (well : WellFormed R n pool) (room : pool
             λ k. marks-keeps (state_marks R n pool) s.seen x (rw same at k),
           )
 
--- Of words with some cells pending: the pool is is_well_formed, and has their length.
+-- Of words with some cells pending: the pool is well-formed, and has their length.
 module _ {R n : ℕ} {w pending : List ℕ} (h : Pending R n w pending) where
   pub pending_well : WellFormed R n h.pool
   pending_well = well_formed_read R n h.pool h.well

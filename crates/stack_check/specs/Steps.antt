@@ -40,7 +40,7 @@ unfoldable pub without_nil : List ℕ → List ℕ
 without_nil [] = []
 without_nil (x ∷ xs) = entry_of x ++ without_nil xs
 
--- The words w are those of a is_well_formed pool of n cells in which some cells are marked, of which these are pending.
+-- The words w are those of a well-formed pool of n cells in which some cells are marked, of which these are pending.
 pub record Pending (R n : ℕ) (w pending : List ℕ) : Type 0 where
   pub pool : List ℕ
   pub seen : List ℕ

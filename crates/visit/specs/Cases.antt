@@ -23,7 +23,7 @@ case_of R w p =
 abbrev pub set_links : ℕ → List ℕ → ℕ → ℕ → ℕ → List ℕ
 set_links R w i l r = set_cell R (set_cell R w i 1 l) i 2 r
 
--- The four_way_lem exchange: "p, l[p], r[p], q become l[p], r[p], q, p".
+-- The four-way exchange: "p, l[p], r[p], q become l[p], r[p], q, p".
 abbrev pub four_way : ℕ → Marker × List ℕ → Marker × List ℕ
 four_way R s =
     let p = s.0.cell in

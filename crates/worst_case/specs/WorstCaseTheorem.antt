@@ -15,7 +15,7 @@ use Rattle.worst_case.specs.WorstCase.{worst_case_of}
 
 -- The words w hold the pool of n cells that is built.
 pub record WorstCase (n : ℕ) (w : List ℕ) : Type 0 where
-  -- "build a pool of N used cells", which is is_well_formed; each is a pair
+  -- "build a pool of N used cells", which is well-formed; each is a pair
   pub cells : cell_count register_count w ≡ n
   pub is_well_formed : well_formed register_count n w ≡ true
   pub pairs : (i : ℕ) → 0 < i → i ≤ n → state register_count w i ≡ pair_state
@@ -41,7 +41,7 @@ WorstCaseBuilt =
 abbrev pub NoPoolHoldsMore : Type 0
 NoPoolHoldsMore = (R n : ℕ) (w : List ℕ) → well_formed R n w ≡ true → max_entries n (graph_of R w) (roots_of R w) ≤ (n - 1) / 2
 
--- So a lent stack of (N − 1) / 2 words is enough for every is_well_formed pool of N cells, and none of its entries is ever checked: the collection with it says so.
+-- So a lent stack of (N − 1) / 2 words is enough for every well-formed pool of N cells, and none of its entries is ever checked: the collection with it says so.
 abbrev pub HalfIsEnough : Type 0
 HalfIsEnough =
     (n : ℕ) (w stack : List ℕ) → 0 < n → cell_count register_count w ≡ n → well_formed register_count n w ≡ true → (n - 1) / 2 ≤ length stack

@@ -1,4 +1,4 @@
--- `recursive_marker::collect_in` meets its contract: a is_well_formed pool is marked and swept, and any other is refused.
+-- `recursive_marker::collect_in` meets its contract: a well-formed pool is marked and swept, and any other is refused.
 use mathlib.Core.Path.{sym, ◌∙◌}
 use Rattle.collector.proofs.CollectTheorem.{collect_made}
 use Rattle.recursive_marker.proofs.collect_in.Goals as goal
