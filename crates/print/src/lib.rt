@@ -1,41 +1,40 @@
-// What the examples print: a line of a label and numbers, or of a label and an answer.
+// What the examples print: a line of a label and numbers, or of a label and an answer. A write that fails is passed over.
 #![tactic(auto)]
 
 use answers::Answer;
-use libc::STDOUT_FILENO;
 use replies::{Reply, Written};
 
-pub fn label(text: &[u8]) {
-    io::write_all(STDOUT_FILENO, text);
+pub fn label(rt: &impl Print, text: &[u8]) {
+    let _ = rt.write_all(text);
 }
 
-pub fn number(n: u64) {
-    io::write_all(STDOUT_FILENO, b" ");
-    io::print_decimal(STDOUT_FILENO, n);
+pub fn number(rt: &impl Print, n: u64) {
+    let _ = rt.write_all(b" ");
+    let _ = rt.print(n);
 }
 
-pub fn word(w: u32) {
-    number(w as u64);
+pub fn word(rt: &impl Print, w: u32) {
+    number(rt, w as u64);
 }
 
-pub fn line_end() {
-    io::write_all(STDOUT_FILENO, b"\n");
+pub fn line_end(rt: &impl Print) {
+    let _ = rt.write_all(b"\n");
 }
 
 // Prints the first bytes of a line.
-fn prefix(line: &[u8], end: usize) {
+fn prefix(rt: &impl Print, line: &[u8], end: usize) {
     if end <= line.len() {
-        io::write_all(STDOUT_FILENO, &line[..end]);
+        let _ = rt.write_all(&line[..end]);
     }
 }
 
 // Prints a label and what an answer says.
-pub fn answer(text: &[u8], answer: Answer) {
-    label(text);
-    label(b" ");
+pub fn answer(rt: &impl Print, text: &[u8], answer: Answer) {
+    label(rt, text);
+    label(rt, b" ");
     let mut line = [0u8; 32];
     let Written::Next(end) = replies::write_reply(&mut line, 0, Reply::Answered(answer)) else {
         return;
     };
-    prefix(&line, end);
+    prefix(rt, &line, end);
 }

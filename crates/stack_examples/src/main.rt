@@ -6,24 +6,24 @@ use pool::Pool;
 use stack_marker::StackAnswer;
 
 // Prints a label and what a collection with a stack says.
-fn show_stack(label: &[u8], answer: StackAnswer) {
+fn show_stack(rt: &impl Print, label: &[u8], answer: StackAnswer) {
     match answer {
         StackAnswer::Collected {
             kept,
             enough,
             checks,
         } => {
-            print::label(label);
-            print::word(kept);
+            print::label(rt, label);
+            print::word(rt, kept);
             if enough {
-                print::label(b" kept, enough, checks:");
+                print::label(rt, b" kept, enough, checks:");
             } else {
-                print::label(b" kept, too short, checks:");
+                print::label(rt, b" kept, too short, checks:");
             }
-            print::word(checks);
-            print::line_end();
+            print::word(rt, checks);
+            print::line_end(rt);
         }
-        StackAnswer::Refused(refusal) => print::answer(label, Answer::Refused(refusal)),
+        StackAnswer::Refused(refusal) => print::answer(rt, label, Answer::Refused(refusal)),
     }
 }
 
@@ -38,16 +38,18 @@ fn chain(words: &mut [u32]) {
 }
 
 // "The chain of such cells needs no stack word where 01 said N − 1". The pool is as it was after each, and so it collects the same.
-fn equal_links() {
+fn equal_links(rt: &impl Print) {
     let mut words = [0u32; 38];
     let mut stack = [0u32; 1];
     chain(&mut words);
     show_stack(
+        rt,
         b"chain of 5 with equal links, no stack word:",
         stack_marker::collect_stack(&mut words, &mut stack[..0]),
     );
-    print::answer(b"and then by reversal:", collector::collect(&mut words));
+    print::answer(rt, b"and then by reversal:", collector::collect(&mut words));
     print::answer(
+        rt,
         b"and then recursively:",
         recursive_marker::collect_recursive(&mut words),
     );
@@ -65,81 +67,93 @@ fn leaves(words: &mut [u32]) {
 }
 
 // "Treating 003's listings as exact: Algorithm 5 reads cdr from car, and tests "both marked" twice." No right leaf must be lost.
-fn both_links_are_read() {
+fn both_links_are_read(rt: &impl Print) {
     let mut words = [0u32; 38];
     let mut stack = [0u32; 1];
     leaves(&mut words);
     show_stack(
+        rt,
         b"a cell with two leaves, and one with a right leaf, 1 stack word:",
         stack_marker::collect_stack(&mut words, &mut stack),
     );
     calls::right(&mut words, 2, 0);
     print::answer(
+        rt,
         b"the value of the right one of the two leaves:",
         calls::value(&words, 2),
     );
     calls::right(&mut words, 2, 1);
-    print::answer(b"that of the other right leaf:", calls::value(&words, 2));
+    print::answer(
+        rt,
+        b"that of the other right leaf:",
+        calls::value(&words, 2),
+    );
 }
 
 // "Leaving links rotated when a stack overflow falls back": the two leaves are left and right as they were.
-fn links_after_falling_back() {
+fn links_after_falling_back(rt: &impl Print) {
     let mut words = [0u32; 38];
     let mut stack = [0u32; 1];
     leaves(&mut words);
     show_stack(
+        rt,
         b"the same, no stack word:",
         stack_marker::collect_stack(&mut words, &mut stack[..0]),
     );
     calls::left(&mut words, 2, 0);
     print::answer(
+        rt,
         b"the value of the left one of the two leaves:",
         calls::value(&words, 2),
     );
     calls::right(&mut words, 2, 0);
-    print::answer(b"that of the right one:", calls::value(&words, 2));
+    print::answer(rt, b"that of the right one:", calls::value(&words, 2));
 }
 
 // "That number is (N − 1) / 2 rounded down, and it is answered": so many stack words need no check, and with one less there is one, which drops all entries.
-fn fills_the_stack(label: &[u8], words: &mut [u32], stack: &mut [u32]) {
-    print::answer(label, worst_case::worst_case(words));
+fn fills_the_stack(rt: &impl Print, label: &[u8], words: &mut [u32], stack: &mut [u32]) {
+    print::answer(rt, label, worst_case::worst_case(words));
     show_stack(
+        rt,
         b"its collection with so many stack words:",
         stack_marker::collect_stack(words, stack),
     );
     if 0 < stack.len() {
         show_stack(
+            rt,
             b"and with one less:",
             stack_marker::collect_stack(words, &mut stack[1..]),
         );
     }
 }
 
-fn worst_case_of_5() {
+fn worst_case_of_5(rt: &impl Print) {
     let mut words = [9u32; 38];
     let mut stack = [9u32; 2];
     fills_the_stack(
+        rt,
         b"the pool of 5 cells that fills the stack:",
         &mut words,
         &mut stack,
     );
 }
 
-fn worst_case_of_4000() {
+fn worst_case_of_4000(rt: &impl Print) {
     let mut words = [9u32; 16018];
     let mut stack = [9u32; 1999];
     let mut ten = [9u32; 10];
-    fills_the_stack(b"that of 4000 cells:", &mut words, &mut stack);
+    fills_the_stack(rt, b"that of 4000 cells:", &mut words, &mut stack);
     show_stack(
+        rt,
         b"and with ten:",
         stack_marker::collect_stack(&mut words, &mut ten),
     );
 }
 
-fn main() {
-    equal_links();
-    both_links_are_read();
-    links_after_falling_back();
-    worst_case_of_5();
-    worst_case_of_4000();
+fn main(rt: HostRuntime) {
+    equal_links(&rt);
+    both_links_are_read(&rt);
+    links_after_falling_back(&rt);
+    worst_case_of_5(&rt);
+    worst_case_of_4000(&rt);
 }

@@ -215,7 +215,7 @@ fn run_in(words: &mut [u32], after: &mut [u32], stack: &mut [u32], trial: Trial)
     )
 }
 
-fn main() {
+fn main(rt: HostRuntime) {
     let mut words = [0u32; 16021];
     let mut after = [0u32; 16021];
     let mut stack = [0u32; 4000];
@@ -243,6 +243,7 @@ fn main() {
         );
     }
     totals::print(
+        &rt,
         &t,
         b"well-formed pools: #\ncells: #\nkept cells: #\nmalformed pools: #\nreversal: agreed #, differed #, visits #\nrecursive marker: agreed #, differed #, visits #\nstack of no words: agreed #, differed #, enough #\nstack of one word: agreed #, differed #, enough #\nstack of N words: agreed #, differed #, enough #\nchecks with no words: #\nchecks with one word: #\nchecks with N words: #\nwords behind the cells: #\nkept points: #\n",
     );

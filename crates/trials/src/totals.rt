@@ -1,6 +1,4 @@
 // The totals of the trials, and how they are printed.
-use libc::STDOUT_FILENO;
-
 // The number of well-formed pools, of their cells and of the kept cells, of malformed pools; then for each marker on how many pools it agreed, on how
 // many it differed, and the sum of its visits, or of the pools for which its stack was enough; then for each marker with a stack its checks; then the words
 // behind the cells, and the kept points.
@@ -65,17 +63,17 @@ pub fn count_trial(t: &mut Totals, marker: u32, agreed: bool, more: u32, checks:
     }
 }
 
-// Prints a text, with the totals in order at its number signs.
-pub fn print(t: &Totals, text: &[u8]) {
+// Prints a text, with the totals in order at its number signs. A write that fails is passed over.
+pub fn print(rt: &impl Print, t: &Totals, text: &[u8]) {
     let mut place = 0;
     let mut k = 0;
     while k < text.len() {
         if text[k] == b'#' {
-            io::print_decimal(STDOUT_FILENO, get(t, place) as u64);
+            let _ = rt.print(get(t, place));
             place = std::num::wrapping_add_usize(place, 1);
             k += 1;
         } else {
-            io::write_all(STDOUT_FILENO, &text[k..k + 1]);
+            let _ = rt.write_all(&text[k..k + 1]);
             k += 1;
         }
     }

@@ -30,38 +30,38 @@ fn save_two(bytes: &mut [u8]) {
 }
 
 // Prints a verdict, and how many bytes are behind the image.
-fn show(verdict: u32, rest: usize) {
-    print::label(b"load, its verdict and the bytes behind the image:");
-    print::word(verdict);
-    print::number(rest as u64);
-    print::line_end();
+fn show(rt: &impl Print, verdict: u32, rest: usize) {
+    print::label(rt, b"load, its verdict and the bytes behind the image:");
+    print::word(rt, verdict);
+    print::number(rt, rest as u64);
+    print::line_end(rt);
 }
 
-fn show_value(words: &[u32], a: u32) {
-    print::label(b"the value there:");
+fn show_value(rt: &impl Print, words: &[u32], a: u32) {
+    print::label(rt, b"the value there:");
     if let Answer::Number(x) = calls::value(words, a) {
-        print::word(x);
+        print::word(rt, x);
     }
-    print::line_end();
+    print::line_end(rt);
 }
 
 // Loads the first image, the second from the part behind the first, and what is behind that, which is no image.
-fn load_each(words: &mut [u32], bytes: &[u8]) {
+fn load_each(rt: &impl Print, words: &mut [u32], bytes: &[u8]) {
     let mut verdict = 0;
     let behind_first = load::load(words, bytes, &mut verdict);
-    show(verdict, behind_first.len());
-    show_value(words, 0);
+    show(rt, verdict, behind_first.len());
+    show_value(rt, words, 0);
     let behind_second = load::load(words, behind_first, &mut verdict);
-    show(verdict, behind_second.len());
-    show_value(words, 1);
+    show(rt, verdict, behind_second.len());
+    show_value(rt, words, 1);
     let none = load::load(words, behind_second, &mut verdict);
-    show(verdict, none.len());
-    show_value(words, 1);
+    show(rt, verdict, none.len());
+    show_value(rt, words, 1);
 }
 
-pub fn load_in_turn() {
+pub fn load_in_turn(rt: &impl Print) {
     let mut bytes = [0u8; 50];
     let mut words = [0u32; 26];
     save_two(&mut bytes);
-    load_each(&mut words, &bytes);
+    load_each(rt, &mut words, &bytes);
 }

@@ -5,41 +5,41 @@ use batch::Ran;
 use pool::Pool;
 
 // Prints the answer of the call at place k.
-fn show(answers: &[u32; 24], k: usize) {
-    print::label(b"answer:");
+fn show(rt: &impl Print, answers: &[u32; 24], k: usize) {
+    print::label(rt, b"answer:");
     if k < 8 {
-        print::word(answers[3 * k]);
-        print::word(answers[3 * k + 1]);
-        print::word(answers[3 * k + 2]);
+        print::word(rt, answers[3 * k]);
+        print::word(rt, answers[3 * k + 1]);
+        print::word(rt, answers[3 * k + 2]);
     }
-    print::line_end();
+    print::line_end(rt);
 }
 
-fn show_ran(ran: Ran) {
+fn show_ran(rt: &impl Print, ran: Ran) {
     match ran {
         Ran::All(n) => {
-            print::label(b"all calls ran:");
-            print::number(n as u64);
+            print::label(rt, b"all calls ran:");
+            print::number(rt, n as u64);
         }
         Ran::Malformed(n) => {
-            print::label(b"no call, behind:");
-            print::number(n as u64);
+            print::label(rt, b"no call, behind:");
+            print::number(rt, n as u64);
         }
         Ran::NoRoom(n) => {
-            print::label(b"no room for an answer, behind:");
-            print::number(n as u64);
+            print::label(rt, b"no room for an answer, behind:");
+            print::number(rt, n as u64);
         }
     }
-    print::line_end();
+    print::line_end(rt);
 }
 
-fn show_all(answers: &[u32; 24]) {
+fn show_all(rt: &impl Print, answers: &[u32; 24]) {
     for k in 0..8 {
-        show(answers, k);
+        show(rt, answers, k);
     }
 }
 
-pub fn run_example() {
+pub fn run_example(rt: &impl Print) {
     let list = [
         2u32, 0, 0, 0, 7, // n 0 0 0 7
         2, 1, 0, 0, 8, // n 1 0 0 8
@@ -53,6 +53,6 @@ pub fn run_example() {
     let mut words = [0u32; 26];
     let mut answers = [0u32; 24];
     Pool::fresh(&mut words);
-    show_ran(batch::run(&mut words, &list, &mut answers));
-    show_all(&answers);
+    show_ran(rt, batch::run(&mut words, &list, &mut answers));
+    show_all(rt, &answers);
 }

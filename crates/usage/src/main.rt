@@ -8,9 +8,9 @@ mod lists;
 mod numbers;
 mod tallies;
 
-fn main() {
-    images::load_in_turn();
-    tallies::collect_in_turn();
-    lists::run_example();
-    numbers::read_in_turn();
+fn main(rt: HostRuntime) {
+    images::load_in_turn(&rt);
+    tallies::collect_in_turn(&rt);
+    lists::run_example(&rt);
+    numbers::read_in_turn(&rt);
 }

@@ -26,39 +26,39 @@ fn read_two(bytes: &[u8], at: usize) -> Two
     }
 }
 
-fn show(number: Number) {
+fn show(rt: &impl Print, number: Number) {
     match number {
         Number::Value { value, next } => {
-            print::label(b"number, and the place behind it:");
-            print::word(value);
-            print::number(next as u64);
+            print::label(rt, b"number, and the place behind it:");
+            print::word(rt, value);
+            print::number(rt, next as u64);
         }
-        Number::Missing => print::label(b"no number: the bytes end"),
-        Number::OutOfRange => print::label(b"no number: 2^32 or more"),
-        Number::Padded => print::label(b"no number: more groups than it needs"),
+        Number::Missing => print::label(rt, b"no number: the bytes end"),
+        Number::OutOfRange => print::label(rt, b"no number: 2^32 or more"),
+        Number::Padded => print::label(rt, b"no number: more groups than it needs"),
     }
-    print::line_end();
+    print::line_end(rt);
 }
 
-fn show_two(two: Two) {
+fn show_two(rt: &impl Print, two: Two) {
     let first = two.first;
     let second = two.second;
-    show(first);
-    show(second);
-    print::label(b"the reader stands at");
-    print::number(two.at as u64);
-    print::line_end();
+    show(rt, first);
+    show(rt, second);
+    print::label(rt, b"the reader stands at");
+    print::number(rt, two.at as u64);
+    print::line_end(rt);
 }
 
 // The numbers of the customer's examples, 127, 128, 300 and 4294967295, then one whose last byte is missing, and 5 written as 85 00, which is refused.
-pub fn read_in_turn() {
+pub fn read_in_turn(rt: &impl Print) {
     let bytes = b"\x7f\x80\x01\xac\x02\xff\xff\xff\xff\x0f\xff";
     let two = read_two(bytes, 0);
-    show_two(two);
+    show_two(rt, two);
     let four = read_two(bytes, two.at);
-    show_two(four);
+    show_two(rt, four);
     let end = read_two(bytes, four.at);
-    show_two(end);
+    show_two(rt, end);
     let padded = read_two(b"\x85\x00", 0);
-    show_two(padded);
+    show_two(rt, padded);
 }

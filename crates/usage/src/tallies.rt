@@ -17,15 +17,15 @@ fn collect_both(a: &mut [u32], b: &mut [u32], tally: Tally) -> Tally
     t
 }
 
-fn show(label: &[u8], t: Tally) {
-    print::label(label);
-    print::word(t.collections);
-    print::word(t.visits);
-    print::line_end();
+fn show(rt: &impl Print, label: &[u8], t: Tally) {
+    print::label(rt, label);
+    print::word(rt, t.collections);
+    print::word(rt, t.visits);
+    print::line_end(rt);
 }
 
 // Two cells in the first pool and one in the second; what is no pool is refused.
-pub fn collect_in_turn() {
+pub fn collect_in_turn(rt: &impl Print) {
     let mut two = [0u32; 26];
     let mut one = [0u32; 22];
     let mut none = [0u32; 21];
@@ -39,9 +39,14 @@ pub fn collect_in_turn() {
         visits: 0,
     };
     let first = collect_both(&mut two, &mut one, start);
-    show(b"collections and visits of pools of 2 and 1 cells:", first);
+    show(
+        rt,
+        b"collections and visits of pools of 2 and 1 cells:",
+        first,
+    );
     let second = collect_both(&mut none, &mut two, first);
     show(
+        rt,
         b"and then of what is no pool, and of the first pool again:",
         second,
     );
@@ -50,5 +55,5 @@ pub fn collect_in_turn() {
         visits: 4294967290,
     };
     let last = collect_both(&mut two, &mut one, full);
-    show(b"where the counts stop:", last);
+    show(rt, b"where the counts stop:", last);
 }
