@@ -50,7 +50,7 @@ fn manifest_dir() -> PathBuf {
 fn link_archive() {
     let dir = match env::var_os("CELLPOOL_LIB_DIR") {
         Some(dir) => PathBuf::from(dir),
-        None => manifest_dir().join("../target/staticlib"),
+        None => manifest_dir().join("../crates/cellpool/out"),
     };
     let archive = dir.join("libcellpool.a");
     if !archive.is_file() {

@@ -110,11 +110,11 @@ pub fn run(pool: &dyn Interface, script: &[u8], leftover: &[u32]) -> (String, Ve
     (replies, words)
 }
 
-/// The proved program, where it is built: CELLPOOL_RUNSCRIPT, or where `rt check runscript` puts it.
+/// The proved program, where it is built: CELLPOOL_RUNSCRIPT, or where `rt run` in crates/runscript, and `rt ci`, put it.
 pub fn program() -> Option<PathBuf> {
     if let Some(path) = std::env::var_os("CELLPOOL_RUNSCRIPT") {
         return Some(path.into());
     }
-    let path = PathBuf::from(env!("CARGO_MANIFEST_DIR")).join("../target/bin/runscript");
+    let path = PathBuf::from(env!("CARGO_MANIFEST_DIR")).join("../crates/runscript/out/runscript");
     path.is_file().then_some(path)
 }

@@ -379,7 +379,7 @@ fn an_archive_that_is_older_or_missing_is_not_installed() {
         let output = run("lib");
         assert_eq!(output.status.code(), Some(4));
         let told = text(&output.stderr);
-        assert!(told.contains(&format!("is older than {source}")) && told.contains("rt staticlib cellpool"), "{told}");
+        assert!(told.contains(&format!("is older than {source}")) && told.contains("rt lib --cpu=x86-64"), "{told}");
         opened.set_modified(before).expect("the time is set");
     }
     let output = run("none");

@@ -1,7 +1,7 @@
 //! Scripts: what the model of runscript prints, and that the program in plain C and the proved program print the same.
 //!
 //! The programs are run with the feature `archive`: the one in C where there is a C compiler, the proved one where it is
-//! built (`rt check runscript`).
+//! built (by `rt run` in crates/runscript, or `rt ci`).
 
 mod common;
 
@@ -180,7 +180,7 @@ mod programs {
     fn programs() -> Vec<PathBuf> {
         let mut list: Vec<PathBuf> = program().into_iter().collect();
         if list.is_empty() {
-            println!("no proved program: `rt check runscript` builds it");
+            println!("no proved program: `rt run` in crates/runscript builds it");
         }
         #[cfg(c_baseline)]
         list.push(env!("PLAIN_RUNSCRIPT").into());

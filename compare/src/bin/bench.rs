@@ -503,7 +503,7 @@ fn scripts(bench: &Bench, random: &mut Random) {
     const LINES: usize = 1_000_000;
     println!("### Scripts, {LINES} lines, {CELLS} cells\n");
     let Some(program) = script::program() else {
-        println!("`rt check runscript` builds the program; or set CELLPOOL_RUNSCRIPT to its path.");
+        println!("`rt run` in crates/runscript builds the program; or set CELLPOOL_RUNSCRIPT to its path.");
         return;
     };
     let plain = Path::new(env!("PLAIN_RUNSCRIPT"));
