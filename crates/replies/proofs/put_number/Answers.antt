@@ -1,5 +1,5 @@
 -- `replies::put_number` meets its contract: the number, and then the line end.
-use native.Mathlib.Omega.{arith}
+use Rattle.std.proofs.Common.{arith}
 use Rattle.replies.specs.Replies.{spaced}
 use Rattle.replies.proofs.Putting.{puts, length-one}
 use Rattle.replies.proofs.put_number.Goals as goal

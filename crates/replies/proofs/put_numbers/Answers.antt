@@ -1,6 +1,5 @@
 -- `replies::put_numbers` meets its contract: the first number, and then the second.
-use mathlib.Core.List.{[], ◌∷◌}
-use native.Mathlib.Omega.{arith}
+use Rattle.std.proofs.Common.{[], ◌∷◌, arith}
 use Rattle.replies.specs.Replies.{spaced}
 use Rattle.replies.proofs.Putting.{puts, length-spaced}
 use Rattle.replies.proofs.put_numbers.Goals as goal
