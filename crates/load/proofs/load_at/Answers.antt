@@ -3,27 +3,23 @@ use native.Mathlib.Omega.{arith}
 use mathlib.Core.Path.{◌∙◌}
 use lib.ListN.{length, length-set}
 use Rattle.pool.specs.Layout.{register_count}
-use Rattle.pool.proofs.Sizes.{Sized, counted_sized}
+use Rattle.pool.proofs.Sizes.{counted_sized}
 use Rattle.load.proofs.Loading.{load_no_pool, load-refused, load_filled, load-whole}
 use Rattle.load.proofs.load_at.Goals as goal
-
--- the words are a pool's
-sized : (c : tie.Else1) → Sized register_count (length c.before.before.before.before.args.words.now) c.before.cell-count-of-length.result
-sized c = counted_sized register_count (length c.before.before.before.before.args.words.now) c.before.cell-count-of-length.ensures c.if1.false
 
 pub returns-then-n-eq0 : goal.returns-then-n-eq0
 returns-then-n-eq0 c = load_no_pool _ _ _ c.cell_count_of_length-n.ensures _ c.if-n-eq0.true c.number.ensures
 
 pub fill-requires : goal.fill-requires
-fill-requires c = omega (arith, sized c)
+fill-requires c = omega (arith, counted_sized register_count (length c.args.words.now) c.cell_count_of_length-n.ensures c.if-n-eq0.false)
 
 pub bounds-words-0 : goal.bounds-words-0
-bounds-words-0 c = omega (arith, sized c, c.fill.auto.words)
+bounds-words-0 c = omega (arith, counted_sized register_count (length c.args.words.now) c.cell_count_of_length-n.ensures c.if-n-eq0.false, c.fill.auto.words)
 
 pub free_above-requires : goal.free_above-requires
 free_above-requires c =
     load_filled c.args.words.now c.args.bytes.now _ c.cell_count_of_length-n.ensures c.if-n-eq0.false _
-    c.scan_image.ensures _ _ c.in-Whole.is c.fill.new.0 c.fill.ensures
+    c.scan_image.ensures _ _ c.in-Whole.is c.fill.new.words c.fill.ensures
 
 pub returns-in-Refused : goal.returns-in-Refused
 returns-in-Refused c =
@@ -36,5 +32,5 @@ shape_of-words c = c.free_above.auto.words ∙ simp length-set c.fill.auto.words
 pub returns-in-Whole : goal.returns-in-Whole
 returns-in-Whole c =
     load-whole c.args.words.now c.args.bytes.now _ c.cell_count_of_length-n.ensures c.if-n-eq0.false _
-    c.scan_image.ensures _ _ c.in-Whole.is c.fill.new.0 c.fill.ensures _
+    c.scan_image.ensures _ _ c.in-Whole.is c.fill.new.words c.fill.ensures _
     c.free_above.ensures
