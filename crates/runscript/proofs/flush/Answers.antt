@@ -4,4 +4,4 @@ use lib.Seq.{length-take-le}
 use Rattle.runscript.proofs.flush.Goals as goal
 
 pub slice_bounds-write_all-end : goal.slice_bounds-write_all-end
-slice_bounds-write_all-end c = sym (length-take-le _ _ c.requires)
+slice_bounds-write_all-end g c = sym (length-take-le _ _ c.requires)

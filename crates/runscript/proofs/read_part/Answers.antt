@@ -4,7 +4,7 @@ use Rattle.runscript.proofs.Running.{continued}
 use Rattle.runscript.proofs.read_part.Goals as goal
 
 pub returns-in_default : goal.returns-in_default
-returns-in_default c = λ more. absurd (false≢true more)
+returns-in_default g c = λ more. absurd (false≢true more)
 
 pub returns : goal.returns
-returns c = continued _ _ _ _ _ _ _ _ c.count.ensures.0.0 c.run_read.ensures
+returns g c = continued _ _ _ _ _ _ _ _ c.in-Ok.ensures.bound.0 c.run_read.ensures

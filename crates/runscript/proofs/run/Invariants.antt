@@ -5,7 +5,8 @@ use Rattle.runscript.specs.Parts.{RunSoFar}
 use Rattle.runscript.proofs.run.Given as goal
 
 abbrev pub invariant-loop-reads : goal.invariant-loop-reads
-invariant-loop-reads l = (length l.initial.p ≡ pool_length register_count cell_limit) × (length l.initial.reads ≡ 65536) × (length l.words ≡ 65536) × RunSoFar l.initial.p l.buffer
+invariant-loop-reads g l =
+    (length l.words ≡ pool_length register_count cell_limit) × (length l.buffer ≡ 65536) × (length l.out ≡ 65536) × RunSoFar l.words l.p
 
 abbrev pub decreases-loop-reads : goal.decreases-loop-reads
-decreases-loop-reads l = l.out
+decreases-loop-reads g l = l.reads

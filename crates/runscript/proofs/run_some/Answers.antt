@@ -4,7 +4,7 @@ use Rattle.runscript.proofs.Running.{lines-run}
 use Rattle.runscript.proofs.run_some.Goals as goal
 
 pub flush-more-requires : goal.flush-more-requires
-flush-more-requires c = omega (arith, c.work-q.ensures.inside (omega (arith, c.requires.0)), c.work-q.auto.1.1.0)
+flush-more-requires g c = omega (arith, c.work-q.ensures.inside (omega (arith, c.requires.0)), c.work-q.auto.out)
 
 pub returns : goal.returns
-returns c = lines-run _ _ _ _ _ _ _ c.work-q.ensures c.requires.0 c.requires.1 c.work-q.auto.1.1.0
+returns g c = lines-run _ _ _ _ _ _ _ c.work-q.ensures c.requires.0 c.requires.1 c.work-q.auto.out

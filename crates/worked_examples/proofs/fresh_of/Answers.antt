@@ -4,4 +4,4 @@ use lib.Seq.{length-take-le}
 use Rattle.worked_examples.proofs.fresh_of.Goals as goal
 
 pub slice_bounds-fresh-end-then-len-words : goal.slice_bounds-fresh-end-then-len-words
-slice_bounds-fresh-end-then-len-words c = sym (length-take-le _ _ c.if-len-words.true)
+slice_bounds-fresh-end-then-len-words g c = sym (length-take-le _ _ c.if-len-words.true)
