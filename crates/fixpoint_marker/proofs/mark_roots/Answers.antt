@@ -1,6 +1,5 @@
 -- `fixpoint_marker::mark_roots` meets its contract. The measure is the number of registers that are left.
 use native.Mathlib.Omega.{arith}
-use Prim.Native.Nat.{◌-◌}
 use mathlib.Core.Path.{refl}
 use Rattle.fixpoint_marker.proofs.Passes.{started_none, started_more}
 use Rattle.fixpoint_marker.proofs.mark_roots.Goals as goal

@@ -17,4 +17,5 @@ pub shape_of-marks : goal.shape_of-marks
 shape_of-marks c = c.loop-i.invariant.1
 
 pub returns : goal.returns
-returns c = (c.loop-i.invariant.2.grown, λ e i low high. c.loop-i.invariant.2.above e i (omega arith) high)
+returns c =
+    record { grown = c.loop-i.invariant.2.grown; closed = λ e i low high. c.loop-i.invariant.2.above e i (omega arith) high }

@@ -1,6 +1,5 @@
 -- `recursive_marker::mark` meets its contract: the loop makes the visits of the registers' links (`Marking`), from the first to the last.
 use native.Mathlib.Omega.{arith}
-use Prim.Native.Nat.{◌-◌}
 use Rattle.recursive_marker.proofs.Registers.{marking_length, marking_first, marking_visit, marking_next, marking_last}
 use Rattle.recursive_marker.proofs.mark.Goals as goal
 

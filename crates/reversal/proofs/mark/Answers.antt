@@ -1,5 +1,4 @@
 -- `reversal::mark` meets its contract: the loop makes the runs over the registers (`Marking`), from the first to the last.
-use Prim.Native.Nat.{◌-◌}
 use native.Mathlib.Omega.{arith}
 use mathlib.Core.Path.{sym, ◌∙◌}
 use Rattle.reversal.proofs.RootLoop.{marking_first, marking_bound, marking_ends, marking_run, marking_skip, marking_last}
@@ -15,12 +14,11 @@ pub is_unmarked-requires : goal.is_unmarked-requires
 is_unmarked-requires c = omega (arith, c.requires.1, c.loop-k.invariant.len, marking_bound _ _ _ c.requires.0 c.requires.1 _ _ _ _ c.loop-k.invariant c.loop-k-test.true c.read_register-p.ensures)
 
 pub mark_from-visits-requires : goal.mark_from-visits-requires
-mark_from-visits-requires c =
-    (
-      marking_ends _ _ _ c.requires.0 c.requires.1 _ _ _ _ c.loop-k.invariant c.loop-k-test.true c.read_register-p.ensures c.requires.2 (sym c.is_unmarked.ensures ∙ c.if-is_unmarked.true),
-      omega (arith, c.requires.1, c.loop-k.invariant.len),
-      c.requires.2,
-    )
+mark_from-visits-requires c = (
+  marking_ends _ _ _ c.requires.0 c.requires.1 _ _ _ _ c.loop-k.invariant c.loop-k-test.true c.read_register-p.ensures c.requires.2 (sym c.is_unmarked.ensures ∙ c.if-is_unmarked.true),
+  omega (arith, c.requires.1, c.loop-k.invariant.len),
+  c.requires.2,
+)
 
 pub loop-k-preserved-then-is_unmarked : goal.loop-k-preserved-then-is_unmarked
 loop-k-preserved-then-is_unmarked c = marking_run _ _ _ c.requires.0 c.requires.1 _ _ _ _ c.loop-k.invariant c.loop-k-test.true c.read_register-p.ensures _ _ (sym c.is_unmarked.ensures ∙ c.if-is_unmarked.true) c.mark_from-visits.ensures

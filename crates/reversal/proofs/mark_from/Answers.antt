@@ -1,5 +1,4 @@
 -- `reversal::mark_from` meets its contract: every turn of the loop leads on to the end of the run (`Leads`) and is counted, and the count has an end.
-use Prim.Native.Nat.{◌-◌}
 use native.Mathlib.Omega.{arith}
 use native.Mathlib.Numerals.{add-one}
 use Rattle.reversal.proofs.RunLoop.{leads_here, leads_last, hand_from, turn_leads, turn_less}

@@ -1,0 +1,6 @@
+-- `cellpool::cellpool_clear` meets its contract: the call's answer, as a status.
+use Rattle.cellpool.proofs.Answered.{giving_none_made}
+use Rattle.cellpool.proofs.cellpool_clear.Goals as goal
+
+pub returns : goal.returns
+returns c = giving_none_made _ _ _ c.clear.ensures _ c.status.ensures
