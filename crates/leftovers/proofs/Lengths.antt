@@ -7,7 +7,7 @@ use mathlib.Core.Bool.{Bool, true, false, cond, ◌&&◌}
 use lib.ListN.{length}
 use lib.Dec.{eqb, leb, ltb}
 use borrow.Author.Tests.{ltb-true, eqb-false}
-use Rattle.answers.specs.Outcome.{Outcome}
+use Rattle.answers.specs.Outcome.{Outcome, refused}
 use Rattle.pool.specs.Layout.{register_count, cell_count_of_length, head, cell}
 use Rattle.questions.specs.Validity.{valid_link, well_formed}
 use Rattle.questions.specs.Questions.{sized_of, admit_of, holds_link}
@@ -107,7 +107,7 @@ module _ (n : ℕ) (w : List ℕ) where
   body_length (call.North a) = cell-length (held_kind_of true n w a) _ λ x. refl
 
 pub call_length : (w : List ℕ) (c : Call) → AsLong w (call_of c w)
-call_length w c = behind-questions (AsLong w) (admit_of w (registers_of c)) (λ n told. body_length n w c) (λ k. refl)
+call_length w c = behind-questions (AsLong w) (admit_of w (registers_of c)) {refusing = λ k. (refused k, w)} (λ n told. body_length n w c) (λ k. refl)
 
 run_length : (k : ℕ) (p : Program) (w out : List ℕ) → length (run_from k p w out).1 ≡ length w
 unfolding run_from
@@ -146,13 +146,13 @@ operation_length fresh w =
     (λ sized. fresh-length register_count (cells w) w sized.room) refl
 operation_length (call c) w = call_length w c
 operation_length (collect_tally tally) w =
-    behind-questions (AsLong w) (sized_of w) (λ n told. collect_length n w) (λ k. refl)
+    behind-questions (AsLong w) (sized_of w) {refusing = λ k. (refused k, w)} (λ n told. collect_length n w) (λ k. refl)
 operation_length (collect_stack stack) w =
-    behind-questions (λ (x : Outcome × List ℕ × List ℕ). length x.1 ≡ length w) (sized_of w)
+    behind-questions (λ (x : Outcome × List ℕ × List ℕ). length x.1 ≡ length w) (sized_of w) {refusing = λ k. (refused k, w, stack)}
     (λ n told. either (λ (x : Outcome × List ℕ × List ℕ). length x.1 ≡ length w) (well_formed register_count n w) (λ e. collected-length n w) (λ e. refl))
     (λ k. refl)
 operation_length collect_recursive w =
-    behind-questions (AsLong w) (sized_of w)
+    behind-questions (AsLong w) (sized_of w) {refusing = λ k. (refused k, w)}
     (λ n told. either (AsLong w) (leb n recursion_limit) (λ e. collect_length n w) (λ e. refl)) (λ k. refl)
 operation_length worst_case w = by_length w (AsLong w) (λ sized. built-length register_count (cells w) w sized.room) refl
 operation_length (load bytes) w =

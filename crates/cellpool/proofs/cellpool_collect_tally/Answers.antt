@@ -6,4 +6,4 @@ pub returns-then-status-ne0 : goal.returns-then-status-ne0
 returns-then-status-ne0 c = tally-left _ _ _ _ c.collect-answer.ensures _ _ _ c.status-status.ensures c.if-status-ne0.true
 
 pub returns : goal.returns
-returns c = tally_advanced _ _ (record { collections = c.args.collections.now; visits = c.args.total-visits.now }) _ c.collect-answer.ensures _ _ _ _ c.after-after.ensures _ _ c.store_two.ensures
+returns c = tally_advanced _ _ (record { collections = c.args.collections.now; visits = c.args.total_visits.now }) _ c.collect-answer.ensures _ _ _ _ c.after-after.ensures _ _ c.store_two.ensures

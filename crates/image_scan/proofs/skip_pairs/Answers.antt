@@ -24,11 +24,10 @@ pub returns-then-behind-eq0 : goal.returns-then-behind-eq0
 returns-then-behind-eq0 c = c.loop-left.invariant
 
 pub loop-left-preserved : goal.loop-left-preserved
-loop-left-preserved c =
-    (
-      scan_parsed _ _ _ _ _ c.loop-left.invariant.0 _ c.loop-left-test.true (pair_placed _ _ _ _ c.pair_end-behind.ensures (omega arith)),
-      omega arith,
-    )
+loop-left-preserved c = (
+  scan_parsed _ _ _ _ _ c.loop-left.invariant.0 _ c.loop-left-test.true (pair_placed _ _ _ _ c.pair_end-behind.ensures (omega arith)),
+  omega arith,
+)
 
 pub returns : goal.returns
 returns c = c.loop-left.invariant

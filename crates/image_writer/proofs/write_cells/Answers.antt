@@ -15,12 +15,11 @@ pub put_cell-at-requires : goal.put_cell-at-requires
 put_cell-at-requires c = writing_room _ _ _ c.requires.3 _ _ _ c.loop-p.invariant.1 _ _ (next-cell register_count _ _ _ _ (omega (arith, c.requires.2)) c.saved_cell.ensures)
 
 pub loop-p-preserved : goal.loop-p-preserved
-loop-p-preserved c =
-    (
-      omega arith,
-      writing_more _ _ _ c.requires.3 _ _ _ c.loop-p.invariant.1 _ _ _ _ (next-cell register_count _ _ _ _ (omega (arith, c.requires.2)) c.saved_cell.ensures)
-          c.put_cell-at.ensures c.put_cell-at.auto.out,
-    )
+loop-p-preserved c = (
+  omega arith,
+  writing_more _ _ _ c.requires.3 _ _ _ c.loop-p.invariant.1 _ _ _ _ (next-cell register_count _ _ _ _ (omega (arith, c.requires.2)) c.saved_cell.ensures)
+      c.put_cell-at.ensures c.put_cell-at.auto.out,
+)
 
 pub shape_of-out : goal.shape_of-out
 shape_of-out c = c.loop-p.invariant.1.len

@@ -8,35 +8,33 @@ pub write_number-registers-requires : goal.write_number-registers-requires
 write_number-registers-requires c = omega (arith, image-length register_count c.args.n c.args.words.now c.args.k c.requires.2, c.requires.3)
 
 pub write_registers-cells-requires : goal.write_registers-cells-requires
-write_registers-cells-requires c =
-    (
-      c.requires.0,
-      c.requires.1,
-      omega (
-        arith,
-        image-length register_count c.args.n c.args.words.now c.args.k c.requires.2,
-        c.requires.3,
-        c.write_number-registers.ensures.0,
-        c.write_number-registers.auto.out,
-      ),
-    )
+write_registers-cells-requires c = (
+  c.requires.0,
+  c.requires.1,
+  omega (
+    arith,
+    image-length register_count c.args.n c.args.words.now c.args.k c.requires.2,
+    c.requires.3,
+    c.write_number-registers.ensures.0,
+    c.write_number-registers.auto.out,
+  ),
+)
 
 pub write_cells-requires : goal.write_cells-requires
-write_cells-requires c =
-    (
-      c.requires.0,
-      c.requires.1,
-      c.requires.2,
-      omega (
-        arith,
-        image-length register_count c.args.n c.args.words.now c.args.k c.requires.2,
-        c.requires.3,
-        c.write_number-registers.ensures.0,
-        c.write_number-registers.auto.out,
-        c.write_registers-cells.ensures.0,
-        c.write_registers-cells.auto.out,
-      ),
-    )
+write_cells-requires c = (
+  c.requires.0,
+  c.requires.1,
+  c.requires.2,
+  omega (
+    arith,
+    image-length register_count c.args.n c.args.words.now c.args.k c.requires.2,
+    c.requires.3,
+    c.write_number-registers.ensures.0,
+    c.write_number-registers.auto.out,
+    c.write_registers-cells.ensures.0,
+    c.write_registers-cells.auto.out,
+  ),
+)
 
 pub returns : goal.returns
 returns c =

@@ -15,12 +15,11 @@ pub write_number-at-requires : goal.write_number-at-requires
 write_number-at-requires c = writing_room _ _ _ c.requires.2 _ _ _ c.loop-j.invariant.1 _ _ (next-register register_count _ _ _ _ c.loop-j-test.true c.saved_register.ensures)
 
 pub loop-j-preserved : goal.loop-j-preserved
-loop-j-preserved c =
-    (
-      omega arith,
-      writing_more _ _ _ c.requires.2 _ _ _ c.loop-j.invariant.1 _ _ _ _ (next-register register_count _ _ _ _ c.loop-j-test.true c.saved_register.ensures)
-          c.write_number-at.ensures c.write_number-at.auto.out,
-    )
+loop-j-preserved c = (
+  omega arith,
+  writing_more _ _ _ c.requires.2 _ _ _ c.loop-j.invariant.1 _ _ _ _ (next-register register_count _ _ _ _ c.loop-j-test.true c.saved_register.ensures)
+      c.write_number-at.ensures c.write_number-at.auto.out,
+)
 
 pub shape_of-out : goal.shape_of-out
 shape_of-out c = c.loop-j.invariant.1.len

@@ -14,12 +14,11 @@ pub fill_cell-at-requires : goal.fill_cell-at-requires
 fill_cell-at-requires c = omega (arith, c.loop-i.invariant)
 
 pub loop-i-preserved : goal.loop-i-preserved
-loop-i-preserved c =
-    (
-      omega arith,
-      c.fill_cell-at.auto.words ∙ c.loop-i.invariant.1,
-      filling_more _ (put_fields register_count) _ _ _ _ _ _ _ _ c.loop-i.invariant.2 _ _ c.loop-i-test.true (c.fill_cell-at.ensures _),
-    )
+loop-i-preserved c = (
+  omega arith,
+  c.fill_cell-at.auto.words ∙ c.loop-i.invariant.1,
+  filling_more _ (put_fields register_count) _ _ _ _ _ _ _ _ c.loop-i.invariant.2 _ _ c.loop-i-test.true (c.fill_cell-at.ensures _),
+)
 
 pub shape_of-words : goal.shape_of-words
 shape_of-words c = c.loop-i.invariant.1

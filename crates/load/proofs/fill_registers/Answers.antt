@@ -13,12 +13,11 @@ pub fill_register-at-requires : goal.fill_register-at-requires
 fill_register-at-requires c = omega (arith, c.loop-j.invariant)
 
 pub loop-j-preserved : goal.loop-j-preserved
-loop-j-preserved c =
-    (
-      omega arith,
-      c.fill_register-at.auto.words ∙ c.loop-j.invariant.1,
-      λ k. filling_more _ set_register _ _ _ _ _ _ _ _ (c.loop-j.invariant.2 k) _ _ c.loop-j-test.true (c.fill_register-at.ensures k),
-    )
+loop-j-preserved c = (
+  omega arith,
+  c.fill_register-at.auto.words ∙ c.loop-j.invariant.1,
+  λ k. filling_more _ set_register _ _ _ _ _ _ _ _ (c.loop-j.invariant.2 k) _ _ c.loop-j-test.true (c.fill_register-at.ensures k),
+)
 
 pub shape_of-words : goal.shape_of-words
 shape_of-words c = c.loop-j.invariant.1

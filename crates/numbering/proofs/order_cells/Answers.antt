@@ -6,22 +6,19 @@ use Rattle.numbering.proofs.Ordering.{cleared, savable_length, numbers-within, l
 use Rattle.numbering.proofs.order_cells.Goals as goal
 
 pub number_cells-k-requires : goal.number_cells-k-requires
-number_cells-k-requires c =
-    (
-      savable_length c.clear.auto.words c.requires,
-      cleared c.args.scratch.now _ c.clear.ensures c.clear.auto.words,
-    )
+number_cells-k-requires c = (
+  savable_length c.clear.auto.words c.requires,
+  cleared c.args.scratch.now _ c.clear.ensures c.clear.auto.words,
+)
 
 pub list_cells-requires : goal.list_cells-requires
-list_cells-requires c =
-    (
-      omega (arith, c.number_cells-k.auto.scratch, c.clear.auto.words, c.requires.scratch),
-      numbers-within register_count _ _ c.number_cells-k.new.scratch (savable_length (c.number_cells-k.auto.scratch ∙ c.clear.auto.words) c.requires) c.number_cells-k.ensures.1,
-    )
+list_cells-requires c = (
+  omega (arith, c.number_cells-k.auto.scratch, c.clear.auto.words, c.requires.scratch),
+  numbers-within register_count _ _ c.number_cells-k.new.scratch (savable_length (c.number_cells-k.auto.scratch ∙ c.clear.auto.words) c.requires) c.number_cells-k.ensures.1,
+)
 
 pub returns : goal.returns
-returns c =
-    (
-      c.number_cells-k.ensures.0,
-      listed_ordered register_count _ _ c.number_cells-k.new.scratch (savable_length (c.number_cells-k.auto.scratch ∙ c.clear.auto.words) c.requires) c.number_cells-k.ensures.1 _ c.list_cells.ensures,
-    )
+returns c = (
+  c.number_cells-k.ensures.0,
+  listed_ordered register_count _ _ c.number_cells-k.new.scratch (savable_length (c.number_cells-k.auto.scratch ∙ c.clear.auto.words) c.requires) c.number_cells-k.ensures.1 _ c.list_cells.ensures,
+)

@@ -13,11 +13,9 @@ loop-reads-init g c =
     (long, length-replicate {A = ℕ} 65536 0, length-replicate {A = ℕ} 65536 0, rw c.start-p.ensures (so_far_start _ long))
 
 pub loop-reads-preserved : goal.loop-reads-preserved
-loop-reads-preserved g c =
-    (
-      c.read_part-step.auto.words ∙ c.loop-reads.invariant.0,
-      c.read_part-step.auto.buffer ∙ c.loop-reads.invariant.1,
-      c.read_part-step.auto.out ∙ c.loop-reads.invariant.2,
-      so_far_on _ _ _ _ _ c.loop-reads.invariant.3 (c.read_part-step.ensures (not-false _ c.if-not-step.false)),
-    )
-
+loop-reads-preserved g c = (
+  c.read_part-step.auto.words ∙ c.loop-reads.invariant.0,
+  c.read_part-step.auto.buffer ∙ c.loop-reads.invariant.1,
+  c.read_part-step.auto.out ∙ c.loop-reads.invariant.2,
+  so_far_on _ _ _ _ _ c.loop-reads.invariant.3 (c.read_part-step.ensures (not-false _ c.if-not-step.false)),
+)

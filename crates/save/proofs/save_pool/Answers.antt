@@ -15,13 +15,12 @@ returns-then-out-size c =
     (c.clear.ensures ∙ ap (λ (k : ℕ). replicate k 0) c.order_cells-k.auto.scratch) c.if-out-size.true
 
 pub write_image-requires : goal.write_image-requires
-write_image-requires c =
-    (
-      savable_length c.order_cells-k.auto.scratch c.requires,
-      c.order_cells-k.ensures.1,
-      c.order_cells-k.ensures.0,
-      omega (arith, c.image_size-size.ensures, c.if-out-size.false),
-    )
+write_image-requires c = (
+  savable_length c.order_cells-k.auto.scratch c.requires,
+  c.order_cells-k.ensures.1,
+  c.order_cells-k.ensures.0,
+  omega (arith, c.image_size-size.ensures, c.if-out-size.false),
+)
 
 pub returns : goal.returns
 returns c =
