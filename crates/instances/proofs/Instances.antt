@@ -74,6 +74,7 @@ only x = (preorder-reached 3 (graph three) (roots three) within x).1
 apart : Memᴰ {A = ℕ} 3 (1 ∷ 2 ∷ []) → ⊥
 apart (Memᴰ.head e) = omega arith
 apart (Memᴰ.tail (Memᴰ.head e)) = omega arith
+apart (Memᴰ.tail (Memᴰ.tail h)) = elim h [ ]
 
 pub pool_instance : PoolInstance
 unfolding elem visit visits preorder pair_count point_count tabulate every cell_count_of_length count set_count cell_count head register cell set_cell lowest_free retain limited limited_runs is_point is_used is_marked as_marked as_used link_of
@@ -203,6 +204,7 @@ agree : (x : ℕ) → Memᴰ x (1 ∷ 2 ∷ []) → Agree (graph three) (graph t
 unfolding cell is_point is_used is_marked as_marked as_used link_of
 agree x (Memᴰ.head e) = rw e (record { left = refl; right = refl })
 agree x (Memᴰ.tail (Memᴰ.head e)) = rw e (record { left = refl; right = refl })
+agree x (Memᴰ.tail (Memᴰ.tail h)) = elim h [ ]
 
 pub graph_instance : GraphInstance
 unfolding elem visit visits preorder pair_count point_count tabulate register cell run runs is_point is_used is_marked as_marked as_used link_of
