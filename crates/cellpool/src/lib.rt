@@ -183,7 +183,7 @@ pub extern "C" fn cellpool_collect_tally(
     kept: &mut u32,
     visits: &mut u32,
 ) -> u32
-    ensures { (result, words.new, collections.exit.now, total_visits.new, kept.new, visits.new) ≡ tallying (tally_of words.old (record { collections = collections.entry.now; visits = total_visits.old })) kept.old visits.old }
+    ensures { (result, words.new, collections.new, total_visits.new, kept.new, visits.new) ≡ tallying (tally_of words.old (record { collections = collections.old; visits = total_visits.old })) kept.old visits.old }
 {
     let answer = collector::collect(words);
     let status = answer.status();
