@@ -26,7 +26,9 @@ pub enum Scan {
     Refused(Refusal),
 }
 
-// Reads a cell of an image of k cells, kind, left, right, value, without a write.
+// Reads a cell of an image of k cells, kind, left, right, value, without a write. Inlined, as the other parts of a scan, so that what it
+// returns needs no memory.
+#[inline(always)]
 fn scan_cell(bytes: &[u8], at: usize, k: u32) -> Place
     ensures { result ≡ place_of (read_cell k bytes.now at) }
 {
@@ -143,6 +145,7 @@ pub struct Rest {
 
 // Reads the pairs that some cells of an image of k cells begin with. What is left is read with the same answer as all of them; how much that is, which only
 // time depends on, is not promised.
+#[inline(always)]
 fn skip_pairs(bytes: &[u8], start: usize, k: u32, count: u32) -> Rest
     ensures { (place_of (read_each (read_cell k bytes.now) result.left result.at) ≡ place_of (read_each (read_cell k bytes.now) count start)) × (result.left ≤ count) }
 {
@@ -190,6 +193,7 @@ fn scan_registers(bytes: &[u8], start: usize, k: u32) -> Place
 }
 
 // Reads the cells of an image of k cells, without a write.
+#[inline(always)]
 fn scan_cells(bytes: &[u8], start: usize, k: u32) -> Place
     ensures { result ≡ place_of (read_each (read_cell k bytes.now) k start) }
 {
@@ -216,6 +220,7 @@ fn scan_cells(bytes: &[u8], start: usize, k: u32) -> Place
 }
 
 // The image at the start of the bytes, for a pool of n cells.
+#[inline(always)]
 pub fn scan_image(bytes: &[u8], n: u32) -> Scan
     ensures { result ≡ scan_of (read_image register_count n bytes.now) }
 {

@@ -102,7 +102,9 @@ fn fill_cells(words: &mut [u32], bytes: &[u8], start: usize, k: u32)
     }
 }
 
-// Writes the registers and the cells of the image at the start of the bytes, which were scanned, for a pool of n cells.
+// Writes the registers and the cells of the image at the start of the bytes, which were scanned, for a pool of n cells. Not inlined,
+// so that its loops share no registers with the scan.
+#[inline(never)]
 fn fill(words: &mut [u32], bytes: &[u8], n: u32)
     requires { pool_length register_count n ≤ length words.old }
     ensures { WhereRead (read_image register_count n bytes.now) (λ i end. words.new ≡ put_image register_count i words.old) }

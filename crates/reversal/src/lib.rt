@@ -17,7 +17,8 @@ const FIRST_MARK: u32 = 1;
 
 const SECOND_MARK: u32 = 2;
 
-// A visit of the cell in hand, and one more where it stays in hand.
+// A visit of the cell in hand, and one more where it stays in hand. Inlined, so that the mark is known at each.
+#[inline(always)]
 fn visit_twice(m: Marker, words: &mut [u32], n: u32) -> Marker
     requires { InHand register_count n (m, words.old) }
     ensures { (result, words.new) ≡ turn_of register_count 1 (m, words.old) }
