@@ -11,7 +11,7 @@ use Rattle.graph.specs.Theorems.{Distinct}
 use Rattle.graph.proofs.Lists.{each_cons}
 use Rattle.graph.proofs.Marks.{zero_or_above}
 use Rattle.graph.proofs.Theorems.{preorder-reached, preorder-distinct}
-use Rattle.pool.specs.Layout.{register_count, head, register, state, left, graph_of, roots_of}
+use Rattle.pool.specs.Layout.{register_count, head, register, left, graph_of, roots_of}
 use Rattle.pool.specs.States.{pair_state, point_state, is_point, is_used}
 use Rattle.pool.proofs.States.{pair_is, point_is}
 use Rattle.answers.specs.Outcome.{allocated, refused}

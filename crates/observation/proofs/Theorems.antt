@@ -23,7 +23,6 @@ use Rattle.numbering.proofs.PoolNumbers.{NilOrReached}
 use Rattle.save.proofs.SavedImage.{image-registers}
 use Rattle.save.proofs.RoundTrip.{Accepted, save-accepted, save-then_load}
 use Rattle.calls.specs.declared.Call.{Call}
-use Rattle.calls.specs.declared.Call.TheVariants as call
 use Rattle.calls.specs.Calls.{registers_of}
 use Rattle.batch.specs.Run.{answers_of}
 use Rattle.invariant.proofs.Standing.{Standing, each_link}

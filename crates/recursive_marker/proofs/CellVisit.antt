@@ -73,9 +73,6 @@ module _ (R n depth p visits : ℕ) (w : List ℕ) (h : Markable R n depth p vis
     kind : is_point_at R w p ≡ point p
     kind = (h.agree.unmarked p parts.fresh).kind
 
-    pub visit_here : (0 < p) × (p ≤ n)
-    visit_here = cell
-
     -- a point has no links: its one visit fits, and marks it alone
     module _ (is-point : is_point_at R w p ≡ true) where
       alone : h.cells ≡ p ∷ []

@@ -4,7 +4,7 @@ use Prim.Native.Char.{code}
 use native.Mathlib.Omega.{arith}
 use mathlib.Core.Path.{◌≡◌, sym, ap, ◌∙◌}
 use mathlib.Core.List.{List}
-use mathlib.Core.Bool.{Bool, true, false, cond, not, ◌&&◌}
+use mathlib.Core.Bool.{Bool, true, false, cond, ◌&&◌}
 use lib.ListN.{length, get_or, drop}
 use lib.Dec.{leb, ltb}
 use borrow.Author.Tests.{ne_eqb, leb-true}
@@ -14,13 +14,6 @@ use Rattle.lines.specs.Lines.{is_digit, with_digit}
 use Rattle.script.specs.Reader.{bad_reader, with_last, digit_of, feed_of}
 use Rattle.script.specs.Scripts.{next_line}
 use Rattle.script.proofs.Scanning.{line_goes_on}
-
--- What a test for a digit tells, where its answer is turned round.
-pub no_digit : (b : ℕ) (t : Bool) → t ≡ is_digit b → t ≡ false → is_digit b ≡ false
-no_digit b t e h = sym e ∙ h
-
-pub a_digit : (b : ℕ) (t : Bool) → t ≡ is_digit b → t ≡ true → is_digit b ≡ true
-a_digit b t e h = sym e ∙ h
 
 pub digit_bounds : (b : ℕ) → is_digit b ≡ true → (code "0" ≤ b) × (b ≤ code "9")
 digit_bounds b digit =

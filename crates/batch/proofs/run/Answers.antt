@@ -1,5 +1,4 @@
 -- `batch::run` meets its contract: what remains to be run gives what the whole run gives (`Running`).
-use Prim.Native.Nat.{◌-◌}
 use native.Mathlib.Omega.{arith}
 use Rattle.batch.proofs.Loop.{running_first, running_malformed, running_inside, running_no_room, running_more, running_last}
 use Rattle.batch.proofs.run.Goals as goal

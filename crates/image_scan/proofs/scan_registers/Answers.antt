@@ -1,7 +1,6 @@
 -- `image_scan::scan_registers` meets its contract: what is left to read gives the answer (`Scanning`); it falls.
 use native.Mathlib.Omega.{arith}
 use mathlib.Core.Path.{refl, sym, ap, ◌∙◌}
-use Rattle.image.specs.Image.{read_link}
 use Rattle.image_reader.specs.Steps.{field_parsed}
 use Rattle.image_scan.specs.Steps.{place_of}
 use Rattle.image_scan.proofs.Scanning.{scan_parsed, scan_fault, scan_last}

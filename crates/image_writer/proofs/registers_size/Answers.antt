@@ -1,5 +1,4 @@
 -- `image_writer::registers_size` meets its contract: the sum and the bytes that are left make the whole (`Sizing`); what is left falls.
-use Prim.Native.Nat.{◌+◌, ◌-◌}
 use native.Mathlib.Omega.{arith}
 use Rattle.pool.specs.Layout.{register_count}
 use Rattle.image_writer.proofs.ImageBytes.{sizing_first, sizing_more, sizing_last, next-register, last-register, registers-most}

@@ -1,5 +1,4 @@
 -- `image_writer::saved_cell` meets its contract: the pool and the scratch hold what the image does.
-use Prim.Native.Nat.{◌+◌}
 use native.Mathlib.Omega.{arith}
 use mathlib.Core.Path.{ap, ◌∙◌}
 use Rattle.pool.specs.Layout.{register_count}

@@ -1,5 +1,4 @@
 -- `image_writer::write_cells` meets its contract: what is done is written, and the rest is left (`Writing`); what is left falls.
-use Prim.Native.Nat.{◌-◌}
 use native.Mathlib.Omega.{arith}
 use Rattle.pool.specs.Layout.{register_count}
 use Rattle.image_writer.proofs.ImageBytes.{writing_first, writing_room, writing_more, writing_last, next-cell, last-cell}

@@ -1,5 +1,4 @@
 -- `load::fill_cells` meets its contract: what was read is in its place (`Filling`); what is left to read falls.
-use Prim.Native.Nat.{◌-◌}
 use native.Mathlib.Omega.{arith}
 use mathlib.Core.Path.{refl, ◌∙◌}
 use Rattle.pool.specs.Layout.{register_count}

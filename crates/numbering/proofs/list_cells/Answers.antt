@@ -1,5 +1,4 @@
 -- `numbering::list_cells` meets its contract: the cells from i on are done (`Listing`); i falls.
-use Prim.Native.Nat.{◌-◌, ◌≤◌}
 use native.Mathlib.Omega.{arith}
 use Rattle.numbering.proofs.Listing.{listing_first, listing_last, listing_room, listing_none, listing_put}
 use Rattle.numbering.proofs.list_cells.Goals as goal

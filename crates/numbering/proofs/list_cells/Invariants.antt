@@ -1,4 +1,3 @@
-use Prim.Native.Nat.{◌-◌}
 use Rattle.numbering.proofs.Listing.{Listing}
 use Rattle.numbering.proofs.list_cells.Given as goal
 

@@ -1,6 +1,5 @@
 -- `numbering::number_cells` meets its contract: each turn is one of the depth-first walk (`Turn`). The cells without a number, twice, the links on the
 -- stack and the registers to come fall.
-use Prim.Native.Nat.{◌-◌, ◌<◌}
 use native.Mathlib.Omega.{arith}
 use lib.ListN.{length-set}
 use Rattle.pool.specs.Layout.{register_count}

@@ -1,7 +1,6 @@
 -- `runner::work` meets its contract: each turn is a step of the script.
 use mathlib.Core.Path.{sym, ◌∙◌}
 use native.Mathlib.Omega.{arith}
-use Prim.Native.Nat.{◌-◌}
 use Rattle.runner.proofs.Working.{going_start, turning, going_on, going-ends}
 use Rattle.runner.proofs.work.Goals as goal
 

@@ -1,10 +1,8 @@
 -- `script::LineReader::digits` meets its contract: from where it stands, the reader finds what it finds from the start (`Reading`). The measure is
 -- what is left of the bytes.
-use Prim.Native.Nat.{◌-◌}
 use native.Mathlib.Omega.{arith}
-use mathlib.Core.Path.{refl}
-use lib.ListN.{get_or}
-use Rattle.script.proofs.Digits.{a_digit, reads_digit, reading_more}
+use mathlib.Core.Path.{refl, sym, ◌∙◌}
+use Rattle.script.proofs.Digits.{reads_digit, reading_more}
 use Rattle.script.proofs.LineReader.digits.Goals as goal
 
 pub returns-then-reader : goal.returns-then-reader
@@ -20,10 +18,10 @@ pub returns-then-not-is_digit : goal.returns-then-not-is_digit
 returns-then-not-is_digit c = (c.loop-i.invariant.behind, c.loop-i.invariant.finds)
 
 pub returns-then-reader-2 : goal.returns-then-reader-2
-returns-then-reader-2 c = (omega (arith, c.loop-i.invariant.behind), reads_digit _ _ _ _ _ c.loop-i.invariant c.loop-i-test.true (a_digit (get_or c.args.bytes.now c.loop-i.i 0) _ c.is_digit.ensures c.if-not-is_digit.false) c.digit-reader.ensures)
+returns-then-reader-2 c = (omega (arith, c.loop-i.invariant.behind), reads_digit _ _ _ _ _ c.loop-i.invariant c.loop-i-test.true (sym c.is_digit.ensures ∙ c.if-not-is_digit.false) c.digit-reader.ensures)
 
 pub loop-i-preserved : goal.loop-i-preserved
-loop-i-preserved c = reading_more _ _ _ _ _ c.loop-i.invariant c.loop-i-test.true (a_digit (get_or c.args.bytes.now c.loop-i.i 0) _ c.is_digit.ensures c.if-not-is_digit.false) c.digit-reader.ensures c.if-reader-2.false
+loop-i-preserved c = reading_more _ _ _ _ _ c.loop-i.invariant c.loop-i-test.true (sym c.is_digit.ensures ∙ c.if-not-is_digit.false) c.digit-reader.ensures c.if-reader-2.false
 
 pub returns : goal.returns
 returns c = (c.loop-i.invariant.behind, c.loop-i.invariant.finds)

@@ -1,6 +1,5 @@
 -- `script::LineReader::next_line` meets its contract. The loop's invariant: from where it stands, the reader finds what it finds from the start.
 -- The measure is what is left of the bytes.
-use Prim.Native.Nat.{◌-◌}
 use mathlib.Core.Path.{refl, sym, ◌∙◌}
 use native.Mathlib.Omega.{arith}
 use Rattle.script.proofs.Scanning.{part-ends, line-ends, line_goes_on}
