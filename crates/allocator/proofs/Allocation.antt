@@ -1,10 +1,11 @@
 -- The calls `new` and `point`: what their steps leave, where they went as the equations say, is what the definitions leave.
 use Prim.Native.Nat.{ℕ, zero, suc, ◌+◌, ◌-◌, ◌<◌, ◌≤◌}
 use native.Mathlib.Omega.{arith}
-use mathlib.Core.Path.{◌≡◌, refl, ap, ◌∙◌}
+use mathlib.Core.Path.{◌≡◌, refl, sym, ap, ◌∙◌}
 use mathlib.Core.List.{List, [], ◌∷◌}
 use mathlib.Core.Bool.{Bool, true, false, cond, ◌&&◌}
 use lib.ListN.{length}
+use Rattle.std.proofs.Common.{Result, Ok, Err}
 use lib.Dec.{leb}
 use borrow.Author.Tests.{eq-eqb, ne_eqb, leb-true}
 use Rattle.pool.specs.Layout.{register_count, pool_length, head, set_head, set_register, put_cell, state, left}
@@ -12,7 +13,10 @@ use Rattle.questions.specs.Validity.{well_formed}
 use Rattle.pool.specs.States.{pair_state, is_free}
 use Rattle.pool.specs.Retain.{lowest_free}
 use Rattle.questions.specs.Questions.{holds_link}
-use Rattle.answers.specs.Outcome.{Outcome, answered, allocated, refused, status, given}
+use Rattle.answers.specs.Outcome.{Outcome, answered, allocated, refused, status, given, refusal_number, answer_outcome}
+use Rattle.answers.specs.declared.Refusal.{Refusal}
+use Rattle.answers.specs.declared.Answer.{Answer}
+use Rattle.answers.specs.declared.Answer.TheVariants as answer
 use Rattle.pool.proofs.Sizes.{both}
 use Rattle.questions.proofs.WellFormed.{well_formed_read}
 use Rattle.pool.proofs.Retained.{retain-head}
@@ -43,30 +47,37 @@ pub record Swept (n : ℕ) (w w' : List ℕ) (v : ℕ) : Type 0 where
   pub words : w' ≡ collected register_count n w
   pub visits : v ≡ reached_visits register_count n w
 
+-- the status of an answer that is no refusal
+accepted : (a : Answer) → status (answer_outcome (Ok a)) ≡ 0
+accepted answer.Done = refl
+accepted (answer.Allocated visits) = refl
+accepted (answer.Number x) = refl
+accepted (answer.Pair x y) = refl
+
 -- what a collection says and leaves, by the test of the pool
-module _ (n : ℕ) (w w' : List ℕ) {o : Outcome} (did : (o, w') ≡ collect_in n w) where
-  said : (t : Bool) → well_formed register_count n w ≡ t
-      → o ≡ cond t (answered (reached_count register_count n w ∷ reached_visits register_count n w ∷ [])) (refused 3)
-  said true e = simp e at (ap (λ (p : Outcome × List ℕ). p.0) did)
-  said false e = simp e at (ap (λ (p : Outcome × List ℕ). p.0) did)
+module _ (n : ℕ) (w w' : List ℕ) {q : Result Answer Refusal} (did : (answer_outcome q, w') ≡ collect_in n w) where
+  said : {r : Result Answer Refusal} → q ≡ r → (t : Bool) → well_formed register_count n w ≡ t
+      → answer_outcome r ≡ cond t (answered (reached_count register_count n w ∷ reached_visits register_count n w ∷ [])) (refused 3)
+  said told true e = sym (ap answer_outcome told) ∙ simp e at (ap (λ (p : Outcome × List ℕ). p.0) did)
+  said told false e = sym (ap answer_outcome told) ∙ simp e at (ap (λ (p : Outcome × List ℕ). p.0) did)
 
-  left-words : (t : Bool) → well_formed register_count n w ≡ t → w' ≡ cond t (collected register_count n w) w
-  left-words true e = simp e at (ap (λ (p : Outcome × List ℕ). p.1) did)
-  left-words false e = simp e at (ap (λ (p : Outcome × List ℕ). p.1) did)
+  left-words : {r : Result Answer Refusal} → q ≡ r → (t : Bool) → well_formed register_count n w ≡ t → w' ≡ cond t (collected register_count n w) w
+  left-words told true e = simp e at (ap (λ (p : Outcome × List ℕ). p.1) did)
+  left-words told false e = simp e at (ap (λ (p : Outcome × List ℕ). p.1) did)
 
-  pub swept : {q : ℕ} → q ≡ status o → q ≡ 0 → Swept n w w' (given o 1 0)
-  swept told accepted = go (well_formed register_count n w) refl
+  pub swept : {a : Answer} → q ≡ Ok a → Swept n w w' (given (answer_outcome (Ok a)) 1 0)
+  swept {a} told = go (well_formed register_count n w) refl
     where
-      go : (t : Bool) → well_formed register_count n w ≡ t → Swept n w w' (given o 1 0)
-      go true e = record { well = e; words = left-words true e; visits = ap (λ (p : Outcome). given p 1 0) (said true e) }
-      go false e = absurd (omega (arith, ap status (said false e)))
+      go : (t : Bool) → well_formed register_count n w ≡ t → Swept n w w' (given (answer_outcome (Ok a)) 1 0)
+      go true e = record { well = e; words = left-words told true e; visits = ap (λ (p : Outcome). given p 1 0) (said told true e) }
+      go false e = absurd (omega (arith, accepted a, ap status (said told false e)))
 
-  pub take-refused : (r c x y v : ℕ) {q : ℕ} → q ≡ status o → (q ≡ 0 → ⊥) → (o, w') ≡ take_collected n w r c x y v
-  take-refused r c x y v told refusing = go (well_formed register_count n w) refl
+  pub take-refused : (r c x y v : ℕ) {k : Refusal} → q ≡ Err k → (refused (refusal_number k), w') ≡ take_collected n w r c x y v
+  take-refused r c x y v {k} told = go (well_formed register_count n w) refl
     where
-      go : (t : Bool) → well_formed register_count n w ≡ t → (o, w') ≡ take_collected n w r c x y v
-      go true e = absurd (refusing (told ∙ ap status (said true e)))
-      go false e = simp (e, said false e, left-words false e)
+      go : (t : Bool) → well_formed register_count n w ≡ t → (refused (refusal_number k), w') ≡ take_collected n w r c x y v
+      go true e = let other = said told true e in let z : ◌≡◌ {A = ℕ} 0 1 = cc in absurd (omega arith)
+      go false e = simp (e, said told false e, left-words told false e)
 
 module _ (n : ℕ) (w : List ℕ) {w' : List ℕ} {visits : ℕ} (s : Swept n w w' visits) where
   -- the head after it is one of the cells, or nil where every cell is kept; and then nothing has changed

@@ -3,6 +3,7 @@ use Prim.Native.Nat.{ℕ, ◌-◌}
 use mathlib.Core.Path.{◌≡◌, refl, sym, ap, ◌∙◌}
 use mathlib.Core.List.{[], ◌∷◌}
 use lib.ListN.{get_or}
+use Rattle.std.proofs.Common.{Result, Ok, Err}
 use Rattle.answers.specs.declared.Refusal.{Refusal}
 use Rattle.answers.specs.declared.Refusal.TheVariants as refusal
 use Rattle.answers.specs.declared.Answer.{Answer}
@@ -37,19 +38,19 @@ refusal_again refusal.KindNumber = refl
 pub refusal_determined : RefusalDetermined
 refusal_determined = found_again refusal_number refusal_of refusal_again
 
-abbrev answer_found : Outcome → Answer
-answer_found (answered []) = answer.Done
-answer_found (answered (x ∷ [])) = answer.Number x
-answer_found (answered (x ∷ y ∷ more)) = answer.Pair x y
-answer_found (allocated visits) = answer.Allocated visits
-answer_found (refused k) = answer.Refused (refusal_of k)
+abbrev answer_found : Outcome → Result Answer Refusal
+answer_found (answered []) = Ok answer.Done
+answer_found (answered (x ∷ [])) = Ok (answer.Number x)
+answer_found (answered (x ∷ y ∷ more)) = Ok (answer.Pair x y)
+answer_found (allocated visits) = Ok (answer.Allocated visits)
+answer_found (refused k) = Err (refusal_of k)
 
-answer-again : (p : Answer) → answer_found (answer_outcome p) ≡ p
-answer-again answer.Done = refl
-answer-again (answer.Allocated visits) = refl
-answer-again (answer.Number x) = refl
-answer-again (answer.Pair x y) = refl
-answer-again (answer.Refused k) = ap answer.Refused (refusal_again k)
+answer-again : (p : Result Answer Refusal) → answer_found (answer_outcome p) ≡ p
+answer-again (Ok answer.Done) = refl
+answer-again (Ok (answer.Allocated visits)) = refl
+answer-again (Ok (answer.Number x)) = refl
+answer-again (Ok (answer.Pair x y)) = refl
+answer-again (Err k) = ap Err (refusal_again k)
 
 pub answer_determined : AnswerDetermined
 answer_determined = found_again answer_outcome answer_found answer-again

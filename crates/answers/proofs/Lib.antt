@@ -1,1 +1,2 @@
 pub mod Determined
+pub mod Flags

@@ -1,5 +1,5 @@
 -- What an operation says, in the numbers of document 01.
-use Rattle.std.specs.Prelude.{ℕ, ◌≡◌, List, [], ◌∷◌, get_or}
+use Rattle.std.specs.Prelude.{ℕ, ◌≡◌, List, [], ◌∷◌, get_or, Result, Ok, Err}
 use Rattle.answers.specs.declared.Refusal.{Refusal}
 use Rattle.answers.specs.declared.Refusal.TheVariants as refusal
 use Rattle.answers.specs.declared.Answer.{Answer}
@@ -41,13 +41,18 @@ refusal_number refusal.Padded = 12
 refusal_number refusal.Kind = 13
 refusal_number refusal.KindNumber = 14
 
+-- 0 where nothing is refused, or the number of the refusal.
+abbrev pub verdict : Result (Unit {0}) Refusal → ℕ
+verdict (Ok done) = 0
+verdict (Err why) = refusal_number why
+
 -- Done gives no number; an allocation is told with its visits; the others give one number or two; a refusal its number.
-abbrev pub answer_outcome : Answer → Outcome
-answer_outcome answer.Done = answered []
-answer_outcome (answer.Allocated visits) = allocated visits
-answer_outcome (answer.Number x) = answered (x ∷ [])
-answer_outcome (answer.Pair x y) = answered (x ∷ y ∷ [])
-answer_outcome (answer.Refused k) = refused (refusal_number k)
+abbrev pub answer_outcome : Result Answer Refusal → Outcome
+answer_outcome (Ok answer.Done) = answered []
+answer_outcome (Ok (answer.Allocated visits)) = allocated visits
+answer_outcome (Ok (answer.Number x)) = answered (x ∷ [])
+answer_outcome (Ok (answer.Pair x y)) = answered (x ∷ y ∷ [])
+answer_outcome (Err k) = refused (refusal_number k)
 
 -- What is said determines the answer, its case too: of two answers that say the same, each is the other. So a contract that fixes what is said leaves
 -- nothing of the answer free (01, rule a).
@@ -60,4 +65,4 @@ RefusalDetermined = (j k : Refusal) → refusal_number j ≡ refusal_number k �
 
 -- And of an answer.
 abbrev pub AnswerDetermined : Type 0
-AnswerDetermined = Determined Answer answer_outcome
+AnswerDetermined = Determined (Result Answer Refusal) answer_outcome

@@ -4,41 +4,41 @@
 ghost use Rattle.std.specs.Prelude.{◌≡◌};
 ghost use Rattle.answers.specs.Outcome.{refusal_number, status, given, answer_outcome};
 
-// Why a call is refused.
-#[derive(Clone, Copy)]
+// Why a call is refused. The numbers are those of the interface.
+#[derive(Clone, Copy, Debug, PartialEq, Eq)]
 pub enum Refusal {
     // The words are no pool: their length, or their number of cells; or N or the kept cells are out of range.
-    Size,
+    Size = 1,
     // No such register.
-    Register,
+    Register = 2,
     // A register that is read, a link, the head or the pool is malformed.
-    Malformed,
+    Malformed = 3,
     // The register holds no cell.
-    Nil,
+    Nil = 4,
     // No cell is free, also after a collection.
-    Full,
+    Full = 5,
     // The bytes end within a number.
-    Truncated,
+    Truncated = 6,
     // A number of 2^32 or more.
-    OutOfRange,
+    OutOfRange = 7,
     // A link of an image past its cells.
-    LinkRange,
+    LinkRange = 8,
     // An image of more cells than the pool has.
-    TooManyCells,
+    TooManyCells = 9,
     // Too little room is lent.
-    NoRoom,
+    NoRoom = 10,
     // The pool is too large for the recursive marker.
-    TooLarge,
+    TooLarge = 11,
     // A number of an image is written in more groups than it needs.
-    Padded,
+    Padded = 12,
     // A point where a pair is needed, or a pair where a point is.
-    Kind,
+    Kind = 13,
     // A number of an image that is no kind of cell.
-    KindNumber,
+    KindNumber = 14,
 }
 
-// What an operation answers.
-#[derive(Clone, Copy)]
+// What an operation answers, where it is not refused.
+#[derive(Clone, Copy, Debug, PartialEq, Eq)]
 pub enum Answer {
     // Done, with nothing to tell.
     Done,
@@ -46,7 +46,6 @@ pub enum Answer {
     Allocated { visits: u32 },
     Number(u32),
     Pair(u32, u32),
-    Refused(Refusal),
 }
 
 impl Refusal {
@@ -54,62 +53,38 @@ impl Refusal {
     pub fn number(self) -> u32
         ensures { result ≡ refusal_number self }
     {
-        match self {
-            Refusal::Size => 1,
-            Refusal::Register => 2,
-            Refusal::Malformed => 3,
-            Refusal::Nil => 4,
-            Refusal::Full => 5,
-            Refusal::Truncated => 6,
-            Refusal::OutOfRange => 7,
-            Refusal::LinkRange => 8,
-            Refusal::TooManyCells => 9,
-            Refusal::NoRoom => 10,
-            Refusal::TooLarge => 11,
-            Refusal::Padded => 12,
-            Refusal::Kind => 13,
-            Refusal::KindNumber => 14,
-        }
+        self as u32
     }
 }
 
-impl Answer {
-    // 0, or the number of the refusal.
-    pub fn status(self) -> u32
-        ensures { result ≡ status (answer_outcome self) }
-    {
-        match self {
-            Answer::Done => 0,
-            Answer::Allocated { visits: _ } => 0,
-            Answer::Number(_) => 0,
-            Answer::Pair(_, _) => 0,
-            Answer::Refused(refusal) => refusal.number(),
-        }
+// 0, or the number of the refusal.
+pub fn status(answer: Result<Answer, Refusal>) -> u32
+    ensures { result ≡ status (answer_outcome answer) }
+{
+    match answer {
+        Ok(_) => 0,
+        Err(why) => why.number(),
     }
+}
 
-    // The first number that the answer gives, or 0 where it gives none.
-    pub fn first(self) -> u32
-        ensures { result ≡ given (answer_outcome self) 0 0 }
-    {
-        match self {
-            Answer::Done => 0,
-            Answer::Allocated { visits } => visits,
-            Answer::Number(x) => x,
-            Answer::Pair(x, _) => x,
-            Answer::Refused(_) => 0,
-        }
+// The first number that the answer gives, or 0 where it gives none.
+pub fn first(answer: Result<Answer, Refusal>) -> u32
+    ensures { result ≡ given (answer_outcome answer) 0 0 }
+{
+    match answer {
+        Ok(Answer::Allocated { visits }) => visits,
+        Ok(Answer::Number(x)) => x,
+        Ok(Answer::Pair(x, _)) => x,
+        _ => 0,
     }
+}
 
-    // The second number that the answer gives, or 0 where it gives none.
-    pub fn second(self) -> u32
-        ensures { result ≡ given (answer_outcome self) 1 0 }
-    {
-        match self {
-            Answer::Done => 0,
-            Answer::Allocated { visits: _ } => 0,
-            Answer::Number(_) => 0,
-            Answer::Pair(_, y) => y,
-            Answer::Refused(_) => 0,
-        }
+// The second number that the answer gives, or 0 where it gives none.
+pub fn second(answer: Result<Answer, Refusal>) -> u32
+    ensures { result ≡ given (answer_outcome answer) 1 0 }
+{
+    match answer {
+        Ok(Answer::Pair(_, y)) => y,
+        _ => 0,
     }
 }

@@ -1,4 +1,5 @@
 -- The loop of a run: what the words of the list say at each place, and what remains to be run.
+use Rattle.std.proofs.Common.{Ok, Err, Option, Some, None}
 use Prim.Native.Nat.{ℕ, suc, ◌+◌, ◌*◌, ◌<◌, ◌≤◌}
 use native.Mathlib.Omega.{arith}
 use native.Mathlib.Nat.{add-zero}
@@ -13,9 +14,7 @@ use borrow.Author.Tests.{le-leb, lt-leb, leb-true, leb-false}
 use Rattle.answers.specs.Outcome.{Outcome}
 use Rattle.calls.specs.declared.Call.{Call}
 use Rattle.calls.specs.Calls.{call_of}
-use Rattle.batch.specs.declared.Decoded.{Decoded}
-use Rattle.batch.specs.declared.Decoded.TheVariants as decoded
-use Rattle.batch.specs.declared.Ran.TheVariants as ran
+use Rattle.batch.specs.declared.Stopped.TheVariants as stopped
 use Rattle.batch.specs.Program.{Program, ended, malformed, then, call_numbered, then_decoded, program_of}
 use Rattle.batch.specs.Run.{written, run_from, run_of}
 use Rattle.batch.specs.Steps.{entry_at}
@@ -62,16 +61,16 @@ running_first list w out = record { bound = omega arith; words = refl; answers =
 
 -- one step of `run_from`, for each program that may remain
 module _ (k : ℕ) {p : Program} (w out : List ℕ) where
-  at_end : p ≡ ended → run_from k p w out ≡ (ran.All k, w, out)
+  at_end : p ≡ ended → run_from k p w out ≡ (Ok k, w, out)
   unfolding run_from
   at_end e = rw e
 
-  at_malformed : p ≡ malformed → run_from k p w out ≡ (ran.Malformed k, w, out)
+  at_malformed : p ≡ malformed → run_from k p w out ≡ (Err (stopped.Malformed k), w, out)
   unfolding run_from
   at_malformed e = rw e
 
   module _ {c : Call} {rest : Program} (e : p ≡ then c rest) where
-    at_full : length out < 3 * k + 3 → run_from k p w out ≡ (ran.NoRoom k, w, out)
+    at_full : length out < 3 * k + 3 → run_from k p w out ≡ (Err (stopped.NoRoom k), w, out)
     unfolding run_from
     at_full full = rw (e, run_from, lt-leb _ _ full)
 
@@ -80,29 +79,29 @@ module _ (k : ℕ) {p : Program} (w out : List ℕ) where
     at_call room did = rw (e, run_from, le-leb _ _ room, ← did)
 
 module _ (list : List ℕ) {w₀ out₀ w out : List ℕ} {k : ℕ} (r : Running list w₀ out₀ w out k) where
-  pub running_last : length list ≤ 5 * k → (ran.All k, w, out) ≡ run_of list w₀ out₀
+  pub running_last : length list ≤ 5 * k → (Ok k, w, out) ≡ run_of list w₀ out₀
   unfolding program_of
   running_last past = sym (at_end k w out (ap program_of (drop_of_length-le list past))) ∙ r.same
 
-  module _ (inside : 5 * k < length list) {q : Decoded} (read : q ≡ entry_at list (5 * k)) where
-    remains : {d : Decoded} → q ≡ d → program_of (drop (5 * k) list) ≡ then_decoded d (program_of (drop (5 * k + 5) list))
-    remains told = entry-program list (5 * k) inside ∙ ap (λ (d : Decoded). then_decoded d (program_of (drop (5 * k + 5) list))) (sym read ∙ told)
+  module _ (inside : 5 * k < length list) {q : Option Call} (read : q ≡ entry_at list (5 * k)) where
+    remains : {d : Option Call} → q ≡ d → program_of (drop (5 * k) list) ≡ then_decoded d (program_of (drop (5 * k + 5) list))
+    remains told = entry-program list (5 * k) inside ∙ ap (λ (d : Option Call). then_decoded d (program_of (drop (5 * k + 5) list))) (sym read ∙ told)
 
-    pub running_malformed : q ≡ decoded.Unknown → (ran.Malformed k, w, out) ≡ run_of list w₀ out₀
+    pub running_malformed : q ≡ None → (Err (stopped.Malformed k), w, out) ≡ run_of list w₀ out₀
     running_malformed told = sym (at_malformed k w out (remains told)) ∙ r.same
 
     -- an entry that is a call has five words
-    pub running_inside : {c : Call} → q ≡ decoded.Known c → 5 * k + 5 ≤ length list
+    pub running_inside : {c : Call} → q ≡ Some c → 5 * k + 5 ≤ length list
     running_inside {c} told = go (leb (5 * k + 5) (length list)) refl _ (sym read ∙ told)
       where
-        go : (t : Bool) → leb (5 * k + 5) (length list) ≡ t → (d : Decoded) → cond t d decoded.Unknown ≡ decoded.Known c → 5 * k + 5 ≤ length list
+        go : (t : Bool) → leb (5 * k + 5) (length list) ≡ t → (d : Option Call) → cond t d None ≡ Some c → 5 * k + 5 ≤ length list
         go true e d same = leb-true (5 * k + 5) (length list) e
         go false e d same = let z : ◌≡◌ {A = ℕ} 0 1 = cc in absurd (omega arith)
 
-    pub running_no_room : {c : Call} → q ≡ decoded.Known c → length out < 3 * k + 3 → (ran.NoRoom k, w, out) ≡ run_of list w₀ out₀
+    pub running_no_room : {c : Call} → q ≡ Some c → length out < 3 * k + 3 → (Err (stopped.NoRoom k), w, out) ≡ run_of list w₀ out₀
     running_no_room told full = sym (at_full k w out (remains told) full) ∙ r.same
 
-    pub running_more : {c : Call} {o : Outcome} {w' out' : List ℕ} → q ≡ decoded.Known c → 3 * k + 3 ≤ length out → (o, w') ≡ call_of c w → length w' ≡ length w
+    pub running_more : {c : Call} {o : Outcome} {w' out' : List ℕ} → q ≡ Some c → 3 * k + 3 ≤ length out → (o, w') ≡ call_of c w → length w' ≡ length w
         → out' ≡ written out k o → length out' ≡ length out → Running list w₀ out₀ w' out' (k + 1)
     running_more {w' = w'} told room did e wrote e' =
         let step : 5 * (k + 1) ≡ 5 * k + 5 = omega arith in

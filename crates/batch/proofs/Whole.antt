@@ -1,4 +1,5 @@
 -- A list of words that holds calls and nothing else, with room for their answers: the calls run one after the other, and each answer is written.
+use Rattle.std.proofs.Common.{Ok}
 use Prim.Native.Nat.{ℕ, zero, suc, ◌+◌, ◌*◌, ◌≤◌}
 use native.Mathlib.Omega.{arith}
 use native.Mathlib.Nat.{add-zero, zero-add}
@@ -10,7 +11,7 @@ use Rattle.answers.specs.Outcome.{Outcome, status, given}
 use Rattle.calls.specs.declared.Call.{Call}
 use Rattle.calls.specs.declared.Call.TheVariants as call
 use Rattle.calls.specs.Calls.{call_of}
-use Rattle.batch.specs.declared.Ran.TheVariants as ran
+use Rattle.batch.specs.declared.Stopped.TheVariants as stopped
 use Rattle.batch.specs.Program.{then, program_of, program_of_calls, program_words}
 use Rattle.batch.specs.Run.{written, run_from, answers_of, after_all, answer_words, RunsOneAfterTheOther, EveryListHasWords}
 
@@ -50,7 +51,7 @@ written_next front x y z back k e o =
 
 -- the run of the calls cs behind k others, whose answers are the words in front
 from : (cs : List Call) (k : ℕ) (w front back : List ℕ) → length front ≡ 3 * k → 3 * length cs ≤ length back
-    → run_from k (program_of_calls cs) w (front ++ back) ≡ (ran.All (k + length cs), after_all cs w, front ++ (answer_words (answers_of cs w) ++ drop (3 * length cs) back))
+    → run_from k (program_of_calls cs) w (front ++ back) ≡ (Ok (k + length cs), after_all cs w, front ++ (answer_words (answers_of cs w) ++ drop (3 * length cs) back))
 unfolding run_from program_of_calls after_all answers_of answer_words
 from [] k w front back e room = rw add-zero
 from (c ∷ cs) k w front [] e room = absurd (omega arith)

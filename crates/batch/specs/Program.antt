@@ -1,28 +1,26 @@
 -- A list of calls as words: five words a call, its code and then its arguments; what follows them among the five is ignored.
-use Rattle.std.specs.Prelude.{ℕ, List, [], ◌∷◌, ◌++◌, cond, eqb}
+use Rattle.std.specs.Prelude.{ℕ, List, [], ◌∷◌, ◌++◌, cond, eqb, Option, Some, None}
 use Rattle.calls.specs.declared.Call.{Call}
 use Rattle.calls.specs.declared.Call.TheVariants as call
-use Rattle.batch.specs.declared.Decoded.{Decoded}
-use Rattle.batch.specs.declared.Decoded.TheVariants as decoded
 
 -- The call of a code and four words: 0 copy, 1 clear, 2 new, 3 left, 4 right, 5 setleft, 6 setright, 7 setvalue, 8 value, 9 same, 10 collect,
 -- 11 point, 12 east, 13 north.
-abbrev pub call_numbered : ℕ → ℕ → ℕ → ℕ → ℕ → Decoded
+abbrev pub call_numbered : ℕ → ℕ → ℕ → ℕ → ℕ → Option Call
 call_numbered code x y z u =
-    cond (eqb code 0) (decoded.Known (call.Copy x y))
-    (cond (eqb code 1) (decoded.Known (call.Clear x))
-    (cond (eqb code 2) (decoded.Known (call.New x y z u))
-    (cond (eqb code 3) (decoded.Known (call.Left x y))
-    (cond (eqb code 4) (decoded.Known (call.Right x y))
-    (cond (eqb code 5) (decoded.Known (call.SetLeft x y))
-    (cond (eqb code 6) (decoded.Known (call.SetRight x y))
-    (cond (eqb code 7) (decoded.Known (call.SetValue x y))
-    (cond (eqb code 8) (decoded.Known (call.Value x))
-    (cond (eqb code 9) (decoded.Known (call.Same x y))
-    (cond (eqb code 10) (decoded.Known call.Collect)
-    (cond (eqb code 11) (decoded.Known (call.Point x y z u))
-    (cond (eqb code 12) (decoded.Known (call.East x))
-    (cond (eqb code 13) (decoded.Known (call.North x)) decoded.Unknown)))))))))))))
+    cond (eqb code 0) (Some (call.Copy x y))
+    (cond (eqb code 1) (Some (call.Clear x))
+    (cond (eqb code 2) (Some (call.New x y z u))
+    (cond (eqb code 3) (Some (call.Left x y))
+    (cond (eqb code 4) (Some (call.Right x y))
+    (cond (eqb code 5) (Some (call.SetLeft x y))
+    (cond (eqb code 6) (Some (call.SetRight x y))
+    (cond (eqb code 7) (Some (call.SetValue x y))
+    (cond (eqb code 8) (Some (call.Value x))
+    (cond (eqb code 9) (Some (call.Same x y))
+    (cond (eqb code 10) (Some call.Collect)
+    (cond (eqb code 11) (Some (call.Point x y z u))
+    (cond (eqb code 12) (Some (call.East x))
+    (cond (eqb code 13) (Some (call.North x)) None)))))))))))))
 
 -- A program: calls, to the end of the list or to the first entry that is no call, one of fewer than five words or of an unknown code.
 pub data Program : Type 0 where
@@ -31,9 +29,9 @@ pub data Program : Type 0 where
   then : Call → Program → Program
 
 -- An entry, and the program behind it.
-abbrev pub then_decoded : Decoded → Program → Program
-then_decoded (decoded.Known c) rest = then c rest
-then_decoded decoded.Unknown rest = malformed
+abbrev pub then_decoded : Option Call → Program → Program
+then_decoded (Some c) rest = then c rest
+then_decoded None rest = malformed
 
 -- The program that these words hold.
 unfoldable pub program_of : List ℕ → Program

@@ -1,10 +1,10 @@
 -- A run: the calls of a list, one after the other, and the words that their answers are written to.
-use Rattle.std.specs.Prelude.{ℕ, suc, ◌+◌, ◌*◌, ◌≤◌, ◌≡◌, List, [], ◌∷◌, ◌++◌, true, false, length, set, drop, leb}
+use Rattle.std.specs.Prelude.{ℕ, suc, ◌+◌, ◌*◌, ◌≤◌, ◌≡◌, List, [], ◌∷◌, ◌++◌, true, false, length, set, drop, leb, Result, Ok, Err}
 use Rattle.answers.specs.Outcome.{Outcome, status, given}
 use Rattle.calls.specs.declared.Call.{Call}
 use Rattle.calls.specs.Calls.{call_of}
-use Rattle.batch.specs.declared.Ran.{Ran}
-use Rattle.batch.specs.declared.Ran.TheVariants as ran
+use Rattle.batch.specs.declared.Stopped.{Stopped}
+use Rattle.batch.specs.declared.Stopped.TheVariants as stopped
 use Rattle.batch.specs.Program.{Program, ended, malformed, then, program_of, program_of_calls, program_words}
 
 -- An answer as three words, written at place k: 0 or the refusal's number, then the numbers given, 0 where there are fewer.
@@ -13,17 +13,17 @@ written out k o = set (set (set out (3 * k) (status o)) (3 * k + 1) (given o 0 0
 
 -- Runs the calls from place k on. It ends with the number of calls that ran: at the end of the list, at an entry that is no call, or at a call
 -- for whose answer there is no room. Later answer words stay.
-unfoldable pub run_from : ℕ → Program → List ℕ → List ℕ → Ran × List ℕ × List ℕ
-run_from k ended w out = (ran.All k, w, out)
-run_from k malformed w out = (ran.Malformed k, w, out)
+unfoldable pub run_from : ℕ → Program → List ℕ → List ℕ → Result ℕ Stopped × List ℕ × List ℕ
+run_from k ended w out = (Ok k, w, out)
+run_from k malformed w out = (Err (stopped.Malformed k), w, out)
 run_from k (then c rest) w out =
     elim (leb (3 * k + 3) (length out)) [
       | true ↦ run_from (suc k) rest (call_of c w).1 (written out k (call_of c w).0)
-      | false ↦ (ran.NoRoom k, w, out)
+      | false ↦ (Err (stopped.NoRoom k), w, out)
     ]
 
 -- What `batch::run` answers and leaves: the calls that `list` holds run on the pool w, and their answers are written to `out`.
-abbrev pub run_of : List ℕ → List ℕ → List ℕ → Ran × List ℕ × List ℕ
+abbrev pub run_of : List ℕ → List ℕ → List ℕ → Result ℕ Stopped × List ℕ × List ℕ
 run_of list w out = run_from 0 (program_of list) w out
 
 -- The answers of a list of calls: "each call gets what the one before it left, refused or not".
@@ -45,7 +45,7 @@ answer_words (o ∷ os) = status o ∷ given o 0 0 ∷ given o 1 0 ∷ answer_wo
 abbrev pub RunsOneAfterTheOther : Type 0
 RunsOneAfterTheOther =
     (list : List ℕ) (cs : List Call) (w out : List ℕ) → program_of list ≡ program_of_calls cs → 3 * length cs ≤ length out
-    → run_of list w out ≡ (ran.All (length cs), after_all cs w, answer_words (answers_of cs w) ++ drop (3 * length cs) out)
+    → run_of list w out ≡ (Ok (length cs), after_all cs w, answer_words (answers_of cs w) ++ drop (3 * length cs) out)
 
 -- Every list of calls has words that hold it.
 abbrev pub EveryListHasWords : Type 0

@@ -1,5 +1,5 @@
 -- Clearing marks: a turn of the loop, and that clearing undoes marking.
-use Prim.Native.Nat.{ℕ, zero, suc, ◌-◌, ◌<◌, ◌≤◌}
+use Prim.Native.Nat.{ℕ, zero, suc, ◌+◌, ◌-◌, ◌<◌, ◌≤◌}
 use native.Mathlib.Omega.{arith}
 use native.Mathlib.Decide.{ℕ_discrete}
 use mathlib.Core.Path.{◌≡◌, refl, sym, ap, ◌∙◌}
@@ -24,17 +24,21 @@ module _ (R : ℕ) where
   cleared-none w zero h = refl
   cleared-none w (suc i) h = absurd (omega arith)
 
-  pub cleared-marked : (w w' : List ℕ) (i s : ℕ) → 0 < i → s ≡ state R w i → is_marked s ≡ true → w' ≡ unmark_cell R w i → cleared R (i - 1) w' ≡ cleared R i w
+  pub cleared-marked : (w w' : List ℕ) (i s : ℕ) → 0 < i → s ≡ state R w (i - 1 + 1) → is_marked s ≡ true → w' ≡ unmark_cell R w (i - 1 + 1) → cleared R (i - 1) w' ≡ cleared R i w
   unfolding cleared
   cleared-marked w w' zero s some read is wrote = absurd (omega arith)
   cleared-marked w w' (suc i) s some read is wrote =
-      let less : suc i - 1 ≡ i = omega arith in rw (less, ap is_marked (sym read) ∙ is, wrote)
+      let less : suc i - 1 ≡ i = omega arith in
+      let this : suc i - 1 + 1 ≡ suc i = omega arith in
+      rw (less, ap is_marked (sym (rw this at read)) ∙ is, rw this at wrote)
 
-  pub cleared_other : (w : List ℕ) (i s : ℕ) → 0 < i → s ≡ state R w i → is_marked s ≡ false → cleared R (i - 1) w ≡ cleared R i w
+  pub cleared_other : (w : List ℕ) (i s : ℕ) → 0 < i → s ≡ state R w (i - 1 + 1) → is_marked s ≡ false → cleared R (i - 1) w ≡ cleared R i w
   unfolding cleared
   cleared_other w zero s some read other = absurd (omega arith)
   cleared_other w (suc i) s some read other =
-      let less : suc i - 1 ≡ i = omega arith in rw (less, ap is_marked (sym read) ∙ other)
+      let less : suc i - 1 ≡ i = omega arith in
+      let this : suc i - 1 + 1 ≡ suc i = omega arith in
+      rw (less, ap is_marked (sym (rw this at read)) ∙ other)
 
   -- where no cell is marked nothing changes
   cleared_clean : (i : ℕ) (w : List ℕ) → ((j : ℕ) → 0 < j → j ≤ i → marked_cell R w j ≡ false) → cleared R i w ≡ w

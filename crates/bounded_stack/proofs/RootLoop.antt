@@ -13,7 +13,7 @@ use Rattle.graph.specs.Preorder.{elem}
 use Rattle.graph.proofs.Reached.{reach_above, reach_within}
 use Rattle.pool.specs.Layout.{pool_length, register, graph_of, roots_of, mark_cell}
 use Rattle.questions.specs.Validity.{well_formed}
-use Rattle.pool.proofs.Every.{length-tabulate, get_d_tabulate, member-tabulate}
+use Rattle.pool.proofs.Every.{length-tabulate, get_or-tabulate, member-tabulate}
 use Rattle.questions.proofs.WellFormed.{WellFormed, well_formed_read}
 use Rattle.questions.proofs.PoolGraph.{pool-within}
 use Rattle.visit.specs.Visit.{unmarked}
@@ -92,7 +92,7 @@ module _ (R n : ℕ) (pool : List ℕ) (well : well_formed R n pool ≡ true) (r
     registers_bound = rw this ((pool-within facts).root (register pool k) (member-tabulate R (λ j. register pool j) k here))
 
     from : drop k (roots_of R pool) ≡ p ∷ drop (k + 1) (roots_of R pool)
-    from = drop-cons (roots_of R pool) k 0 (omega (arith, roots-length)) ∙ rw (get_d_tabulate R (λ j. register pool j) k 0 here, ← add-one k, this)
+    from = drop-cons (roots_of R pool) k 0 (omega (arith, roots-length)) ∙ rw (get_or-tabulate R (λ j. register pool j) k 0 here, ← add-one k, this)
 
     tested : unmarked R w p ≡ is_unmarked seen p
     tested = ap (λ (x : List ℕ). unmarked R x p) s.marked.words ∙ test R n pool facts room seen s.marked.going.cells p reach

@@ -11,6 +11,7 @@ use pool::Pool;
 use stack_check::Onward;
 
 // How a marking went: was the stack enough, and how many checks ran?
+// (No Result: the checks are counted in both cases, so that both of its sides would be the same number.)
 #[derive(Clone, Copy)]
 pub struct Marking {
     pub enough: bool,
@@ -73,13 +74,9 @@ pub fn clear_marks(words: &mut [u32], n: u32)
     requires { pool_length register_count n ≤ length words.old }
     ensures { words.new ≡ cleared register_count n words.old }
 {
-    let mut i = n;
-    while 0 < i {
-        if marks::is_marked(pool::read_cell(words, i, Pool::STATE)) {
-            marks::unmark_cell(words, i);
-            i -= 1;
-        } else {
-            i -= 1;
+    for i in (0..n).rev() {
+        if marks::is_marked(pool::read_cell(words, i + 1, Pool::STATE)) {
+            marks::unmark_cell(words, i + 1);
         }
     }
 }
@@ -90,8 +87,7 @@ pub fn mark_registers(words: &mut [u32], n: u32, stack: &mut [u32]) -> Marking
     ensures { (words.new, result.enough, result.checks) ≡ result_in register_count words.old (pool_run register_count n (length stack.old) words.old) }
 {
     let mut checks = 0;
-    let mut k = 0;
-    while k < Pool::REGISTERS {
+    for k in 0..Pool::REGISTERS {
         let p = pool::read_register(words, k);
         if visit::is_unmarked(words, p) {
             marks::mark_cell(words, p);
@@ -104,7 +100,6 @@ pub fn mark_registers(words: &mut [u32], n: u32, stack: &mut [u32]) -> Marking
                 };
             }
         }
-        k += 1;
     }
     Marking {
         enough: true,

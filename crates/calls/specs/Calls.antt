@@ -1,7 +1,6 @@
 -- What each of the fourteen calls answers and leaves, on every list of words (01, "The eleven calls" and "Questions, in order"; 02, S-8).
-use Rattle.std.specs.Prelude.{ℕ, List, Bool, true, false}
+use Rattle.std.specs.Prelude.{ℕ, List, [], ◌∷◌, Bool, true, false}
 use Rattle.answers.specs.Outcome.{Outcome, refused}
-use Rattle.questions.specs.declared.Named.{Named}
 use Rattle.questions.specs.Questions.{admit_of, admitted_to}
 use Rattle.collector.specs.Collect.{collect_in}
 use Rattle.allocator.specs.Allocation.{new_in, point_in}
@@ -9,27 +8,22 @@ use Rattle.operations.specs.Operations.{copy_in, clear_in, follow_in, link_in, s
 use Rattle.calls.specs.declared.Call.{Call}
 use Rattle.calls.specs.declared.Call.TheVariants as call
 
--- The registers r, a and b, named by a call.
-abbrev pub names : ℕ → ℕ → ℕ → Named
-names r a b = record { first = r; second = a; third = b }
-
--- The registers that each call names: "Is every register number below 16?" asks about all of them. A call that names fewer than three repeats one;
--- collect names none, and register 0 always exists.
-abbrev pub registers_of : Call → Named
-registers_of (call.Copy r a) = names r a a
-registers_of (call.Clear r) = names r r r
-registers_of (call.New r a b v) = names r a b
-registers_of (call.Left r a) = names r a a
-registers_of (call.Right r a) = names r a a
-registers_of (call.SetLeft a b) = names a b b
-registers_of (call.SetRight a b) = names a b b
-registers_of (call.SetValue a v) = names a a a
-registers_of (call.Value a) = names a a a
-registers_of (call.Same a b) = names a b b
-registers_of call.Collect = names 0 0 0
-registers_of (call.Point r v x y) = names r r r
-registers_of (call.East a) = names a a a
-registers_of (call.North a) = names a a a
+-- The registers that each call names: "Is every register number below 16?" asks about all of them.
+abbrev pub registers_of : Call → List ℕ
+registers_of (call.Copy r a) = r ∷ a ∷ []
+registers_of (call.Clear r) = r ∷ []
+registers_of (call.New r a b v) = r ∷ a ∷ b ∷ []
+registers_of (call.Left r a) = r ∷ a ∷ []
+registers_of (call.Right r a) = r ∷ a ∷ []
+registers_of (call.SetLeft a b) = a ∷ b ∷ []
+registers_of (call.SetRight a b) = a ∷ b ∷ []
+registers_of (call.SetValue a v) = a ∷ []
+registers_of (call.Value a) = a ∷ []
+registers_of (call.Same a b) = a ∷ b ∷ []
+registers_of call.Collect = []
+registers_of (call.Point r v x y) = r ∷ []
+registers_of (call.East a) = a ∷ []
+registers_of (call.North a) = a ∷ []
 
 -- A call behind its first two questions, on a pool of n cells: "a call is one of eleven cases", and 02, S-8, adds three.
 abbrev pub body_of : Call → ℕ → List ℕ → Outcome × List ℕ

@@ -5,10 +5,12 @@ use Rattle.answers.specs.Outcome.{Outcome, answered, allocated, refused, status,
 use mathlib.Core.List.{List}
 use Rattle.collector.specs.Collect.{collect_of}
 use Rattle.tally.specs.declared.Tally.{Tally}
-use Rattle.stack_marker.specs.declared.StackAnswer.{StackAnswer}
+use Rattle.std.proofs.Common.{Result}
+use Rattle.answers.specs.declared.Refusal.{Refusal}
+use Rattle.stack_marker.specs.declared.StackCollection.{StackCollection}
 use Rattle.stack_marker.specs.StackCollect.{stack_outcome}
 use Rattle.tally.specs.TallyOf.{tally_after, tally_of}
-use Rattle.cellpool.specs.Interface.{giving_none, giving, giving_two, tallying, with_stack, number, numbers, saving}
+use Rattle.cellpool.specs.Interface.{giving_none, giving, giving_two, tallying, with_stack, number, numbers}
 
 module _ {A : Type 0} (o : Outcome) (left : A) (x : Outcome × A) (call : ◌≡◌ {A = Outcome × A} (o, left) x) (q : ℕ) where
   pub giving_none_made : q ≡ status o → ◌≡◌ {A = ℕ × A} (q, left) (giving_none x)
@@ -23,18 +25,12 @@ module _ {A : Type 0} (o : Outcome) (left : A) (x : Outcome × A) (call : ◌≡
       ap (λ (p : ℕ × ℕ × ℕ). (p.0, left, p.1, p.2)) said ∙ ap (λ (y : Outcome × A). giving_two y old₀ old₁) call
 
 -- the same of the collection with a lent stack
-pub stack_made : (w stack : List ℕ) (answer : StackAnswer) (x : Outcome × List ℕ × List ℕ) → ◌≡◌ {A = Outcome × List ℕ × List ℕ} (stack_outcome answer, w, stack) x
-    → {answer' : StackAnswer} → answer ≡ answer' → (q v u t old₀ old₁ old₂ : ℕ) → q ≡ status (stack_outcome answer') → v ≡ given (stack_outcome answer') 0 old₀
+pub stack_made : (w stack : List ℕ) (answer : Result StackCollection Refusal) (x : Outcome × List ℕ × List ℕ) → ◌≡◌ {A = Outcome × List ℕ × List ℕ} (stack_outcome answer, w, stack) x
+    → {answer' : Result StackCollection Refusal} → answer ≡ answer' → (q v u t old₀ old₁ old₂ : ℕ) → q ≡ status (stack_outcome answer') → v ≡ given (stack_outcome answer') 0 old₀
     → u ≡ given (stack_outcome answer') 1 old₁ → t ≡ given (stack_outcome answer') 2 old₂
     → ◌≡◌ {A = ℕ × List ℕ × List ℕ × ℕ × ℕ × ℕ} (q, w, stack, v, u, t) (with_stack x old₀ old₁ old₂)
 stack_made w stack answer x call was q v u t old₀ old₁ old₂ said first second third =
     rw (said, first, second, third, sym was) (ap (λ (y : Outcome × List ℕ × List ℕ). with_stack y old₀ old₁ old₂) call)
-
--- the same of save
-pub saving_made : (scratch out : List ℕ) (o : Outcome) (x : Outcome × List ℕ × List ℕ)
-    → ◌≡◌ {A = Outcome × List ℕ × List ℕ} (o, scratch, out) x → (q v old : ℕ) → q ≡ status o → v ≡ given o 0 old
-    → ◌≡◌ {A = ℕ × List ℕ × List ℕ × ℕ} (q, scratch, out, v) (saving x old)
-saving_made scratch out o x save q v old said given = rw (said, given) (ap (λ (y : Outcome × List ℕ × List ℕ). saving y old) save)
 
 -- the same of the collection with a tally: accepted, and refused
 module _ (w w' : List ℕ) (t : Tally) (o : Outcome) (call : ◌≡◌ {A = Outcome × List ℕ} (o, w') (collect_of w)) (q old₀ old₁ : ℕ) where

@@ -1,7 +1,7 @@
 -- How a call answers through the firmware's interface: 0 or the number of the refusal, and the numbers that it gives in lent places, which a refusal
 -- leaves as they were.
 use Rattle.std.specs.Prelude.{ℕ, List}
-use Rattle.answers.specs.Outcome.{Outcome, status, given}
+use Rattle.answers.specs.Outcome.{Outcome, status, given, verdict}
 use Rattle.tally.specs.declared.Tally.{Tally}
 use Rattle.load.specs.declared.Loaded.{Loaded}
 
@@ -37,6 +37,6 @@ numbers o first second = (status o, given o 0 first, given o 1 second)
 abbrev pub saving : Outcome × List ℕ × List ℕ → ℕ → ℕ × List ℕ × List ℕ × ℕ
 saving x old = (status x.0, x.1, x.2, given x.0 0 old)
 
--- Load gives the place behind the image, refused too.
+-- Load gives 0 or the number of the refusal, and the place behind the image, refused too.
 abbrev pub loading : Loaded × List ℕ → ℕ × List ℕ × ℕ
-loading x = (x.0.verdict, x.1, x.0.end)
+loading x = (verdict x.0.verdict, x.1, x.0.end)

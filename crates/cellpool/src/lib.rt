@@ -2,8 +2,8 @@
 // stores the numbers that it gives in lent places; a refusal neither reads nor writes these.
 #![tactic(auto)]
 
-ghost use Rattle.std.specs.Prelude.{◌≡◌, cond};
-ghost use Rattle.answers.specs.Outcome.{answer_outcome};
+ghost use Rattle.std.specs.Prelude.{◌≡◌};
+ghost use Rattle.answers.specs.Outcome.{answer_outcome, verdict};
 ghost use Rattle.pool.specs.Fresh.{fresh_of};
 ghost use Rattle.occupancy.specs.Occupancy.{occupancy_of};
 ghost use Rattle.calls.specs.declared.Call.{Call};
@@ -17,14 +17,12 @@ ghost use Rattle.load.specs.Load.{load_of};
 ghost use Rattle.save.specs.Save.{save_of};
 ghost use Rattle.cellpool.specs.Interface.{giving_none, giving, giving_two, tallying, with_stack, number, numbers, saving, loading};
 
-use answers::Answer;
+use answers::{Answer, Refusal};
 use pool::Pool;
-use save::Saved;
-use stack_marker::StackAnswer;
 use tally::Tally;
 
 // Stores the number that an answer gives, and answers its status. A refusal stores nothing.
-fn store(answer: Answer, place: &mut u32) -> u32
+fn store(answer: Result<Answer, Refusal>, place: &mut u32) -> u32
     ensures { (result, place.new) ≡ number (answer_outcome answer) place.old }
 {
     let mut second = 0;
@@ -32,25 +30,29 @@ fn store(answer: Answer, place: &mut u32) -> u32
 }
 
 // The same of an answer that gives two numbers.
-fn store_two(answer: Answer, first: &mut u32, second: &mut u32) -> u32
+fn store_two(answer: Result<Answer, Refusal>, first: &mut u32, second: &mut u32) -> u32
     ensures { (result, first.new, second.new) ≡ numbers (answer_outcome answer) first.old second.old }
 {
     match answer {
-        Answer::Done => 0,
-        Answer::Allocated { visits } => {
-            *first = visits;
-            0
-        }
-        Answer::Number(x) => {
-            *first = x;
-            0
-        }
-        Answer::Pair(x, y) => {
+        Ok(Answer::Done) => {}
+        Ok(Answer::Allocated { visits }) => *first = visits,
+        Ok(Answer::Number(x)) => *first = x,
+        Ok(Answer::Pair(x, y)) => {
             *first = x;
             *second = y;
-            0
         }
-        Answer::Refused(refusal) => refusal.number(),
+        Err(_) => {}
+    }
+    answers::status(answer)
+}
+
+// 0, or the number of the refusal.
+fn number_of(done: Result<(), Refusal>) -> u32
+    ensures { result ≡ verdict done }
+{
+    match done {
+        Ok(()) => 0,
+        Err(refusal) => refusal.number(),
     }
 }
 
@@ -66,14 +68,14 @@ pub extern "C" fn cellpool_fresh(words: &mut [u32], cells: &mut u32, leftover: &
 pub extern "C" fn cellpool_copy(words: &mut [u32], r: u32, a: u32) -> u32
     ensures { (result, words.new) ≡ giving_none (call_of (Call.Copy r a) words.old) }
 {
-    calls::copy(words, r, a).status()
+    answers::status(calls::copy(words, r, a))
 }
 
 #[unsafe(no_mangle)]
 pub extern "C" fn cellpool_clear(words: &mut [u32], r: u32) -> u32
     ensures { (result, words.new) ≡ giving_none (call_of (Call.Clear r) words.old) }
 {
-    calls::clear(words, r).status()
+    answers::status(calls::clear(words, r))
 }
 
 #[unsafe(no_mangle)]
@@ -94,35 +96,35 @@ pub extern "C" fn cellpool_new(
 pub extern "C" fn cellpool_left(words: &mut [u32], r: u32, a: u32) -> u32
     ensures { (result, words.new) ≡ giving_none (call_of (Call.Left r a) words.old) }
 {
-    calls::left(words, r, a).status()
+    answers::status(calls::left(words, r, a))
 }
 
 #[unsafe(no_mangle)]
 pub extern "C" fn cellpool_right(words: &mut [u32], r: u32, a: u32) -> u32
     ensures { (result, words.new) ≡ giving_none (call_of (Call.Right r a) words.old) }
 {
-    calls::right(words, r, a).status()
+    answers::status(calls::right(words, r, a))
 }
 
 #[unsafe(no_mangle)]
 pub extern "C" fn cellpool_setleft(words: &mut [u32], a: u32, b: u32) -> u32
     ensures { (result, words.new) ≡ giving_none (call_of (Call.SetLeft a b) words.old) }
 {
-    calls::set_left(words, a, b).status()
+    answers::status(calls::set_left(words, a, b))
 }
 
 #[unsafe(no_mangle)]
 pub extern "C" fn cellpool_setright(words: &mut [u32], a: u32, b: u32) -> u32
     ensures { (result, words.new) ≡ giving_none (call_of (Call.SetRight a b) words.old) }
 {
-    calls::set_right(words, a, b).status()
+    answers::status(calls::set_right(words, a, b))
 }
 
 #[unsafe(no_mangle)]
 pub extern "C" fn cellpool_setvalue(words: &mut [u32], a: u32, v: u32) -> u32
     ensures { (result, words.new) ≡ giving_none (call_of (Call.SetValue a v) words.old) }
 {
-    calls::set_value(words, a, v).status()
+    answers::status(calls::set_value(words, a, v))
 }
 
 #[unsafe(no_mangle)]
@@ -186,7 +188,7 @@ pub extern "C" fn cellpool_collect_tally(
     ensures { (result, words.new, collections.new, total_visits.new, kept.new, visits.new) ≡ tallying (tally_of words.old (record { collections = collections.old; visits = total_visits.old })) kept.old visits.old }
 {
     let answer = collector::collect(words);
-    let status = answer.status();
+    let status = answers::status(answer);
     if status != 0 {
         return status;
     }
@@ -198,13 +200,6 @@ pub extern "C" fn cellpool_collect_tally(
     *collections = after.collections;
     *total_visits = after.visits;
     store_two(answer, kept, visits)
-}
-
-// 1 for yes, 0 for no.
-fn flag(yes: bool) -> u32
-    ensures { result ≡ cond yes 1 0 }
-{
-    if yes { 1 } else { 0 }
 }
 
 // Kept, 1 where the stack was enough and 0 where it was not, and the checks of its entries.
@@ -219,17 +214,13 @@ pub extern "C" fn cellpool_collect_stack(
     ensures { (result, words.new, stack.new, kept.new, enough.new, checks.new) ≡ with_stack (stack_of words.old stack.old) kept.old enough.old checks.old }
 {
     match stack_marker::collect_stack(words, stack) {
-        StackAnswer::Collected {
-            kept: cells,
-            enough: is_enough,
-            checks: made,
-        } => {
-            *kept = cells;
-            *enough = flag(is_enough);
-            *checks = made;
+        Ok(made) => {
+            *kept = made.kept;
+            *enough = u32::from(made.enough);
+            *checks = made.checks;
             0
         }
-        StackAnswer::Refused(refusal) => refusal.number(),
+        Err(why) => why.number(),
     }
 }
 
@@ -262,11 +253,11 @@ pub extern "C" fn cellpool_save(
     ensures { (result, scratch.new, out.new, bytes.new) ≡ saving (save_of words.now scratch.old out.old) bytes.old }
 {
     match save::save(words, scratch, out) {
-        Saved::Bytes(n) => {
-            *bytes = n;
+        Ok(size) => {
+            *bytes = size;
             0
         }
-        Saved::Refused(refusal) => refusal.number(),
+        Err(refusal) => refusal.number(),
     }
 }
 
@@ -277,14 +268,14 @@ pub extern "C" fn cellpool_load(words: &mut [u32], bytes: &[u8], rest: &mut usiz
 {
     let loaded = load::load_at(words, bytes);
     *rest = loaded.end;
-    loaded.verdict
+    number_of(loaded.verdict)
 }
 
 #[unsafe(no_mangle)]
 pub extern "C" fn cellpool_check_image(bytes: &[u8], n: u32) -> u32
-    ensures { result ≡ check_of bytes.now n }
+    ensures { result ≡ verdict (check_of bytes.now n) }
 {
-    image_scan::check_image(bytes, n)
+    number_of(image_scan::check_image(bytes, n))
 }
 
 #[unsafe(no_mangle)]

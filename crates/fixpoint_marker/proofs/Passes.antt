@@ -1,12 +1,12 @@
 -- The laws of marking pass by pass, and that marks at which a pass changes nothing are exact.
 use Prim.Native.Nat.{ℕ, ◌+◌, ◌-◌, ◌<◌, ◌≤◌}
 use native.Mathlib.Omega.{arith}
-use native.Mathlib.Decide.{ℕ_discrete, dec_lt}
+use native.Mathlib.Decide.{ℕ_discrete}
 use mathlib.Core.Path.{◌≡◌, refl, sym, subst, ◌∙◌}
 use mathlib.Core.Logic.{inl, inr, ⊎_elim, ◌↔◌}
 use mathlib.Core.Bool.{true}
 use mathlib.Core.List.{List, Memᴰ}
-use lib.ListN.{length, get_or, set, replicate, length-replicate, get_or-replicate, get_or-eq_default}
+use lib.ListN.{length, get_or, set}
 use lib.Seq.{get_or-set_same, get_or-set_other}
 use Rattle.graph.specs.Graph.{Reach, Within}
 use Rattle.graph.specs.Marking.{marked_count}
@@ -21,10 +21,6 @@ use Rattle.questions.proofs.WellFormed.{well_formed_read}
 use Rattle.questions.proofs.PoolGraph.{pool-within}
 use Rattle.collector.specs.CollectTheorem.{Reached}
 use Rattle.fixpoint_marker.specs.Marks.{Exact, Marked, OnlyReached, Rooted, Closed, LinkMarked, Grown}
-
--- A link whose cell is marked, or which leads to none.
-pub linked-none : {n x : ℕ} (m : List ℕ) → Marked n m x → LinkMarked n x m m 0
-linked-none m h = record { keeps = λ y k. k; only = λ y k. inl k; count = omega arith; still = λ e. refl; done = h; small = omega arith }
 
 module _ {n x : ℕ} (m : List ℕ) (positive : 0 < x) (bounded : x ≤ n) (room : n < length m) (unmarked : get_or m x 0 ≡ 0) where
   -- The marks after an unmarked cell is marked are those of the graph's theory.
@@ -56,16 +52,6 @@ module _ {n x : ℕ} (m : List ℕ) (positive : 0 < x) (bounded : x ≤ n) (room
         done = λ h k. (set-mark x).0 (mark_self (λ z. get_or m z 0) x x refl);
         small = omega arith;
       }
-
--- Marks that are all 0 hold only what is reached.
-pub clear_sound : (w : List ℕ) (k : ℕ) {m : List ℕ} → m ≡ replicate k 0 → OnlyReached w m
-clear_sound w k {m} e x h = absurd (go (dec_lt x k))
-  where
-    go : Dec (x < k) → ⊥
-    go (yes low) = omega (arith, get_or-replicate {A = ℕ} k x 0 0 low, rw e at h)
-    go (no high) =
-        let past : length (replicate {A = ℕ} k 0) ≤ x = rw length-replicate (omega arith) in
-        omega (arith, get_or-eq_default (replicate {A = ℕ} k 0) 0 past, rw e at h)
 
 module _ (n : ℕ) (w : List ℕ) where
   pub grown_none : (m : List ℕ) → Grown n w m m 0
@@ -115,27 +101,21 @@ module _ (n : ℕ) (w : List ℕ) where
     pub grown : Grown n w m₀ m found
     pub above : found ≡ 0 → (j : ℕ) → i < j → j ≤ n → Closed n w m j
 
-  pub passed_none : (m : List ℕ) → Passed m m 0 n
-  passed_none m = record { grown = grown_none m; above = λ e j h k. absurd (omega arith) }
-
-  pub passed_more : {m₀ m m' : List ℕ} {found k : ℕ} (i : ℕ) → Passed m₀ m found i → Grown n w m m' k × Closed n w m' i
+  pub passed_more : {m₀ m m' : List ℕ} {found k : ℕ} (i : ℕ) → 0 < i → Passed m₀ m found i → Grown n w m m' k × Closed n w m' (i - 1 + 1)
       → Passed m₀ m' (found + k) (i - 1)
-  passed_more {m₀} {m} {m'} {found} {k} i p (g, closed) = record { grown = grown_more p.grown g; above = above }
+  passed_more {m₀} {m} {m'} {found} {k} i some p (g, closed) = record { grown = grown_more p.grown g; above = above }
     where
       above : found + k ≡ 0 → (j : ℕ) → i - 1 < j → j ≤ n → Closed n w m' j
       above e j low high = go (ℕ_discrete j i)
         where
           go : Dec (j ≡ i) → Closed n w m' j
-          go (yes same) = rw same closed
+          go (yes same) = let this : i - 1 + 1 ≡ j = omega arith in rw this at closed
           go (no other) = rw (g.still (omega arith)) (p.above (omega arith) j (omega arith) high)
 
   -- The registers so far to k: only what is reached was marked, and their links are marked.
   pub record Started (m₀ m : List ℕ) (k : ℕ) : Type 0 where
     pub sound : OnlyReached w m₀ → OnlyReached w m
     pub below : (j : ℕ) → j < k → Marked n m (register w j)
-
-  pub started_none : (m : List ℕ) → Started m m 0
-  started_none m = record { sound = λ s. s; below = λ j h. absurd (omega arith) }
 
   pub started_more : {m₀ m m' : List ℕ} {x a : ℕ} (k : ℕ) → k < register_count → x ≡ register w k → Started m₀ m k → LinkMarked n x m m' a
       → Started m₀ m' (k + 1)

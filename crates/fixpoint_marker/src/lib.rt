@@ -14,17 +14,12 @@ fn mark_link(marks: &mut [u32], n: u32, x: u32) -> u32
     requires { n < length marks.old }
     ensures { LinkMarked n x marks.old marks.new result }
 {
-    if x == 0 {
-        return 0;
+    if x != 0 && x <= n && marks[x as usize] == 0 {
+        marks[x as usize] = 1;
+        1
+    } else {
+        0
     }
-    if n < x {
-        return 0;
-    }
-    if marks[x as usize] != 0 {
-        return 0;
-    }
-    marks[x as usize] = 1;
-    1
 }
 
 // Marks what the links of a cell lead to, if the cell is marked. Gives how many cells that newly marks.
@@ -47,10 +42,8 @@ fn pass(words: &[u32], n: u32, marks: &mut [u32]) -> u32
     ensures closed { result ≡ 0 → (i : ℕ) → 0 < i → i ≤ n → Closed n words.now marks.new i }
 {
     let mut found = 0;
-    let mut i = n;
-    while 0 < i {
-        found += mark_links(words, n, marks, i);
-        i -= 1;
+    for i in (0..n).rev() {
+        found += mark_links(words, n, marks, i + 1);
     }
     found
 }
@@ -60,10 +53,8 @@ fn mark_roots(words: &[u32], n: u32, marks: &mut [u32])
     requires { (pool_length register_count n ≤ length words.now) × (n < length marks.old) }
     ensures { (OnlyReached words.now marks.old → OnlyReached words.now marks.new) × Rooted n words.now marks.new }
 {
-    let mut k = 0;
-    while k < Pool::REGISTERS {
+    for k in 0..Pool::REGISTERS {
         mark_link(marks, n, pool::read_register(words, k));
-        k += 1;
     }
 }
 
@@ -74,9 +65,5 @@ pub fn mark(words: &[u32], n: u32, marks: &mut [u32])
 {
     pool::clear(marks);
     mark_roots(words, n, marks);
-    loop {
-        if pass(words, n, marks) == 0 {
-            return;
-        }
-    }
+    while pass(words, n, marks) != 0 {}
 }

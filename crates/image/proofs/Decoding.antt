@@ -10,10 +10,13 @@ use borrow.Author.Tests.{le-leb}
 use Rattle.leb128.specs.Leb128.{encode, Between}
 use Rattle.leb128.proofs.Theorems.{encoding_read}
 use Rattle.answers.specs.declared.Refusal.{Refusal}
+use Rattle.pool.specs.States.{is_point_kind}
 use Rattle.image.specs.declared.ImageCell.{ImageCell}
-use Rattle.image.specs.Image.{is_point_kind, Image, cell_bytes, image_bytes, Parsed, parsed, any_number, read_number, at_most, read_link, read_word, read_cell, read_each, read_image}
+use Rattle.pool.specs.declared.Kind.{Kind}
+use Rattle.image.specs.Kinds.{kind_number}
+use Rattle.image.specs.Image.{Image, cell_bytes, image_bytes, Parsed, parsed, any_number, read_number, at_most, read_link, read_word, read_cell, read_each, read_image}
 use Rattle.image.proofs.Reading.{then-parsed, Each}
-use Rattle.image.proofs.Images.{Linked, LinksWithin, cell-parsed, image-parsed}
+use Rattle.image.proofs.Images.{kind_renumbered, kind_low, Linked, LinksWithin, cell-parsed, image-parsed}
 
 -- The numbers of a cell have 32 bits.
 pub record Fits (c : ImageCell) : Type 0 where
@@ -40,7 +43,7 @@ module _ (bytes : List ℕ) where
       ap (at_most most over) (number-encoded v at after fits e) ∙ rw (le-leb v most low)
 
   -- A left or right number of a cell: of a pair it is at most K.
-  word-encoded : (K kind v at : ℕ) (after : List ℕ) → (is_point_kind kind ≡ false → v ≤ K) → v < 2 ^ 32 → drop at bytes ≡ encode v ++ after
+  word-encoded : (K : ℕ) (kind : Kind) (v at : ℕ) (after : List ℕ) → (is_point_kind kind ≡ false → v ≤ K) → v < 2 ^ 32 → drop at bytes ≡ encode v ++ after
       → read_word K kind bytes at ≡ parsed v (at + length (encode v))
   word-encoded K kind v at after low fits e = go (is_point_kind kind) low
     where
@@ -52,7 +55,7 @@ module _ (bytes : List ℕ) where
   cell-encoded : (K : ℕ) (c : ImageCell) (at : ℕ) (after : List ℕ) → Linked K c → Fits c → drop at bytes ≡ cell_bytes c ++ after
       → read_cell K bytes at ≡ parsed c (at + length (cell_bytes c))
   cell-encoded K c at after linked fits e =
-      let k = encode c.kind in
+      let k = encode (kind_number c.kind) in
       let l = encode c.left in
       let r = encode c.right in
       let v = encode c.value in
@@ -63,7 +66,8 @@ module _ (bytes : List ℕ) where
       let end : at + length k + length l + length r + length v ≡ at + length (cell_bytes c) =
       omega (arith, length-append ((k ++ l) ++ r) v, length-append (k ++ l) r, length-append k l) in
       cell-parsed K bytes c at (at + length k) (at + length k + length l) (at + length k + length l + length r) (at + length (cell_bytes c))
-      (bounded-encoded 1 _ c.kind at (l ++ (r ++ (v ++ after))) linked.kind-most (omega (arith, linked.kind-most)) first)
+      (then-parsed _ (bounded-encoded 1 _ (kind_number c.kind) at (l ++ (r ++ (v ++ after))) (kind_low c.kind) (omega (arith, kind_low c.kind)) first)
+      ∙ ap (λ (k : Kind). parsed k (at + length (encode (kind_number c.kind)))) (kind_renumbered c.kind))
       (word-encoded K c.kind c.left (at + length k) (r ++ (v ++ after)) linked.left-most fits.left second)
       (word-encoded K c.kind c.right (at + length k + length l) (v ++ after) linked.right-most fits.right third)
       (number-encoded c.value (at + length k + length l + length r) after fits.value fourth ∙ ap (parsed c.value) end)

@@ -1,28 +1,31 @@
 -- The image at the start of the bytes: what is known of one that was read.
 use Prim.Native.Nat.{ℕ, ◌≤◌}
 use native.Mathlib.Omega.{arith}
-use mathlib.Core.Path.{◌≡◌, refl, sym, subst, ◌∙◌}
+use native.Mathlib.Decide.{ℕ_discrete}
+use mathlib.Core.Path.{◌≡◌, refl, sym, ap, subst, ◌∙◌}
 use mathlib.Core.List.{List}
 use mathlib.Core.Bool.{Bool, true, false, cond}
 use lib.ListN.{length}
 use lib.Dec.{leb}
 use borrow.Author.Tests.{leb-true}
-use Rattle.leb128.specs.Leb128.{encode, Bytes, Between, read_at}
-use Rattle.leb128.specs.declared.Number.{Number}
-use Rattle.leb128.specs.declared.Number.TheVariants as number
+use Rattle.std.specs.Prelude.{Ok, Err}
+use Rattle.leb128.specs.Leb128.{Found, found, encode, Bytes, Between, read_at}
 use Rattle.leb128.proofs.Theorems.{reads_encodings}
 use Rattle.answers.specs.declared.Refusal.{Refusal}
+use Rattle.answers.specs.declared.Refusal.TheVariants as refusal
+use Rattle.pool.specs.States.{is_point_kind}
 use Rattle.image.specs.declared.ImageCell.{ImageCell}
-use Rattle.image.specs.Image.{is_point_kind, Image, cell_bytes, image_bytes, Parsed, parsed, fault, any_number, read_number, at_most, read_count, read_link, read_kind, read_word, read_cell, read_each, read_image}
+use Rattle.pool.specs.declared.Kind.{Kind}
+use Rattle.pool.specs.declared.Kind.TheVariants as kind
+use Rattle.image.specs.Kinds.{kind_number, kind_numbered}
+use Rattle.image.specs.Image.{Image, cell_bytes, image_bytes, Parsed, parsed, fault, any_number, read_number, at_most, read_count, read_link, read_kind, read_word, read_cell, read_each, read_image}
 use Rattle.image.specs.OneForm.{ReadsImageBytes, OneImage}
 use Rattle.image.proofs.Reading.{between_both, between_taken, then-parsed, both-parsed, Each, each_length, each_read, each_between}
 
 -- A number that is not refused is there, and one with a bound is within it.
-pub number_there : (num : Number) (v next : ℕ) → any_number num ≡ parsed v next → num ≡ number.Value v next
-number_there (number.Value u after) v next e = cc
-number_there number.Missing v next e = let z : ◌≡◌ {A = ℕ} 0 1 = cc in absurd (omega arith)
-number_there number.OutOfRange v next e = let z : ◌≡◌ {A = ℕ} 0 1 = cc in absurd (omega arith)
-number_there number.Padded v next e = let z : ◌≡◌ {A = ℕ} 0 1 = cc in absurd (omega arith)
+pub number_there : (num : Found) (v next : ℕ) → any_number num ≡ parsed v next → num ≡ found v next
+number_there (Ok n) v next e = let value : n.value ≡ v = cc in let behind : n.next ≡ next = cc in rw (← value, ← behind) refl
+number_there (Err why) v next e = cc
 
 pub record Bounded (most : ℕ) (read : Parsed ℕ) (v next : ℕ) : Type 0 where
   pub there : read ≡ parsed v next
@@ -39,9 +42,34 @@ bounded most over (fault why) v next e = let z : ◌≡◌ {A = ℕ} 0 1 = cc in
 pub count-few : (n : ℕ) (bytes : List ℕ) (K next : ℕ) → read_count n bytes ≡ parsed K next → K ≤ n
 count-few n bytes K next e = (bounded n _ (read_number bytes 0) K next e).within
 
--- The kind of a cell is one of the two, and the links of a pair are at most K.
+-- The number of a kind that was read is what was read, and a kind is that of its number.
+numbered_again : (k : ℕ) → k ≤ 1 → kind_number (kind_numbered k) ≡ k
+numbered_again k low =
+    elim (ℕ_discrete k 1) [
+      | yes e ↦ rw e refl
+      | no e ↦ let none : k ≡ 0 = omega (arith, e) in rw none refl
+    ]
+
+pub kind_renumbered : (k : Kind) → kind_numbered (kind_number k) ≡ k
+kind_renumbered kind.Pair = refl
+kind_renumbered kind.Point = refl
+
+pub kind_low : (k : Kind) → kind_number k ≤ 1
+kind_low kind.Pair = omega arith
+kind_low kind.Point = omega arith
+
+pub kind_bounded : (bytes : List ℕ) (at : ℕ) (k : Kind) (next : ℕ) → read_kind bytes at ≡ parsed k next → read_number bytes at ≡ parsed (kind_number k) next
+kind_bounded bytes at k next e =
+    let n = both-parsed (at_most 1 refusal.KindNumber (read_number bytes at)) _ k next e in
+    let b = bounded 1 _ (read_number bytes at) n.item n.next n.here in
+    let last : ◌≡◌ {A = Parsed Kind} (parsed (kind_numbered n.item) n.next) (parsed k next) = n.behind in
+    let same : kind_numbered n.item ≡ k = cc in
+    let behind : n.next ≡ next = cc in
+    let number : n.item ≡ kind_number k = sym (numbered_again n.item b.within) ∙ ap kind_number same in
+    rw (number, behind) at b.there
+
+-- The links of a pair are at most K.
 pub record Linked (K : ℕ) (c : ImageCell) : Type 0 where
-  pub kind-most : c.kind ≤ 1
   pub left-most : is_point_kind c.kind ≡ false → c.left ≤ K
   pub right-most : is_point_kind c.kind ≡ false → c.right ≤ K
 
@@ -49,10 +77,10 @@ module _ (K : ℕ) (bytes : List ℕ) where
   link-within : (at x next : ℕ) → read_link K bytes at ≡ parsed x next → x ≤ K
   link-within at x next e = (bounded K _ (read_number bytes at) x next e).within
 
-  word-within : (kind at x next : ℕ) → read_word K kind bytes at ≡ parsed x next → is_point_kind kind ≡ false → x ≤ K
+  word-within : (kind : Kind) (at x next : ℕ) → read_word K kind bytes at ≡ parsed x next → is_point_kind kind ≡ false → x ≤ K
   word-within kind at x next e pair = link-within at x next (rw pair at e)
 
-  pub word_there : (kind at x next : ℕ) → read_word K kind bytes at ≡ parsed x next → read_number bytes at ≡ parsed x next
+  pub word_there : (kind : Kind) (at x next : ℕ) → read_word K kind bytes at ≡ parsed x next → read_number bytes at ≡ parsed x next
   word_there kind at x next e = go (is_point_kind kind) e
     where
       go : (t : Bool) → cond t (read_number bytes at) (read_link K bytes at) ≡ parsed x next → read_number bytes at ≡ parsed x next
@@ -95,7 +123,6 @@ module _ (K : ℕ) (bytes : List ℕ) where
   cell-linked at c next e =
       let r = cell-read at c next e in
       record {
-        kind-most = (bounded 1 _ (read_number bytes at) c.kind r.left r.kind_there).within;
         left-most = word-within c.kind r.left c.left r.right r.left_there;
         right-most = word-within c.kind r.right c.right r.value r.right_there;
       }
@@ -116,7 +143,7 @@ module _ (K : ℕ) (bytes : List ℕ) where
     link_between : (at x next : ℕ) → read_link K bytes at ≡ parsed x next → Between bytes at next (encode x)
     link_between at x next e = number_between at x next (bounded K _ (read_number bytes at) x next e).there
 
-    word_between : (kind at x next : ℕ) → read_word K kind bytes at ≡ parsed x next → Between bytes at next (encode x)
+    word_between : (kind : Kind) (at x next : ℕ) → read_word K kind bytes at ≡ parsed x next → Between bytes at next (encode x)
     word_between kind at x next e = number_between at x next (word_there kind at x next e)
 
     cell_between : (at : ℕ) (c : ImageCell) (next : ℕ) → read_cell K bytes at ≡ parsed c next → Between bytes at next (cell_bytes c)
@@ -124,7 +151,7 @@ module _ (K : ℕ) (bytes : List ℕ) where
         let r = cell-read at c next e in
         between_both
         (between_both
-        (between_both (number_between at c.kind r.left (bounded 1 _ (read_number bytes at) c.kind r.left r.kind_there).there)
+        (between_both (number_between at (kind_number c.kind) r.left (kind_bounded bytes at c.kind r.left r.kind_there))
         (word_between c.kind r.left c.left r.right r.left_there))
         (word_between c.kind r.right c.right r.value r.right_there))
         (number_between r.value c.value next r.value_there)

@@ -8,11 +8,14 @@ use lib.ListN.{length, drop}
 use Rattle.leb128.specs.Leb128.{encode, read_groups, read_at}
 use Rattle.answers.specs.declared.Refusal.{Refusal}
 use Rattle.answers.specs.declared.Refusal.TheVariants as refusal
+use Rattle.pool.specs.States.{is_point_kind}
 use Rattle.image.specs.declared.ImageCell.{ImageCell}
-use Rattle.image.specs.Image.{is_point_kind, Image, Parsed, parsed, fault, read_number, read_link, read_word, read_cell, read_each, read_image}
+use Rattle.pool.specs.declared.Kind.{Kind}
+use Rattle.image.specs.Kinds.{kind_number}
+use Rattle.image.specs.Image.{Image, Parsed, parsed, fault, read_number, read_link, read_word, read_cell, read_each, read_image}
 use Rattle.image.specs.OldForm.{OldCell, old_cell_bytes, old_image_bytes, OldNumbers, OldImageRefused}
 use Rattle.image.proofs.Reading.{each_first}
-use Rattle.image.proofs.Images.{bounded, cell-read, image-read}
+use Rattle.image.proofs.Images.{bounded, kind_bounded, cell-read, image-read}
 use Rattle.image.proofs.Decoding.{behind, number-encoded}
 
 -- From a place on the bytes are so many numbers, and nothing more.
@@ -50,7 +53,7 @@ module _ (bytes : List ℕ) where
     link_takes : {k at : ℕ} → Numbers bytes k at → (x next : ℕ) → read_link K bytes at ≡ parsed x next → Left bytes k 1 next
     link_takes {at = at} n x next read = number_takes n x next (bounded K _ (read_number bytes at) x next read).there
 
-    word_takes : (kind : ℕ) {k at : ℕ} → Numbers bytes k at → (x next : ℕ) → read_word K kind bytes at ≡ parsed x next → Left bytes k 1 next
+    word_takes : (kind : Kind) {k at : ℕ} → Numbers bytes k at → (x next : ℕ) → read_word K kind bytes at ≡ parsed x next → Left bytes k 1 next
     word_takes kind {k} {at} n x next read = go (is_point_kind kind) read
       where
         go : (t : Bool) → cond t (read_number bytes at) (read_link K bytes at) ≡ parsed x next → Left bytes k 1 next
@@ -61,7 +64,7 @@ module _ (bytes : List ℕ) where
     cell_takes : {k at : ℕ} → Numbers bytes k at → (c : ImageCell) (next : ℕ) → read_cell K bytes at ≡ parsed c next → Left bytes k 4 next
     cell_takes {at = at} n c next read =
         let r = cell-read K bytes at c next read in
-        let first = number_takes n c.kind r.left (bounded 1 _ (read_number bytes at) c.kind r.left r.kind_there).there in
+        let first = number_takes n (kind_number c.kind) r.left (kind_bounded bytes at c.kind r.left r.kind_there) in
         let second = word_takes c.kind first.there c.left r.right r.left_there in
         let third = word_takes c.kind second.there c.right r.value r.right_there in
         let fourth = number_takes third.there c.value next r.value_there in

@@ -1,6 +1,7 @@
 -- Images of a pair and a point, worked out by hand, with two registers for brevity.
 use Rattle.std.specs.Prelude.{ℕ, ◌≡◌, List, [], ◌∷◌}
 use Rattle.answers.specs.declared.Refusal.TheVariants as refusal
+use Rattle.pool.specs.declared.Kind.TheVariants as kind
 use Rattle.image.specs.Image.{Image, image_of, parsed, fault, read_image}
 
 -- Register 0 holds cell 2, a pair, which leads left to itself and right to cell 1 and has the value 300; cell 1 is a point at x = 3, y = 128 with the value 7;
@@ -13,7 +14,7 @@ abbrev pub two_cells_image : Image
 two_cells_image =
     record {
       registers = 1 ∷ 0 ∷ [];
-      cells = record { kind = 0; left = 1; right = 2; value = 300 } ∷ record { kind = 1; left = 3; right = 128; value = 7 } ∷ [];
+      cells = record { kind = kind.Pair; left = 1; right = 2; value = 300 } ∷ record { kind = kind.Point; left = 3; right = 128; value = 7 } ∷ [];
     }
 
 -- 300 takes two bytes, 172, 2 (AC 02), and so does 128: 128, 1 (80 01).

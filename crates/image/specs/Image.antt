@@ -1,22 +1,17 @@
 -- Saved images (01, "Images"; 02, S-8): what an image holds, the image of a pool, its bytes, and how bytes are read as an image. R is the number of registers.
-use Rattle.std.specs.Prelude.{ℕ, zero, suc, Bool, true, false, cond, length, eqb, leb}
+use Rattle.std.specs.Prelude.{ℕ, zero, suc, Bool, true, false, cond, length, eqb, leb, Ok, Err}
 use mathlib.Core.List.{List, [], ◌∷◌, ◌++◌, map, flat_map}
-use Rattle.leb128.specs.Leb128.{encode, read_at}
-use Rattle.leb128.specs.declared.Number.{Number}
-use Rattle.leb128.specs.declared.Number.TheVariants as number
+use Rattle.leb128.specs.Leb128.{Found, encode, read_at}
+use Rattle.leb128.specs.declared.NumberError.{NumberError}
+use Rattle.leb128.specs.declared.NumberError.TheVariants as number
 use Rattle.pool.specs.Layout.{left, right, value, is_point_at, roots_of}
 use Rattle.answers.specs.declared.Refusal.{Refusal}
 use Rattle.answers.specs.declared.Refusal.TheVariants as refusal
 use Rattle.reversal.specs.Reached.{reached_cells}
+use Rattle.pool.specs.States.{is_point_kind}
 use Rattle.image.specs.declared.ImageCell.{ImageCell}
-
--- "In an image each cell begins with kind 0 or 1 (1 a point)" (02, S-8).
-abbrev pub kind_of : Bool → ℕ
-kind_of point = cond point 1 0
-
--- Is it the kind of a point?
-abbrev pub is_point_kind : ℕ → Bool
-is_point_kind kind = eqb kind 1
+use Rattle.pool.specs.declared.Kind.{Kind}
+use Rattle.image.specs.Kinds.{kind_number, kind_of, kind_numbered}
 
 -- "An image is K, sixteen registers, then left, right, value for K cells", each of which begins with its kind: K is the number of its cells, and a cell is the
 -- code's `ImageCell`.
@@ -49,7 +44,7 @@ saved_image R w order = record { registers = map (number_in order) (roots_of R w
 
 -- The bytes of a cell, its kind and then "left, right, value", and those of an image.
 abbrev pub cell_bytes : ImageCell → List ℕ
-cell_bytes c = encode c.kind ++ encode c.left ++ encode c.right ++ encode c.value
+cell_bytes c = encode (kind_number c.kind) ++ encode c.left ++ encode c.right ++ encode c.value
 
 -- "K, sixteen registers, then left, right, value for K cells", each with its kind before them.
 abbrev pub image_bytes : Image → List ℕ
@@ -69,13 +64,17 @@ abbrev pub and_then : {A B : Type 0} → Parsed A → (A → ℕ → Parsed B) �
 and_then (parsed x next) rest = rest x next
 and_then (fault why) rest = fault why
 
--- Any number: "are all its bytes there, the first five at most? No: 6. Is it below 2^32 in five groups? No: 7."
+-- Why no number is there: "are all its bytes there, the first five at most? No: 6. Is it below 2^32 in five groups? No: 7."
 -- "12 for a padded number, after 7 and before 9" (02, S-1).
-abbrev pub any_number : Number → Parsed ℕ
-any_number (number.Value v next) = parsed v next
-any_number number.Missing = fault refusal.Truncated
-any_number number.OutOfRange = fault refusal.OutOfRange
-any_number number.Padded = fault refusal.Padded
+abbrev pub refusal_of : NumberError → Refusal
+refusal_of number.Missing = refusal.Truncated
+refusal_of number.OutOfRange = refusal.OutOfRange
+refusal_of number.Padded = refusal.Padded
+
+-- Any number.
+abbrev pub any_number : Found → Parsed ℕ
+any_number (Ok n) = parsed n.value n.next
+any_number (Err why) = fault (refusal_of why)
 
 -- The number at a place of the bytes.
 abbrev pub read_number : List ℕ → ℕ → Parsed ℕ
@@ -94,11 +93,11 @@ abbrev pub read_link : ℕ → List ℕ → ℕ → Parsed ℕ
 read_link K bytes at = at_most K refusal.LinkRange (read_number bytes at)
 
 -- "14 for another kind number, after 12" (02, S-8).
-abbrev pub read_kind : List ℕ → ℕ → Parsed ℕ
-read_kind bytes at = at_most 1 refusal.KindNumber (read_number bytes at)
+abbrev pub read_kind : List ℕ → ℕ → Parsed Kind
+read_kind bytes at = and_then (at_most 1 refusal.KindNumber (read_number bytes at)) λ k next. parsed (kind_numbered k) next
 
 -- The left or right number of a cell of that kind: a link of a pair, any number of a point.
-abbrev pub read_word : ℕ → ℕ → List ℕ → ℕ → Parsed ℕ
+abbrev pub read_word : ℕ → Kind → List ℕ → ℕ → Parsed ℕ
 read_word K kind bytes at = cond (is_point_kind kind) (read_number bytes at) (read_link K bytes at)
 
 -- Its kind and then "left, right, value": the numbers of a cell.

@@ -1,3 +1,4 @@
+pub mod Kinds
 pub mod Image
 pub mod OneForm
 pub mod OldForm

@@ -1,15 +1,25 @@
 // Saved images of a pool: theory, and what their cells are. Functions are in the crates that read and write them.
 #![tactic(auto)]
 
-// The kinds of a cell in an image.
-pub const PAIR: u32 = 0;
+ghost use Rattle.std.specs.Prelude.{◌≡◌};
+ghost use Rattle.image.specs.Kinds.{kind_number};
 
-pub const POINT: u32 = 1;
+use pool::Kind;
+
+// The number of a kind in an image.
+pub fn kind_number(kind: Kind) -> u32
+    ensures { result ≡ kind_number kind }
+{
+    match kind {
+        Kind::Pair => 0,
+        Kind::Point => 1,
+    }
+}
 
 // A cell of an image: its kind; the numbers of a pair's links, or a point's coordinates; and its value.
-#[derive(Clone, Copy)]
+#[derive(Clone, Copy, PartialEq, Eq, Debug)]
 pub struct ImageCell {
-    pub kind: u32,
+    pub kind: Kind,
     pub left: u32,
     pub right: u32,
     pub value: u32,

@@ -1,39 +1,49 @@
--- The numbers of an image with their bounds, as the code asks them.
+-- The kind of a cell, as the code asks it.
 use Prim.Native.Nat.{ℕ, ◌+◌, ◌<◌, ◌≤◌}
 use native.Mathlib.Omega.{arith}
-use mathlib.Core.Path.{◌≡◌, refl}
+use native.Mathlib.Decide.{dec_le}
+use mathlib.Core.Path.{◌≡◌, refl, sym, ap, ◌∙◌}
 use mathlib.Core.List.{List}
-use mathlib.Core.Bool.{Bool, true, false, cond}
-use lib.ListN.{length, get_or}
-use borrow.Author.Tests.{le-leb}
+use lib.ListN.{length, get_or, length-drop}
+use lib.Seq.{get_or-drop}
+use borrow.Author.Tests.{lt-leb}
 use Rattle.leb128.specs.Leb128.{Bytes, read_at}
+use Rattle.leb128.proofs.Encoding.{encode-last}
 use Rattle.leb128.proofs.Reading.{first}
 use Rattle.leb128.proofs.Theorems.{reads_encodings}
-use Rattle.answers.specs.declared.Refusal.{Refusal}
 use Rattle.answers.specs.declared.Refusal.TheVariants as refusal
-use Rattle.image.specs.Image.{is_point_kind, Parsed, parsed, fault, read_number, at_most, read_link, read_kind, read_word}
+use Rattle.pool.specs.declared.Kind.TheVariants as kind
+use Rattle.image.specs.Image.{parsed, fault, at_most, read_number, read_kind}
+use Rattle.image.proofs.Reading.{then-fault}
 use Rattle.image.proofs.Images.{number_there}
-use Rattle.image_reader.specs.Steps.{highest_word}
 
--- A byte of 0 or 1 is a kind.
-pub kind_byte : (bytes : List ℕ) (at : ℕ) → at < length bytes → get_or bytes at 0 ≤ 1 → parsed (get_or bytes at 0) (at + 1) ≡ read_kind bytes at
-kind_byte bytes at there low =
-    let byte = (first bytes at there (omega arith)).ends (omega arith) in
-    rw (← byte, le-leb (get_or bytes at 0) 1 low) refl
+module _ (bytes : List ℕ) (at : ℕ) where
+  -- A byte of 0 is the kind of a pair, and one of 1 that of a point.
+  pub pair_byte : at < length bytes → get_or bytes at 0 ≡ 0 → read_kind bytes at ≡ parsed kind.Pair (at + 1)
+  pair_byte there none =
+      let byte = (first bytes at there (omega arith)).ends (omega arith) in
+      rw (← byte, none) refl
 
--- A bound that no number exceeds refuses none.
-unbounded : (most : ℕ) (over : Refusal) (read : Parsed ℕ) → ((v next : ℕ) → read ≡ parsed v next → v ≤ most) → at_most most over read ≡ read
-unbounded most over (parsed v next) within = rw (le-leb v most (within v next refl)) refl
-unbounded most over (fault why) within = refl
+  pub point_byte : at < length bytes → get_or bytes at 0 ≡ 1 → read_kind bytes at ≡ parsed kind.Point (at + 1)
+  point_byte there one =
+      let byte = (first bytes at there (omega arith)).ends (omega arith) in
+      rw (← byte, one) refl
 
-module _ (K : ℕ) (bytes : List ℕ) (byte : Bytes bytes) where
-  -- A number that was read has 32 bits, and where that is the bound it is not refused.
-  number-within : (at x next : ℕ) → read_number bytes at ≡ parsed x next → x ≤ 4294967295
-  number-within at x next e = omega (arith, ((reads_encodings bytes at x next byte).0 (number_there (read_at bytes at) x next e)).0)
+  -- A number of 0 or 1 is its byte.
+  low_byte : Bytes bytes → (v next : ℕ) → read_number bytes at ≡ parsed v next → v ≤ 1 → (at < length bytes) × (get_or bytes at 0 ≡ v)
+  low_byte byte v next e low =
+      let spelled = (reads_encodings bytes at v next byte).0 (number_there (read_at bytes at) v next e) in
+      let here = rw (encode-last v (omega arith)) at spelled.1.from in
+      let same : at ≡ at + 0 = omega arith in (
+        omega (arith, ap length here, length-drop at bytes),
+        ap (λ (i : ℕ). get_or bytes i 0) same ∙ sym (get_or-drop at bytes 0 0) ∙ ap (λ (l : List ℕ). get_or l 0 0) here,
+      )
 
-  pub word_bound : (kind at most : ℕ) → most ≡ highest_word K kind → at_most most refusal.LinkRange (read_number bytes at) ≡ read_word K kind bytes at
-  word_bound kind at most e = rw e (go (is_point_kind kind))
-    where
-      go : (t : Bool) → at_most (cond t 4294967295 K) refusal.LinkRange (read_number bytes at) ≡ cond t (read_number bytes at) (read_link K bytes at)
-      go true = unbounded 4294967295 _ (read_number bytes at) (number-within at)
-      go false = refl
+  -- So where another byte stands, or none, there is no kind.
+  pub no_kind : Bytes bytes → (at < length bytes → 2 ≤ get_or bytes at 0) → (v next : ℕ) → read_number bytes at ≡ parsed v next
+      → read_kind bytes at ≡ fault refusal.KindNumber
+  no_kind byte other v next e =
+      elim (dec_le v 1) [
+        | yes low ↦ let b = low_byte byte v next e low in absurd (omega (arith, b.1, other b.0))
+        | no high ↦ then-fault _ (ap (at_most 1 refusal.KindNumber) e ∙ simp (lt-leb v 1 (omega arith)))
+      ]

@@ -1,59 +1,34 @@
 // The scan of a whole image, and the check of an image.
 #![tactic(auto)]
 
-ghost use Rattle.std.specs.Prelude.{◌≡◌, ◌+◌, ◌<◌, ◌≤◌, length};
+ghost use Rattle.std.specs.Prelude.{◌≡◌, ◌+◌, ◌<◌, ◌≤◌, length, IfSome};
 ghost use Rattle.pool.specs.Layout.{register_count};
 ghost use Rattle.image.specs.Image.{read_number, read_link, read_cell, read_each, read_image};
 ghost use Rattle.image_scan.specs.Check.{check_of};
 ghost use Rattle.image_scan.specs.Steps.{place_of, end_of, pair_end, scan_of};
 
 use answers::Refusal;
-use image_reader::Field;
+use image_reader::KindRead;
 use pool::Pool;
 
-// The place behind some numbers of an image, or why they are refused.
-#[derive(Clone, Copy)]
-pub enum Place {
-    Behind(usize),
-    Refused(Refusal),
+// An image at the start of some bytes: the number of its cells, and the place behind it.
+#[derive(Clone, Copy, PartialEq, Eq, Debug)]
+pub struct Scanned {
+    pub cells: u32,
+    pub end: usize,
 }
 
-// What stands at the start of the bytes.
-#[derive(Clone, Copy)]
-pub enum Scan {
-    // An image with this number of cells, and the place behind it.
-    Whole { cells: u32, end: usize },
-    Refused(Refusal),
-}
-
-// Reads a cell of an image of k cells, kind, left, right, value, without a write. Inlined, as the other parts of a scan, so that what it
-// returns needs no memory.
+// Reads a cell of an image of k cells, kind, left, right, value, without a write. Gives the place behind it. Inlined, as the other parts of a scan, so that
+// what it returns needs no memory.
 #[inline(always)]
-fn scan_cell(bytes: &[u8], at: usize, k: u32) -> Place
+fn scan_cell(bytes: &[u8], at: usize, k: u32) -> Result<usize, Refusal>
     ensures { result ≡ place_of (read_cell k bytes.now at) }
 {
-    match image_reader::read_kind(bytes, at) {
-        Field::Refused(why) => Place::Refused(why),
-        Field::Value {
-            value: kind,
-            next: behind_kind,
-        } => match image_reader::read_word(bytes, behind_kind, k, kind) {
-            Field::Refused(why) => Place::Refused(why),
-            Field::Value {
-                value: _,
-                next: behind_left,
-            } => match image_reader::read_word(bytes, behind_left, k, kind) {
-                Field::Refused(why) => Place::Refused(why),
-                Field::Value {
-                    value: _,
-                    next: behind_right,
-                } => match image_reader::read_number(bytes, behind_right) {
-                    Field::Refused(why) => Place::Refused(why),
-                    Field::Value { value: _, next } => Place::Behind(next),
-                },
-            },
-        },
-    }
+    let KindRead { kind, next } = image_reader::read_kind(bytes, at)?;
+    let left = image_reader::read_word(bytes, next, k, kind)?;
+    let right = image_reader::read_word(bytes, left.next, k, kind)?;
+    let value = image_reader::read_number(bytes, right.next)?;
+    Ok(value.next)
 }
 
 // Most cells of most images are pairs, far from the end of the bytes. Of such a pair the next functions ask no more than they must: whether bytes are there
@@ -65,74 +40,65 @@ const SHORT_LINKS: u32 = 16384;
 // The most bytes of a pair with such links: one of its kind, two of each link, five of its value.
 const PAIR_BYTES: usize = 10;
 
-// The place behind a link of an image of k cells; 0 if it is refused.
-fn link_end(bytes: &[u8], at: usize, k: u32) -> usize
+// The place behind a link of an image of k cells, if it is not refused.
+fn link_end(bytes: &[u8], at: usize, k: u32) -> Option<usize>
     requires { (k < 16384) × (at + 2 ≤ length bytes.now) }
-    ensures { (result ≡ end_of (read_link k bytes.now at)) × (result ≤ at + 2) }
+    ensures { (result ≡ end_of (read_link k bytes.now at)) × IfSome result (λ end. end ≤ at + 2) }
 {
     let first = bytes[at] as u32;
     if first < 128 {
         if k < first {
-            return 0;
+            return None;
         }
-        return at + 1;
+        return Some(at + 1);
     }
     let second = bytes[at + 1] as u32;
     if second == 0 {
-        return 0;
+        return None;
     }
     if k < first - 128 + 128 * second {
-        return 0;
+        return None;
     }
-    at + 2
+    Some(at + 2)
 }
 
-// The place behind any number; 0 if it is refused.
-fn number_end(bytes: &[u8], at: usize) -> usize
+// The place behind any number, if it is not refused.
+fn number_end(bytes: &[u8], at: usize) -> Option<usize>
     requires { at + 5 ≤ length bytes.now }
     ensures { result ≡ end_of (read_number bytes.now at) }
 {
     if bytes[at] < 128 {
-        return at + 1;
+        return Some(at + 1);
     }
-    let fifth = at + 4;
-    let mut i = at + 1;
-    while i < fifth {
+    for i in at + 1..at + 4 {
         let group = bytes[i];
         if group < 128 {
             if group == 0 {
-                return 0;
+                return None;
             }
-            return i + 1;
+            return Some(i + 1);
         }
-        i += 1;
     }
-    let last = bytes[i];
-    if last == 0 {
-        return 0;
+    let fifth = bytes[at + 4];
+    if fifth == 0 {
+        return None;
     }
-    if 16 <= last {
-        return 0;
+    if 16 <= fifth {
+        return None;
     }
-    i + 1
+    Some(at + 5)
 }
 
-// The place behind a pair of an image of k cells; 0 if it is none, or refused.
-fn pair_end(bytes: &[u8], at: usize, k: u32) -> usize
+// The place behind a pair of an image of k cells, if it is one and not refused.
+fn pair_end(bytes: &[u8], at: usize, k: u32) -> Option<usize>
     requires { (k < 16384) × (at + 10 ≤ length bytes.now) }
     ensures { result ≡ pair_end k bytes.now at }
 {
     if bytes[at] != 0 {
-        return 0;
+        return None;
     }
-    let behind_left = link_end(bytes, at + 1, k);
-    if behind_left == 0 {
-        return 0;
-    }
-    let behind_right = link_end(bytes, behind_left, k);
-    if behind_right == 0 {
-        return 0;
-    }
+    let behind_left = link_end(bytes, at + 1, k)?;
+    let behind_right = link_end(bytes, behind_left, k)?;
     number_end(bytes, behind_right)
 }
 
@@ -158,96 +124,74 @@ fn skip_pairs(bytes: &[u8], start: usize, k: u32, count: u32) -> Rest
         return Rest { left, at };
     }
     let last = bytes.len() - PAIR_BYTES;
+    // Not a `for`: how many are left when the pairs end is what is given back.
     while 0 < left {
         if last < at {
             return Rest { left, at };
         }
-        let behind = pair_end(bytes, at, k);
-        if behind == 0 {
+        let Some(behind) = pair_end(bytes, at, k) else {
             return Rest { left, at };
-        }
+        };
         at = behind;
         left -= 1;
     }
     Rest { left, at }
 }
 
-// Reads the registers of an image of k cells, without a write.
-fn scan_registers(bytes: &[u8], start: usize, k: u32) -> Place
+// Reads the registers of an image of k cells, without a write. Gives the place behind them.
+fn scan_registers(bytes: &[u8], start: usize, k: u32) -> Result<usize, Refusal>
     ensures { result ≡ place_of (read_each (read_link k bytes.now) register_count start) }
 {
     let mut at = start;
-    let mut left = Pool::REGISTERS;
-    while 0 < left {
-        match image_reader::read_link(bytes, at, k) {
-            Field::Value { value: _, next } => {
-                at = next;
-                left -= 1;
-            },
-            Field::Refused(why) => {
-                return Place::Refused(why);
-            },
-        }
+    for _ in 0..Pool::REGISTERS {
+        at = image_reader::read_link(bytes, at, k)?.next;
     }
-    Place::Behind(at)
+    Ok(at)
 }
 
-// Reads the cells of an image of k cells, without a write.
+// Reads the cells of an image of k cells, without a write. Gives the place behind them.
 #[inline(always)]
-fn scan_cells(bytes: &[u8], start: usize, k: u32) -> Place
+fn scan_cells(bytes: &[u8], start: usize, k: u32) -> Result<usize, Refusal>
     ensures { result ≡ place_of (read_each (read_cell k bytes.now) k start) }
 {
     let mut at = start;
     let mut left = k;
+    // Not a `for`: a turn goes over as many cells as there are pairs, and one more.
     while 0 < left {
         let rest = skip_pairs(bytes, at, k, left);
         at = rest.at;
         left = rest.left;
         if left == 0 {
-            return Place::Behind(at);
+            return Ok(at);
         }
-        match scan_cell(bytes, at, k) {
-            Place::Behind(next) => {
-                at = next;
-                left -= 1;
-            },
-            Place::Refused(why) => {
-                return Place::Refused(why);
-            },
-        }
+        at = scan_cell(bytes, at, k)?;
+        left -= 1;
     }
-    Place::Behind(at)
+    Ok(at)
 }
 
 // The image at the start of the bytes, for a pool of n cells.
 #[inline(always)]
-pub fn scan_image(bytes: &[u8], n: u32) -> Scan
+pub fn scan_image(bytes: &[u8], n: u32) -> Result<Scanned, Refusal>
     ensures { result ≡ scan_of (read_image register_count n bytes.now) }
 {
-    match image_reader::read_count(bytes, n) {
-        Field::Refused(why) => Scan::Refused(why),
-        Field::Value { value: k, next } => match scan_registers(bytes, next, k) {
-            Place::Refused(why) => Scan::Refused(why),
-            Place::Behind(at) => match scan_cells(bytes, at, k) {
-                Place::Refused(why) => Scan::Refused(why),
-                Place::Behind(end) => Scan::Whole { cells: k, end },
-            },
-        },
-    }
+    let count = image_reader::read_count(bytes, n)?;
+    let cells = count.value;
+    let at = scan_registers(bytes, count.next, cells)?;
+    let end = scan_cells(bytes, at, cells)?;
+    Ok(Scanned { cells, end })
 }
 
-// Would these bytes be loaded into a pool of n cells? 0, or the number of the refusal.
-pub fn check_image(bytes: &[u8], n: u32) -> u32
+// Would these bytes be loaded into a pool of n cells? If not, why they are refused.
+pub fn check_image(bytes: &[u8], n: u32) -> Result<(), Refusal>
     ensures { result ≡ check_of bytes.now n }
 {
     if n < 1 {
-        return Refusal::Size.number();
+        return Err(Refusal::Size);
     }
     if Pool::CELLS < n {
-        return Refusal::Size.number();
+        return Err(Refusal::Size);
     }
-    match scan_image(bytes, n) {
-        Scan::Whole { cells: _, end: _ } => 0,
-        Scan::Refused(why) => why.number(),
-    }
+    scan_image(bytes, n)?;
+    Ok(())
 }

@@ -3,9 +3,9 @@ use Prim.Native.Nat.{ℕ, ◌+◌, ◌*◌, ◌<◌, ◌≤◌}
 use native.Mathlib.Omega.{arith}
 use native.Mathlib.Nat.{mul-suc}
 use native.Mathlib.Numerals.{add-one}
-use mathlib.Core.Path.{◌≡◌, refl, sym, ap, ap₂, ◌∙◌}
+use mathlib.Core.Path.{◌≡◌, sym, ap, ap₂, ◌∙◌}
 use mathlib.Core.List.{List, [], ◌∷◌, ◌++◌, append-nil, append_assoc, map, flat_map}
-use lib.ListN.{length, get_or, take, drop, length-append, length-map, take-append-drop, drop_of_length-le}
+use lib.ListN.{length, get_or, take, drop, length-append, length-map, drop_of_length-le}
 use lib.Seq.{length-take-le, take_at, drop-append-add, drop-drop, drop-cons}
 use Rattle.leb128.specs.Leb128.{encode}
 use Rattle.leb128.proofs.Encoding.{encode-size}
@@ -13,6 +13,7 @@ use Rattle.pool.specs.Layout.{register, roots_of}
 use Rattle.pool.proofs.Every.{length-tabulate}
 use Rattle.reversal.specs.Reached.{reached_cells, reached_count}
 use Rattle.image.specs.declared.ImageCell.{ImageCell}
+use Rattle.image.specs.Kinds.{kind_number}
 use Rattle.image.specs.Image.{number_in, saved_cell, cell_bytes, image_of}
 use Rattle.image_writer.specs.Steps.{register_bytes, order_bytes, PutBytes}
 
@@ -37,16 +38,16 @@ bytes_most code most h (x ∷ xs) =
 
 -- A cell is as long as its numbers.
 pub cell-length : (c : ImageCell)
-    → length (cell_bytes c) ≡ length (encode c.kind) + length (encode c.left) + length (encode c.right) + length (encode c.value)
+    → length (cell_bytes c) ≡ length (encode (kind_number c.kind)) + length (encode c.left) + length (encode c.right) + length (encode c.value)
 cell-length c =
-    let k = encode c.kind in
+    let k = encode (kind_number c.kind) in
     let l = encode c.left in
     let r = encode c.right in
     let v = encode c.value in
     omega (arith, length-append ((k ++ l) ++ r) v, length-append (k ++ l) r, length-append k l)
 
 cell-most : (c : ImageCell) → length (cell_bytes c) ≤ 20
-cell-most c = omega (arith, cell-length c, encode-size c.kind, encode-size c.left, encode-size c.right, encode-size c.value)
+cell-most c = omega (arith, cell-length c, encode-size (kind_number c.kind), encode-size c.left, encode-size c.right, encode-size c.value)
 
 -- Bytes that begin with others, and what follows these.
 pub record Begins (rest first more : List ℕ) : Type 0 where
@@ -103,12 +104,7 @@ image-length R n w k e =
     let cells = order_bytes R n w 0 in
     sym (ap length (image_parts R n w k e)) ∙ (length-append (head ++ registers) cells ∙ ap (λ (x : ℕ). x + length cells) (length-append head registers))
 
--- Nothing is written; some bytes are, and behind them others.
-pub put_nothing : (out : List ℕ) (at : ℕ) → PutBytes [] out at at out
-put_nothing out at =
-    let here : at + 0 ≡ at = omega arith in
-    (sym here, sym (ap₂ (λ (a b : List ℕ). a ++ b) (append-nil (take at out)) (ap (λ (k : ℕ). drop k out) here) ∙ take-append-drop at out))
-
+-- Some bytes are written, and behind them others.
 pub put_append : (a b out : List ℕ) (at next : ℕ) (after : List ℕ) (end : ℕ) (last : List ℕ) → at ≤ length out
     → PutBytes a out at next after → PutBytes b after next end last → PutBytes (a ++ b) out at end last
 put_append a b out at next after end last inside p q =
@@ -145,9 +141,6 @@ pub record Writing (whole out₀ : List ℕ) (start : ℕ) (rest out : List ℕ)
   pub put : PutBytes done out₀ start at out
   pub len : length out ≡ length out₀
 
-pub writing_first : (whole out : List ℕ) (start : ℕ) → Writing whole out start whole out start
-writing_first whole out start = record { done = []; parts = refl; put = put_nothing out start; len = refl }
-
 module _ (whole out₀ : List ℕ) (start : ℕ) (room : start + length whole ≤ length out₀) (rest out : List ℕ) (at : ℕ)
     (t : Writing whole out₀ start rest out at) where
   -- There is room for the next bytes; once they are written, fewer are left; at the end all are written.
@@ -173,9 +166,6 @@ module _ (whole out₀ : List ℕ) (start : ℕ) (room : start + length whole �
 -- A loop that sums the sizes: the sum, and what is left, make the whole.
 pub record Sizing (whole rest : List ℕ) (size : ℕ) : Type 0 where
   pub sum : size + length rest ≡ length whole
-
-pub sizing_first : (whole : List ℕ) → Sizing whole whole 0
-sizing_first whole = record { sum = omega arith }
 
 module _ (whole rest : List ℕ) (size : ℕ) (s : Sizing whole rest size) where
   pub sizing_more : (e more : List ℕ) (add : ℕ) → Begins rest e more → add ≡ length e → Sizing whole more (size + add)

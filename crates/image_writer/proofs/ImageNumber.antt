@@ -9,12 +9,14 @@ use borrow.Author.Tests.{eq-eqb, ne_eqb}
 use Rattle.graph.proofs.Lists.{get_or-member}
 use Rattle.pool.specs.Layout.{register, cell, is_point_at, roots_of}
 use Rattle.pool.proofs.Links.{link-pair}
-use Rattle.pool.proofs.Every.{get_d_tabulate}
+use Rattle.pool.proofs.Every.{get_or-tabulate}
 use Rattle.questions.proofs.WellFormed.{Link}
 use Rattle.questions.proofs.PoolGraph.{Used, link_bound, used-links}
 use Rattle.reversal.specs.Reached.{reached_cells, reached_count}
 use Rattle.image.specs.declared.ImageCell.{ImageCell}
-use Rattle.image.specs.Image.{kind_of, number_in, saved_word, saved_cell}
+use Rattle.pool.specs.declared.Kind.{Kind}
+use Rattle.image.specs.Kinds.{kind_of}
+use Rattle.image.specs.Image.{number_in, saved_word, saved_cell}
 use Rattle.numbering.specs.Steps.{Savable, Ordered}
 use Rattle.numbering.proofs.Numbering.{place_none}
 use Rattle.numbering.proofs.Ordering.{well, order-used}
@@ -34,7 +36,7 @@ module _ (R n : ℕ) (w s : List ℕ) (savable : Savable R n w (length s)) where
     register-saved j v low e =
         e
         ∙ (link_numbered (register w j) ((well R n w s savable).registers j low)
-        ∙ ap (number_in (reached_cells R n w)) (sym (get_d_tabulate R (λ k. register w k) j 0 low)))
+        ∙ ap (number_in (reached_cells R n w)) (sym (get_or-tabulate R (λ k. register w k) j 0 low)))
 
     module _ (p : ℕ) (below : p < reached_count R n w) where
       -- The p-th cell of the order.
@@ -63,7 +65,7 @@ module _ (R n : ℕ) (w s : List ℕ) (savable : Savable R n w (length s)) where
           go true is = refl
           go false is = link_numbered _ (link_here is f hf)
 
-      pub cell-saved : (point : Bool) (k l r v : ℕ) → point ≡ is_point_at R w cell_here → k ≡ kind_of point → l ≡ word_at point s (cell R w cell_here 1)
+      pub cell-saved : (point : Bool) (k : Kind) (l r v : ℕ) → point ≡ is_point_at R w cell_here → k ≡ kind_of point → l ≡ word_at point s (cell R w cell_here 1)
           → r ≡ word_at point s (cell R w cell_here 2) → v ≡ cell R w cell_here 3
           → ◌≡◌ {A = ImageCell} (record { kind = k; left = l; right = r; value = v }) (saved_cell R w (reached_cells R n w) (get_or (reached_cells R n w) p 0))
       cell-saved point k l r v is ek el er ev =

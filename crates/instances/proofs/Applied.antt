@@ -55,6 +55,7 @@ use Rattle.observation.proofs.Theorems.{same_file, saved-same_file, loaded_answe
 use Rattle.leftovers.specs.Leftovers as leftovers
 use Rattle.leftovers.proofs.Stay.{leftovers_stay}
 use Rattle.leftovers.proofs.Unseen.{leftovers_unseen}
+use Rattle.std.specs.Prelude.{Some}
 use Rattle.lines.specs.declared.Line.TheVariants as line
 use Rattle.script.specs.Reader.{new_reader}
 use Rattle.script.proofs.Scanning.{parts_read}
@@ -163,7 +164,7 @@ applied =
     let t = save-then_load mixed scratch (replicate 31 9) 30 (replicate 6 0) (mixed_image ++ 9 ∷ []) (replicate 30 5) m.words32 m.saved m.target m.fit in
     let t = old-image_refused 1 3 (1 ∷ []) old_cells refl m.old_some m.old in
     let t = fewest_digits padded s.some s.digits in
-    let t = (parts_read new_reader lines [] 0).line (line.Run call.Collect) 2 s.ended in
+    let t = (parts_read new_reader lines [] 0).line (Some (line.Run call.Collect)) 2 s.ended in
     let t = (parts_read new_reader lines [] 2).more progress.reader s.more in
     let t = starts_whole largest lines [] s.words in
     let t = parts_join largest lines lines [] progress s.read in

@@ -45,7 +45,7 @@ use Rattle.image.specs.Image.{place_from, read_each, read_image}
 use Rattle.image.specs.OldForm.{OldCell}
 use Rattle.load.specs.Load.{put_each}
 use Rattle.lines.specs.Lines.{all, command}
-use Rattle.script.specs.Reader.{space_of, letter_of, digit_of, feed_of, end_of, begun_of}
+use Rattle.script.specs.Reader.{space_of, digit_of, feed_of, end_of, begun_of}
 use Rattle.replies.specs.Replies.{digits, decimal}
 use Rattle.script.specs.Scripts.{next_line}
 use Rattle.instances.specs.Instances.{three, three_collected, two, graph, roots, two_runs, Swapped, around, image, mixed, old_cells, PointInstance, PoolInstance, ReversalInstance, RunsInstance, GraphInstance, NumberInstance, OccupancyInstance, ImageInstance, CheckInstance, WorstCaseInstance, LeftoverInstance, BatchInstance, ScriptInstance}
@@ -348,7 +348,7 @@ unfolding elem visit visits preorder pair_count point_count tabulate every cell_
 batch_instance = record { program = refl; room = omega arith; run = refl; answer = Memᴰ.tail (Memᴰ.head refl) }
 
 pub script_instance : ScriptInstance
-unfolding all command space_of letter_of digit_of feed_of end_of begun_of digits decimal next_line
+unfolding all command space_of digit_of feed_of end_of begun_of digits decimal next_line
 script_instance =
     record {
       some = omega arith;

@@ -1,9 +1,8 @@
 -- No theorem is vacuous: the hypotheses of each are met by an instance, most of them by one pool, on which what the theorem says is not trivial.
-use Rattle.std.specs.Prelude.{ℕ, suc, ◌+◌, ◌*◌, ◌-◌, ◌/◌, ◌^◌, ◌<◌, ◌≤◌, ◌≡◌, true, false, length, get_or, drop, replicate}
+use Rattle.std.specs.Prelude.{ℕ, suc, ◌+◌, ◌*◌, ◌-◌, ◌/◌, ◌^◌, ◌<◌, ◌≤◌, ◌≡◌, true, false, length, get_or, drop, replicate, Some, Ok}
 use Prim.Native.Char.{code}
 use mathlib.Core.List.{List, [], ◌∷◌, ◌++◌, Memᴰ}
-use Rattle.leb128.specs.Leb128.{encode, read_at, Bytes, Between}
-use Rattle.leb128.specs.declared.Number.TheVariants as number
+use Rattle.leb128.specs.Leb128.{found, encode, read_at, Bytes, Between}
 use Rattle.graph.specs.Graph.{Graph, Reach, Within}
 use Rattle.graph.specs.Dfs.{marks, Dfs, DfsAll}
 use Rattle.graph.specs.Marking.{outside, Closure}
@@ -36,10 +35,11 @@ use Rattle.worst_case.specs.WorstCase.{worst_case_of}
 use Rattle.worst_case.specs.Example.{five_pool}
 use Rattle.calls.specs.declared.Call.{Call}
 use Rattle.calls.specs.declared.Call.TheVariants as call
-use Rattle.batch.specs.declared.Ran.TheVariants as ran
+use Rattle.batch.specs.declared.Stopped.TheVariants as stopped
 use Rattle.batch.specs.Program.{program_of, program_of_calls}
 use Rattle.batch.specs.Run.{run_of, after_all}
 use Rattle.reference.specs.Equivalence.{pool_answers}
+use Rattle.pool.specs.declared.Kind.TheVariants as kind
 use Rattle.image.specs.Image.{Image, parsed, read_image}
 use Rattle.image.specs.OldForm.{OldCell, OldNumbers}
 use Rattle.load.specs.Load.{load_of}
@@ -48,7 +48,8 @@ use Rattle.save.specs.RoundTrip.{Words}
 use Rattle.lines.specs.declared.Line.TheVariants as line
 use Rattle.script.specs.declared.Found.TheVariants as found
 use Rattle.lines.specs.Lines.{is_digit, all, decimal_value}
-use Rattle.script.specs.Reader.{new_reader, without_numbers, begun_of}
+use Rattle.script.specs.declared.LineReader.TheVariants as reader
+use Rattle.script.specs.Reader.{new_reader, begun_of}
 use Rattle.replies.specs.Replies.{decimal}
 use Rattle.script.specs.Scripts.{next_line}
 use Rattle.runner.specs.declared.Progress.{Progress}
@@ -170,7 +171,7 @@ around = 0x05 ∷ 0xAC ∷ 0x02 ∷ 0x00 ∷ []
 pub record NumberInstance : Type 0 where
   pub largest : 4294967295 < 2 ^ 32
   pub bytes : Bytes around
-  pub read : read_at around 1 ≡ number.Value 300 3
+  pub read : read_at around 1 ≡ found 300 3
   pub encoded : (300 < 2 ^ 32) × Between around 1 3 (encode 300)
 
 -- The occupancy: `OccupancyIsNearest` where 3 of 40 cells are kept: 7.5 percent, an exact half.
@@ -187,7 +188,7 @@ abbrev pub image_of_two : Image
 image_of_two =
     record {
       registers = 1 ∷ replicate 15 0;
-      cells = record { kind = 0; left = 2; right = 2; value = 300 } ∷ record { kind = 0; left = 1; right = 0; value = 8 } ∷ [];
+      cells = record { kind = kind.Pair; left = 2; right = 2; value = 300 } ∷ record { kind = kind.Pair; left = 1; right = 0; value = 8 } ∷ [];
     }
 
 abbrev pub words : List ℕ
@@ -204,7 +205,7 @@ output = replicate 28 9
 pub record ImageInstance : Type 0 where
   -- `CheckIsLoad`, `LoadIsWellFormed`: the image is accepted
   pub size : length words ≡ pool_length register_count 2 + 0
-  pub accepted : (load_of words image).0.verdict ≡ 0
+  pub accepted : (load_of words image).0.verdict ≡ Ok tt
   pub loaded : (load_of words image).1 ≡ (2 ∷ 0 ∷ 1 ∷ []) ++ replicate 15 0 ++ (0 ∷ 2 ∷ 2 ∷ 300 ∷ []) ++ (0 ∷ 1 ∷ 0 ∷ 8 ∷ [])
   -- `SaveThenLoad`, `SavedSameFile`, `LoadedAnswersAlike`: both pools are saved as that image, and the two bytes behind it stay
   pub words32 : Words three
@@ -246,7 +247,7 @@ pub record PointInstance : Type 0 where
   pub stack : stack_of mixed (9 ∷ []) ≡ (answered (3 ∷ 1 ∷ 0 ∷ []), mixed, 0 ∷ [])
   pub recursive : recursive_of mixed ≡ (answered (3 ∷ 5 ∷ []), mixed)
   pub saved : save_of mixed scratch (replicate 31 9) ≡ (answered (30 ∷ []), replicate 6 0, mixed_image ++ 9 ∷ [])
-  pub loaded : load_of (replicate 30 5) mixed_image ≡ (record { verdict = 0; end = 30 }, mixed_loaded)
+  pub loaded : load_of (replicate 30 5) mixed_image ≡ (record { verdict = Ok tt; end = 30 }, mixed_loaded)
   pub words32 : Words mixed
   pub target : 0 < cell_count_of_length register_count (length {A = ℕ} (replicate 30 5))
   pub fit : reached_count register_count (cell_count register_count mixed) mixed ≤ cell_count_of_length register_count (length {A = ℕ} (replicate 30 5))
@@ -324,7 +325,7 @@ pub record BatchInstance : Type 0 where
   pub program : program_of list ≡ program_of_calls calls
   pub room : 3 * length calls ≤ length out
   pub run : run_of list (fresh_words register_count 3 longer) out
-      ≡ (ran.All 2, after_all calls (fresh_words register_count 3 longer), 0 ∷ 0 ∷ 0 ∷ 0 ∷ 1 ∷ 3 ∷ 5 ∷ [])
+      ≡ (Ok 2, after_all calls (fresh_words register_count 3 longer), 0 ∷ 0 ∷ 0 ∷ 0 ∷ 1 ∷ 3 ∷ 5 ∷ [])
   pub answer : Memᴰ (answered (1 ∷ 3 ∷ [])) (pool_answers calls (fresh_words register_count 3 longer))
 
 -- Three digits; two lines, the second without its line feed; the progress where both are read; and words for the largest pool.
@@ -335,7 +336,7 @@ abbrev pub lines : List ℕ
 lines = code "g" ∷ code "\n" ∷ code "g" ∷ []
 
 abbrev pub progress : Progress
-progress = record { used = 0; reader = without_numbers false true (code "g"); at = 3; put = 0 }
+progress = record { used = 0; reader = reader.Letter (code "g"); at = 3; put = 0 }
 
 abbrev pub largest : List ℕ
 largest = replicate (pool_length register_count cell_limit) 0
@@ -347,7 +348,7 @@ pub record ScriptInstance : Type 0 where
   pub digits : all is_digit padded ≡ true
   pub fewer : length (decimal (decimal_value padded)) < length padded
   -- `PartsRead`: a line ends, or goes on behind the part
-  pub ended : next_line new_reader (drop 0 lines) 0 ≡ found.Line (line.Run call.Collect) 2
+  pub ended : next_line new_reader (drop 0 lines) 0 ≡ found.Line (Some (line.Run call.Collect)) 2
   pub more : next_line new_reader (drop 2 lines) 2 ≡ found.More progress.reader
   -- `StartsWhole`: words for the largest pool; `PartsJoin`: a part is read to its end; `Ends`: a line has begun, or not
   pub words : length largest ≡ pool_length register_count cell_limit

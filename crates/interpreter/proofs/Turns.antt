@@ -16,6 +16,7 @@ use Rattle.pool.proofs.Sizes.{both, of_length}
 use Rattle.pool.proofs.FreshPool.{fresh-exact}
 use Rattle.calls.specs.declared.Call.{Call}
 use Rattle.calls.specs.Calls.{call_of}
+use Rattle.std.specs.Prelude.{Option, Some, None}
 use Rattle.lines.specs.declared.Line.{Line}
 use Rattle.lines.specs.declared.Line.TheVariants as line
 use Rattle.replies.specs.declared.Reply.TheVariants as reply
@@ -41,22 +42,17 @@ fitting room n e =
 fitting_fits : (room n : ℕ) → Fitting room n → fits room n ≡ true
 fitting_fits room n f = simp (lt-ltb 0 n f.least, le-leb n cell_limit f.most, le-leb (pool_length register_count n) room f.inside)
 
-pub size-some : (room n : ℕ) → Fitting room n → pool_length register_count n ≡ size_of room n
-size-some room n f = simp (fitting_fits room n f)
+-- a size that is given is that of a pool that fits
+pub record Sized (room n size : ℕ) : Type 0 where
+  pub fitting : Fitting room n
+  pub exact : size ≡ pool_length register_count n
 
-pub size_none : (room n : ℕ) → (Fitting room n → ⊥) → 0 ≡ size_of room n
-size_none room n unfit = go (fits room n) refl
+pub sized : (room n : ℕ) {size : ℕ} → Some size ≡ size_of room n → Sized room n size
+sized room n {size} is = go (fits room n) refl is
   where
-    go : (t : Bool) → fits room n ≡ t → 0 ≡ cond t (pool_length register_count n) 0
-    go true e = absurd (unfit (fitting room n e))
-    go false e = refl
-
-pub size-inside : (room n : ℕ) {size : ℕ} → size ≡ size_of room n → size ≤ room
-size-inside room n sized = rw sized (go (fits room n) refl)
-  where
-    go : (t : Bool) → fits room n ≡ t → cond t (pool_length register_count n) 0 ≤ room
-    go true e = (fitting room n e).inside
-    go false e = omega arith
+    go : (t : Bool) → fits room n ≡ t → Some size ≡ cond t (Some (pool_length register_count n)) None → Sized room n size
+    go true e is = record { fitting = fitting room n e; exact = cc }
+    go false e is = cc
 
 pub used-inside : (len used : ℕ) {pool : ℕ} → pool ≡ used_of len used → pool ≤ len
 used-inside len used is = rw is (go (leb used len) refl)
@@ -69,38 +65,35 @@ module _ (w : List ℕ) (used : ℕ) (inside : used ≤ length w) where
   used-same : used_of (length w) used ≡ used
   used-same = simp (le-leb _ _ inside)
 
-  pub bad_line : (reply_text reply.Bad, used, w) ≡ execute_of line.Bad used w
+  pub bad_line : (reply_text reply.Bad, used, w) ≡ execute_of None used w
   unfolding execute_of
   bad_line = simp (used-same, length-take-le used w inside, take-append-drop used w)
 
-  pub fresh-refused : (n : ℕ) → size_of (length w) n ≡ 0 → (outcome_text (refused 1), used, w) ≡ execute_of (line.Fresh n) used w
+  pub fresh-refused : (n : ℕ) → None ≡ size_of (length w) n → (outcome_text (refused 1), used, w) ≡ execute_of (Some (line.Fresh n)) used w
   unfolding execute_of
-  fresh-refused n none = go (fits (length w) n) refl
+  fresh-refused n none = go (fits (length w) n) refl none
     where
-      go : (t : Bool) → fits (length w) n ≡ t → (outcome_text (refused 1), used, w) ≡ execute_of (line.Fresh n) used w
-      go true e = absurd (omega (arith, none, size-some (length w) n (fitting (length w) n e)))
-      go false e = simp (e, used-same, length-take-le used w inside, take-append-drop used w)
+      go : (t : Bool) → fits (length w) n ≡ t → None ≡ cond t (Some (pool_length register_count n)) None
+          → (outcome_text (refused 1), used, w) ≡ execute_of (Some (line.Fresh n)) used w
+      go true e none = cc
+      go false e none = simp (e, used-same, length-take-le used w inside, take-append-drop used w)
 
   -- a call: what it says and leaves of the pool's part
   pub call-run :
       (k : Call) (o : Outcome) (text part : List ℕ) → text ≡ outcome_text o → (o, part) ≡ call_of k (take used w)
-      → length part ≡ length (take used w) → (text, used, part ++ drop used w) ≡ execute_of (line.Run k) used w
+      → length part ≡ length (take used w) → (text, used, part ++ drop used w) ≡ execute_of (Some (line.Run k)) used w
   unfolding execute_of
   call-run k o text part printed after same =
       let long : length part ≡ used = same ∙ length-take-le used w inside in
       simp (used-same, printed, ← after, long)
 
 -- a new pool in the place of the old
-module _ (w : List ℕ) (used n size : ℕ) (sized : size ≡ size_of (length w) n) (some : size ≡ 0 → ⊥) where
+module _ (w : List ℕ) (used n size : ℕ) (is : Some size ≡ size_of (length w) n) where
   size_fitting : Fitting (length w) n
-  size_fitting = go (fits (length w) n) refl
-    where
-      go : (t : Bool) → fits (length w) n ≡ t → Fitting (length w) n
-      go true e = fitting (length w) n e
-      go false e = absurd (some (sized ∙ simp e))
+  size_fitting = (sized (length w) n is).fitting
 
   size_exact : size ≡ pool_length register_count n
-  size_exact = sized ∙ sym (size-some (length w) n size_fitting)
+  size_exact = (sized (length w) n is).exact
 
   part_long : length (take size w) ≡ pool_length register_count n
   part_long = length-take-le size w (omega (arith, size_exact, size_fitting)) ∙ size_exact
@@ -113,7 +106,7 @@ module _ (w : List ℕ) (used n size : ℕ) (sized : size ≡ size_of (length w)
 
   pub fresh_made :
       (f : Outcome) (part : List ℕ) → (f, part) ≡ fresh_of (take size w)
-      → length part ≡ length (take size w) → (outcome_text (answered []), size, part ++ drop size w) ≡ execute_of (line.Fresh n) used w
+      → length part ≡ length (take size w) → (outcome_text (answered []), size, part ++ drop size w) ≡ execute_of (Some (line.Fresh n)) used w
   unfolding execute_of
   fresh_made f part after same =
       let words : part ≡ fresh_words register_count n [] = ap (λ (o : Outcome × List ℕ). o.1) after ∙ fresh-part in
@@ -121,6 +114,6 @@ module _ (w : List ℕ) (used n size : ℕ) (sized : size ≡ size_of (length w)
       simp (fitting_fits (length w) n size_fitting, ← words, long)
 
 -- asked twice, the pool's words are the same
-pub settled : (l : Line) (used pool : ℕ) (w : List ℕ) → pool ≡ used_of (length w) used → execute_of l pool w ≡ execute_of l used w
+pub settled : (l : Option Line) (used pool : ℕ) (w : List ℕ) → pool ≡ used_of (length w) used → execute_of l pool w ≡ execute_of l used w
 unfolding execute_of
 settled l used pool w is = rw (used-same w pool (used-inside (length w) used is), is)

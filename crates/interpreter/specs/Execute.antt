@@ -1,5 +1,5 @@
 -- What a line of a script does to the pool, and what is printed for it (01, "Strips flown on paper").
-use Rattle.std.specs.Prelude.{ℕ, List, [], ◌∷◌, ◌++◌, map, Bool, cond, ◌&&◌, length, take, drop, leb, ltb}
+use Rattle.std.specs.Prelude.{ℕ, List, [], ◌∷◌, ◌++◌, map, Bool, cond, ◌&&◌, length, take, drop, leb, ltb, Option, Some, None}
 use Rattle.pool.specs.Layout.{cell_limit, register_count, pool_length}
 use Rattle.pool.specs.Retain.{fresh_words}
 use Rattle.answers.specs.Outcome.{answered, refused}
@@ -15,18 +15,18 @@ use Rattle.replies.specs.Replies.{outcome_text, reply_text}
 abbrev pub fits : ℕ → ℕ → Bool
 fits room n = ltb 0 n && leb n cell_limit && leb (pool_length register_count n) room
 
--- The words of that pool, 0 where there is none.
-abbrev pub size_of : ℕ → ℕ → ℕ
-size_of room n = cond (fits room n) (pool_length register_count n) 0
+-- The words of that pool, if there is one.
+abbrev pub size_of : ℕ → ℕ → Option ℕ
+size_of room n = cond (fits room n) (Some (pool_length register_count n)) None
 
 -- What a line prints, and the pool's words afterwards, where `room` words are lent for it; no words are no pool. "A line of another form prints
 -- "bad"." "f N is fresh"; "a refused f keeps the pool"; "runscript still prints ok alone for f" (02, S-6). A call prints what its answer says.
 -- "Before an accepted f, all calls give "no 1"": no pool has no words (question 1).
-abbrev pub turn_of : ℕ → Line → List ℕ → List ℕ × List ℕ
-turn_of room line.Bad pool = (reply_text reply.Bad, pool)
-turn_of room (line.Fresh n) pool =
+abbrev pub turn_of : ℕ → Option Line → List ℕ → List ℕ × List ℕ
+turn_of room None pool = (reply_text reply.Bad, pool)
+turn_of room (Some (line.Fresh n)) pool =
     cond (fits room n) (outcome_text (answered []), fresh_words register_count n []) (outcome_text (refused 1), pool)
-turn_of room (line.Run call) pool = (outcome_text (call_of call pool).0, (call_of call pool).1)
+turn_of room (Some (line.Run call)) pool = (outcome_text (call_of call pool).0, (call_of call pool).1)
 
 -- How many words are the pool's: `used`, or none where there are fewer.
 abbrev pub used_of : ℕ → ℕ → ℕ
@@ -41,13 +41,13 @@ abbrev pub with_pool : List ℕ → List ℕ → List ℕ
 with_pool pool w = pool ++ drop (length pool) w
 
 -- A line on the words lent, of which the pool has the first `used`: what is printed, how many words are the pool's afterwards, and the words.
-unfoldable pub execute_of : Line → ℕ → List ℕ → List ℕ × ℕ × List ℕ
+unfoldable pub execute_of : Option Line → ℕ → List ℕ → List ℕ × ℕ × List ℕ
 execute_of line used w =
     let turn = turn_of (length w) line (pool_of used w) in
     (turn.0, length turn.1, with_pool turn.1 w)
 
 -- What lines print, one after the other.
-unfoldable pub transcript : ℕ → List Line → List ℕ → List ℕ
+unfoldable pub transcript : ℕ → List (Option Line) → List ℕ → List ℕ
 transcript room [] pool = []
 transcript room (line ∷ lines) pool = let turn = turn_of room line pool in turn.0 ++ transcript room lines turn.1
 

@@ -1,7 +1,7 @@
 // Scripts on a pool: what a line does to the pool, and what is printed for it.
 #![tactic(auto)]
 
-ghost use Rattle.std.specs.Prelude.{◌≡◌, ◌≤◌, length};
+ghost use Rattle.std.specs.Prelude.{◌≡◌, ◌≤◌, length, Some};
 ghost use Rattle.replies.specs.Replies.{reply_text};
 ghost use Rattle.interpreter.specs.Execute.{used_of, size_of, execute_of};
 
@@ -18,18 +18,18 @@ pub struct Turn {
     pub reply: Reply,
 }
 
-// Runs a line on the words lent, of which the pool has the first `used`; none where there are fewer.
-pub fn execute(words: &mut [u32], used: usize, line: Line) -> Turn
+// Runs a line, none where it is of another form, on the words lent, of which the pool has the first `used`; none where there are fewer.
+pub fn execute(words: &mut [u32], used: usize, line: Option<Line>) -> Turn
     ensures { (reply_text result.reply, result.used, words.new) ≡ execute_of line used words.old }
 {
     let pool = pool_words(words.len(), used);
     match line {
-        Line::Bad => Turn {
+        None => Turn {
             used: pool,
             reply: Reply::Bad,
         },
-        Line::Fresh(n) => make(words, pool, n),
-        Line::Run(call) => run(words, pool, call),
+        Some(Line::Fresh(n)) => make(words, pool, n),
+        Some(Line::Run(call)) => run(words, pool, call),
     }
 }
 
@@ -40,48 +40,43 @@ fn pool_words(len: usize, used: usize) -> usize
     if used <= len { used } else { 0 }
 }
 
-// The words of a pool of n cells, or 0 where there is no such pool or too few words are lent.
-fn size(len: usize, n: u32) -> usize
+// The words of a pool of n cells; none where there is no such pool or too few words are lent.
+fn size(len: usize, n: u32) -> Option<usize>
     ensures { result ≡ size_of len n }
 {
-    if n == 0 {
-        return 0;
-    }
-    if Pool::CELLS < n {
-        return 0;
+    if n == 0 || Pool::CELLS < n {
+        return None;
     }
     let words = Pool::FIRST_CELL + Pool::CELL_WORDS * n as usize;
-    if words <= len { words } else { 0 }
+    if words <= len { Some(words) } else { None }
 }
 
 // Makes the pool anew, of n cells; refused, it stays as it is.
 fn make(words: &mut [u32], used: usize, n: u32) -> Turn
     requires { used ≤ length words.old }
-    ensures { (reply_text result.reply, result.used, words.new) ≡ execute_of (Line.Fresh n) used words.old }
+    ensures { (reply_text result.reply, result.used, words.new) ≡ execute_of (Some (Line.Fresh n)) used words.old }
 {
-    let size = size(words.len(), n);
-    if size == 0 {
+    let Some(size) = size(words.len(), n) else {
         return Turn {
             used,
-            reply: Reply::Answered(Answer::Refused(Refusal::Size)),
+            reply: Reply::Answered(Err(Refusal::Size)),
         };
-    }
-    Pool::fresh(&mut words[..size]);
+    };
+    let _ = Pool::fresh(&mut words[..size]);
     Turn {
         used: size,
-        reply: Reply::Answered(Answer::Done),
+        reply: Reply::Answered(Ok(Answer::Done)),
     }
 }
 
 // Runs a call on the pool.
 fn run(words: &mut [u32], used: usize, call: Call) -> Turn
     requires { used ≤ length words.old }
-    ensures { (reply_text result.reply, result.used, words.new) ≡ execute_of (Line.Run call) used words.old }
+    ensures { (reply_text result.reply, result.used, words.new) ≡ execute_of (Some (Line.Run call)) used words.old }
 {
     let step = steps::perform(&mut words[..used], call);
-    let answer = step.answer;
     Turn {
         used,
-        reply: Reply::Answered(answer),
+        reply: Reply::Answered(step.answer),
     }
 }

@@ -53,7 +53,7 @@ module _ {N : ℕ} {w : List ℕ} (inv : Invariant N w) where
 
   body_full : (c : Call) → allocates c ≡ true → Registers (registers_of c) → FullOnly N w (body_of c N w).0
   body_full (call.New r a b v) h named =
-      rw (new_allocates inv r a b v named.second named.third) (full-only r pair_state (register w a) (register w b) v (allocated_case inv r pair_state (register w a) (register w b) v))
+      rw (new_allocates inv r a b v named.1.0 named.1.1.0) (full-only r pair_state (register w a) (register w b) v (allocated_case inv r pair_state (register w a) (register w b) v))
   body_full (call.Point r v x y) h named = full-only r point_state x y v (allocated_case inv r point_state x y v)
   body_full (call.Copy r a) h named = absurd (false≢true h)
   body_full (call.Clear r) h named = absurd (false≢true h)

@@ -59,20 +59,20 @@ module _ {N : ℕ} {w : List ℕ} (inv : Invariant N w) where
 
   body_inv : (c : Call) → Registers (registers_of c) → Invariant N (body_of c N w).1
   body_inv (call.Copy r a) h =
-      rw (holds_link_lem inv.pool a h.second) (inv_set_register inv r (register w a) h.first (inv.pool.well.registers a h.second))
-  body_inv (call.Clear r) h = inv_set_register inv r 0 h.first (Link.nil refl)
-  body_inv (call.New r a b v) h = new_inv inv r a b v h.first h.second h.third
-  body_inv (call.Left r a) h = follow_inv a h.second 1 r (omega arith) (omega arith) h.first
-  body_inv (call.Right r a) h = follow_inv a h.second 2 r (omega arith) (omega arith) h.first
-  body_inv (call.SetLeft a b) h = link_inv 1 a b (omega arith) (omega arith) h.first h.second
-  body_inv (call.SetRight a b) h = link_inv 2 a b (omega arith) (omega arith) h.first h.second
-  body_inv (call.SetValue a v) h = cell_inv a h.first _ (put_inv a h.first 3 v (omega arith) (omega arith) (λ link. absurd (omega arith)))
-  body_inv (call.Value a) h = cell_inv a h.first _ (λ some. inv)
-  body_inv (call.Same a b) h = rw (holds_link_lem inv.pool a h.first, holds_link_lem inv.pool b h.second) inv
+      rw (holds_link_lem inv.pool a h.1.0) (inv_set_register inv r (register w a) h.0 (inv.pool.well.registers a h.1.0))
+  body_inv (call.Clear r) h = inv_set_register inv r 0 h.0 (Link.nil refl)
+  body_inv (call.New r a b v) h = new_inv inv r a b v h.0 h.1.0 h.1.1.0
+  body_inv (call.Left r a) h = follow_inv a h.1.0 1 r (omega arith) (omega arith) h.0
+  body_inv (call.Right r a) h = follow_inv a h.1.0 2 r (omega arith) (omega arith) h.0
+  body_inv (call.SetLeft a b) h = link_inv 1 a b (omega arith) (omega arith) h.0 h.1.0
+  body_inv (call.SetRight a b) h = link_inv 2 a b (omega arith) (omega arith) h.0 h.1.0
+  body_inv (call.SetValue a v) h = cell_inv a h.0 _ (put_inv a h.0 3 v (omega arith) (omega arith) (λ link. absurd (omega arith)))
+  body_inv (call.Value a) h = cell_inv a h.0 _ (λ some. inv)
+  body_inv (call.Same a b) h = rw (holds_link_lem inv.pool a h.0, holds_link_lem inv.pool b h.1.0) inv
   body_inv call.Collect h = rw (well_formed_made register_count N w inv.pool.well) (collected_inv inv)
-  body_inv (call.Point r v x y) h = point_inv inv r v x y h.first
-  body_inv (call.East a) h = kind_inv a h.first true _ (λ some point. inv)
-  body_inv (call.North a) h = kind_inv a h.first true _ (λ some point. inv)
+  body_inv (call.Point r v x y) h = point_inv inv r v x y h.0
+  body_inv (call.East a) h = kind_inv a h.0 true _ (λ some point. inv)
+  body_inv (call.North a) h = kind_inv a h.0 true _ (λ some point. inv)
 
   pub call_inv : (c : Call) → Invariant N (call_of c w).1
   call_inv c = rw (called inv.pool c) (go (are_registers (registers_of c)) refl)

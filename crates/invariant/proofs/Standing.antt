@@ -17,7 +17,8 @@ use Rattle.pool.proofs.Sizes.{Sized, same_count}
 use Rattle.questions.proofs.WellFormed.{Link, Cell, WellFormed, link_made}
 use Rattle.questions.proofs.PoolGraph.{Used, used-links}
 use Rattle.operations.specs.Operations.{is_of_kind, cell_to, with_cell, with_kind}
-use Rattle.operations.specs.declared.HeldCell.TheVariants as held_cell
+use Rattle.std.proofs.Common.{Result, Ok, Err}
+use Rattle.answers.specs.declared.Refusal.{Refusal}
 use Rattle.answers.specs.declared.Refusal.TheVariants as refusal
 use Rattle.calls.specs.declared.Call.{Call}
 use Rattle.calls.specs.Calls.{registers_of, body_of, call_of}
@@ -71,7 +72,7 @@ module _ {N : ℕ} {w : List ℕ} (pool : Standing N w) where
         → with_kind point N w a body ≡ cond (is_of_kind point w (register w a)) (body (register w a)) (refused 13, w)
     on_kind_lem some point body = rw (holds_link_lem, ne_eqb (register w a) 0 (λ e. omega arith)) (go (is_of_kind point w (register w a)))
       where
-        go : (t : Bool) → cell_to w body (cond t (held_cell.Cell (register w a)) (held_cell.Refused refusal.Kind)) ≡ cond t (body (register w a)) (refused 13, w)
+        go : (t : Bool) → cell_to w body (cond t (Ok (register w a)) (Err refusal.Kind)) ≡ cond t (body (register w a)) (refused 13, w)
         go true = refl
         go false = refl
 

@@ -1,17 +1,18 @@
 -- The reader, a group at a time.
 use Prim.Native.Nat.{ℕ, zero, suc, ◌+◌, ◌-◌, ◌*◌, ◌<◌, ◌≤◌}
-use mathlib.Core.Path.{◌≡◌, refl, sym, ◌∙◌}
+use mathlib.Core.Path.{◌≡◌, refl, sym, ap, ◌∙◌}
 use mathlib.Core.List.{List, [], ◌∷◌}
+use Rattle.std.specs.Prelude.{Ok, Err}
 use native.Mathlib.Decide.{dec_lt}
 use native.Mathlib.Omega.{arith}
 use borrow.Author.Tests.{lt-ltb, le-ltb, ne_eqb}
 use Rattle.leb128.specs.declared.Number.{Number}
-use Rattle.leb128.specs.declared.Number.TheVariants.{Value, Missing, OutOfRange, Padded}
-use Rattle.leb128.specs.Leb128.{map_value, below, read_further, read_groups}
+use Rattle.leb128.specs.declared.NumberError.TheVariants.{Missing, OutOfRange, Padded}
+use Rattle.leb128.specs.Leb128.{Found, found, map_value, below, read_further, read_groups}
 
 module _ (b : ℕ) (bytes : List ℕ) (at : ℕ) where
   -- A number's first group ends it if its top bit is clear; otherwise it is the lowest group of what follows.
-  pub first_last : b < 128 → read_groups (b ∷ bytes) at ≡ Value b (at + 1)
+  pub first_last : b < 128 → read_groups (b ∷ bytes) at ≡ found b (at + 1)
   unfolding read_groups
   first_last small = rw (read_groups, lt-ltb b 128 small)
 
@@ -20,7 +21,7 @@ module _ (b : ℕ) (bytes : List ℕ) (at : ℕ) where
   first_more large = rw (read_groups, le-ltb b 128 large)
 
   -- So does a further one before the fifth, if it is not 0.
-  pub read-last : (more : ℕ) → 0 < b → b < 128 → read_further (suc more) (b ∷ bytes) at ≡ Value b (at + 1)
+  pub read-last : (more : ℕ) → 0 < b → b < 128 → read_further (suc more) (b ∷ bytes) at ≡ found b (at + 1)
   unfolding read_further
   read-last more some small = rw (read_further, lt-ltb b 128 small, ne_eqb b 0 (omega arith))
 
@@ -29,25 +30,25 @@ module _ (b : ℕ) (bytes : List ℕ) (at : ℕ) where
   read_more more large = rw (read_further, le-ltb b 128 large)
 
   -- The fifth group ends the number, if it is not 0, and is at most 0F.
-  pub read_fifth : 0 < b → b < 16 → read_further 0 (b ∷ bytes) at ≡ Value b (at + 1)
+  pub read_fifth : 0 < b → b < 16 → read_further 0 (b ∷ bytes) at ≡ found b (at + 1)
   unfolding read_further
   read_fifth some small = rw (lt-ltb b 16 small, ne_eqb b 0 (omega arith))
 
-  pub read_beyond : 16 ≤ b → read_further 0 (b ∷ bytes) at ≡ OutOfRange
+  pub read_beyond : 16 ≤ b → read_further 0 (b ∷ bytes) at ≡ Err OutOfRange
   unfolding read_further
   read_beyond large = rw (le-ltb b 16 large)
 
 -- No bytes are no number.
-pub first_none : (at : ℕ) → read_groups [] at ≡ Missing
+pub first_none : (at : ℕ) → read_groups [] at ≡ Err Missing
 unfolding read_groups
 first_none at = refl
 
-pub read_none : (more at : ℕ) → read_further more [] at ≡ Missing
+pub read_none : (more at : ℕ) → read_further more [] at ≡ Err Missing
 unfolding read_further
 read_none more at = refl
 
 -- A further group of 0 is padding.
-pub read-padded : (more : ℕ) (bytes : List ℕ) (at : ℕ) → read_further more (0 ∷ bytes) at ≡ Padded
+pub read-padded : (more : ℕ) (bytes : List ℕ) (at : ℕ) → read_further more (0 ∷ bytes) at ≡ Err Padded
 unfolding read_further
 read-padded zero bytes at = refl
 read-padded (suc more) bytes at = refl
@@ -60,18 +61,18 @@ pub data Reads : ℕ → List ℕ → ℕ → ℕ → ℕ → Type 0 where
       → Reads (suc more) (b ∷ bytes) at v next
 
 -- Two answers that are equal and numbers have one value and one place behind it.
-pub parts : {v v' next next' : ℕ} → Value v' next' ≡ Value v next → (v ≡ v') × (next ≡ next')
-parts e = (cc, cc)
+pub parts : {v v' next next' : ℕ} → found v' next' ≡ found v next → (v ≡ v') × (next ≡ next')
+parts {v} {v'} {next} {next'} e =
+    let same : ◌≡◌ {A = Number} (record { value = v; next = next }) (record { value = v'; next = next' }) = cc in
+    (ap (λ (n : Number). n.value) same, ap (λ (n : Number). n.next) same)
 
 -- A number with a changed value was a number before.
-pub unmapped : (f : ℕ → ℕ) (n : Number) (v next : ℕ) → map_value f n ≡ Value v next → (x : ℕ) × (n ≡ Value x next) × (v ≡ f x)
-unmapped f (Value x next') v next e = (x, cc, cc)
-unmapped f Missing v next e = let z : ◌≡◌ {A = ℕ} 0 1 = cc in absurd (omega arith)
-unmapped f OutOfRange v next e = let z : ◌≡◌ {A = ℕ} 0 1 = cc in absurd (omega arith)
-unmapped f Padded v next e = let z : ◌≡◌ {A = ℕ} 0 1 = cc in absurd (omega arith)
+pub unmapped : (f : ℕ → ℕ) (n : Found) (v next : ℕ) → map_value f n ≡ found v next → (x : ℕ) × (n ≡ found x next) × (v ≡ f x)
+unmapped f (Ok n) v next e = let p = parts e in (n.value, rw p.1 refl, p.0)
+unmapped f (Err why) v next e = cc
 
 -- Where the reader answers a number, it was read so.
-pub number_reads : (more : ℕ) (bytes : List ℕ) (at v next : ℕ) → read_further more bytes at ≡ Value v next → Reads more bytes at v next
+pub number_reads : (more : ℕ) (bytes : List ℕ) (at v next : ℕ) → read_further more bytes at ≡ found v next → Reads more bytes at v next
 number_reads more [] at v next e = let z : ◌≡◌ {A = ℕ} 0 1 = cc (read_none more at) in absurd (omega arith)
 number_reads more (zero ∷ bytes) at v next e = let z : ◌≡◌ {A = ℕ} 0 1 = cc (read-padded more bytes at) in absurd (omega arith)
 number_reads zero (suc b ∷ bytes) at v next e =

@@ -7,21 +7,20 @@ use native.Mathlib.Decide.{dec_lt}
 use native.Mathlib.Omega.{arith}
 use lib.ListN.{length, drop}
 use lib.Seq.{get_or-drop, drop-drop}
-use Rattle.leb128.specs.declared.Number.TheVariants.{Value}
-use Rattle.leb128.specs.Leb128.{below, read_further, read_groups, read_at, groups, encode, Bytes, Between, ReadsEncodings, OneToFiveBytes}
+use Rattle.leb128.specs.Leb128.{found, below, read_further, read_groups, read_at, groups, encode, Bytes, Between, ReadsEncodings, OneToFiveBytes}
 use Rattle.leb128.proofs.Encoding.{groups-last, groups-more, encode-size}
 use Rattle.leb128.proofs.Decoding.{first_last, first_more, first_none, read_fifth, read-last, read_more, Reads, fifth, last, above, parts, unmapped, number_reads}
 
 -- A number of 128 or more is read by its lowest group and what stands above it.
-joined : (more v : ℕ) (at : ℕ) → below (v % 128 + 128) (Value (v / 128) (at + 1 + length (groups more (v / 128)))) ≡ Value v (at + suc (length (groups more (v / 128))))
+joined : (more v : ℕ) (at : ℕ) → below (v % 128 + 128) (found (v / 128) (at + 1 + length (groups more (v / 128)))) ≡ found v (at + suc (length (groups more (v / 128))))
 joined more v at =
     let value : (v % 128 + 128 - 128) + 128 * (v / 128) ≡ v = omega arith in
     let next : at + 1 + length (groups more (v / 128)) ≡ at + suc (length (groups more (v / 128))) = omega arith in
-    λ j. Value (value j) (next j)
+    λ j. found (value j) (next j)
 
 -- The groups of a number, at any place and before any bytes, are read as that number: behind a first group, if it is not 0.
 further : (more v : ℕ) (after : List ℕ) (at : ℕ) → 0 < v → v < 16 * 128 ^ more
-    → read_further more (groups more v ++ after) at ≡ Value v (at + length (groups more v))
+    → read_further more (groups more v ++ after) at ≡ found v (at + length (groups more v))
 unfolding groups
 further zero v after at some fits = read_fifth v after at some (omega arith)
 further (suc more) v after at some fits =
@@ -35,7 +34,7 @@ further (suc more) v after at some fits =
     ]
 
 -- And from the first group on.
-reads : (v : ℕ) (after : List ℕ) (at : ℕ) → v < 2 ^ 32 → read_groups (encode v ++ after) at ≡ Value v (at + length (encode v))
+reads : (v : ℕ) (after : List ℕ) (at : ℕ) → v < 2 ^ 32 → read_groups (encode v ++ after) at ≡ found v (at + length (encode v))
 unfolding encode
 reads v after at fits =
     elim (dec_lt v 128) [
@@ -79,7 +78,7 @@ exact (above large value r) byte =
     let f = exact r (λ i. byte (suc i)) in (omega (arith, f.0), under large (byte 0) value f.0 f.1)
 
 -- And so from the first group on.
-front : (bytes : List ℕ) (at v next : ℕ) → Bytes bytes → read_groups bytes at ≡ Value v next → Front 4 bytes at v next
+front : (bytes : List ℕ) (at v next : ℕ) → Bytes bytes → read_groups bytes at ≡ found v next → Front 4 bytes at v next
 front [] at v next byte e = let z : ◌≡◌ {A = ℕ} 0 1 = cc (first_none at) in absurd (omega arith)
 front (b ∷ bytes) at v next byte e =
     elim (dec_lt b 128) [
@@ -92,9 +91,9 @@ front (b ∷ bytes) at v next byte e =
           under (omega arith) (byte 0) high.2 f.0 f.1
     ]
 
-pub encoding_read : (bytes : List ℕ) (at v next : ℕ) → v < 2 ^ 32 → Between bytes at next (encode v) → read_at bytes at ≡ Value v next
+pub encoding_read : (bytes : List ℕ) (at v next : ℕ) → v < 2 ^ 32 → Between bytes at next (encode v) → read_at bytes at ≡ found v next
 unfolding read_at
-encoding_read bytes at v next fits h = ap (λ l. read_groups l at) h.from ∙ reads v (drop next bytes) at fits ∙ ap (Value v) (sym h.behind)
+encoding_read bytes at v next fits h = ap (λ l. read_groups l at) h.from ∙ reads v (drop next bytes) at fits ∙ ap (found v) (sym h.behind)
 
 pub reads_encodings : ReadsEncodings
 unfolding read_at encode

@@ -1,28 +1,35 @@
 -- Numbers in groups of seven bits, lowest first (unsigned LEB128 of 32 bits), as document 01 has them in "Images", and what is proved of them.
-use Rattle.std.specs.Prelude.{ℕ, zero, suc, ◌+◌, ◌-◌, ◌*◌, ◌/◌, ◌%◌, ◌^◌, ◌<◌, ◌≤◌, ◌≡◌, ◌↔◌, List, [], ◌∷◌, ◌++◌, true, false, cond, length, get_or, drop, eqb, ltb}
+use Rattle.std.specs.Prelude.{ℕ, zero, suc, ◌+◌, ◌-◌, ◌*◌, ◌/◌, ◌%◌, ◌^◌, ◌<◌, ◌≤◌, ◌≡◌, ◌↔◌, List, [], ◌∷◌, ◌++◌, true, false, cond, length, get_or, drop, eqb, ltb, Result, Ok, Err}
 use Rattle.leb128.specs.declared.Number.{Number}
-use Rattle.leb128.specs.declared.Number.TheVariants.{Value, Missing, OutOfRange, Padded}
+use Rattle.leb128.specs.declared.NumberError.{NumberError}
+use Rattle.leb128.specs.declared.NumberError.TheVariants.{Missing, OutOfRange, Padded}
+
+-- What a reader finds at a place of the bytes: a number and the place behind it, or why there is none.
+abbrev pub Found : Type 0
+Found = Result Number NumberError
+
+-- The number v, up to the place `next`.
+abbrev pub found : ℕ → ℕ → Found
+found v next = Ok (record { value = v; next = next })
 
 -- What was read, with another value; a refusal stays.
-abbrev pub map_value : (ℕ → ℕ) → Number → Number
-map_value f (Value value next) = Value (f value) next
-map_value f Missing = Missing
-map_value f OutOfRange = OutOfRange
-map_value f Padded = Padded
+abbrev pub map_value : (ℕ → ℕ) → Found → Found
+map_value f (Ok n) = found (f n.value) n.next
+map_value f (Err why) = Err why
 
 -- A group that ends a number, behind others: "A number whose last group is 0 is from now on accepted only if it is the single byte 00" (02, S-1).
-abbrev pub last_group : ℕ → ℕ → Number
-last_group b at = cond (eqb b 0) Padded (Value b (at + 1))
+abbrev pub last_group : ℕ → ℕ → Found
+last_group b at = cond (eqb b 0) (Err Padded) (found b (at + 1))
 
 -- A group that another follows: its seven bits stand below what is read behind it.
-abbrev pub below : ℕ → Number → Number
+abbrev pub below : ℕ → Found → Found
 below b = map_value (λ high. (b - 128) + 128 * high)
 
 -- Reads the groups behind a number's first one off the front of a list whose first byte has the place `at`; up to `more` may follow the next one:
 -- "the byte's top bit (80 hexadecimal) says that another group follows. A reader takes up to five groups, the fifth at most 0F."
-unfoldable pub read_further : ℕ → List ℕ → ℕ → Number
-read_further more [] at = Missing
-read_further zero (b ∷ bytes) at = cond (ltb b 16) (last_group b at) OutOfRange
+unfoldable pub read_further : ℕ → List ℕ → ℕ → Found
+read_further more [] at = Err Missing
+read_further zero (b ∷ bytes) at = cond (ltb b 16) (last_group b at) (Err OutOfRange)
 read_further (suc more) (b ∷ bytes) at =
     elim (ltb b 128) [
       | true ↦ last_group b at
@@ -30,17 +37,17 @@ read_further (suc more) (b ∷ bytes) at =
     ]
 
 -- Reads a number: its first group, and then up to four more.
-unfoldable pub read_groups : List ℕ → ℕ → Number
-read_groups [] at = Missing
+unfoldable pub read_groups : List ℕ → ℕ → Found
+read_groups [] at = Err Missing
 read_groups (b ∷ bytes) at =
     elim (ltb b 128) [
-      | true ↦ Value b (at + 1)
+      | true ↦ found b (at + 1)
       | false ↦ below b (read_further 3 bytes (at + 1))
     ]
 
 -- The number at a place of the bytes: "are all its bytes there, the first five at most? No: 6", which is `Missing`.
 -- "Is it below 2^32 in five groups? No: 7", which is `OutOfRange`. "12 for a padded number, after 7" (02, S-1), which is `Padded`.
-unfoldable pub read_at : List ℕ → ℕ → Number
+unfoldable pub read_at : List ℕ → ℕ → Found
 read_at bytes at = read_groups (drop at bytes) at
 
 -- The groups of a number, where up to `more` may follow the first; 128, the top bit, on each that another follows.
@@ -69,7 +76,7 @@ pub record Between (bytes : List ℕ) (at next : ℕ) (here : List ℕ) : Type 0
 -- What reads as v, up to the place `next`, is exactly the encoding of v, whatever stands around it: each number has one spelling. So what was
 -- written is read again, and no other bytes read as the same number.
 abbrev pub ReadsEncodings : Type 0
-ReadsEncodings = (bytes : List ℕ) (at v next : ℕ) → Bytes bytes → (read_at bytes at ≡ Value v next) ↔ ((v < 2 ^ 32) × Between bytes at next (encode v))
+ReadsEncodings = (bytes : List ℕ) (at v next : ℕ) → Bytes bytes → (read_at bytes at ≡ found v next) ↔ ((v < 2 ^ 32) × Between bytes at next (encode v))
 
 -- An encoding is one to five bytes.
 pub record Encoding (v : ℕ) : Type 0 where

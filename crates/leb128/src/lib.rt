@@ -1,14 +1,19 @@
 // Numbers in groups of seven bits, lowest first: unsigned LEB128 of 32 bits.
 #![tactic(auto)]
 
-ghost use Rattle.std.specs.Prelude.{◌≡◌, ◌++◌, ◌+◌, ◌≤◌, length, take, drop};
+ghost use Rattle.std.specs.Prelude.{◌≡◌, ◌++◌, ◌+◌, ◌<◌, ◌≤◌, length, get_or, take, drop, MatchResult};
 ghost use Rattle.leb128.specs.Leb128.{encode, read_at};
 
-// What a reader finds at a place of the bytes.
-#[derive(Clone, Copy)]
-pub enum Number {
-    // A number, and the place behind its last byte.
-    Value { value: u32, next: usize },
+// A number that was read, and the place behind its last byte.
+#[derive(Clone, Copy, PartialEq, Eq, Debug)]
+pub struct Number {
+    pub value: u32,
+    pub next: usize,
+}
+
+// Why there is no number at a place of the bytes.
+#[derive(Clone, Copy, PartialEq, Eq, Debug)]
+pub enum NumberError {
     // The bytes end before the number does.
     Missing,
     // The fifth group is above 0F.
@@ -20,52 +25,54 @@ pub enum Number {
 // The weight of the fifth group, 2^28.
 const FIFTH: u32 = 268435456;
 
+// The group at a place of the bytes.
+fn group_at(bytes: &[u8], at: usize) -> Result<u32, NumberError>
+    ensures { MatchResult result (λ group. (at < length bytes.now) × (group < 256) × (group ≡ get_or bytes.now at 0)) (λ why. (length bytes.now ≤ at) × (why ≡ NumberError.Missing)) }
+{
+    match bytes.get(at) {
+        Some(byte) => Ok(*byte as u32),
+        None => Err(NumberError::Missing),
+    }
+}
+
 // The number at a place of the bytes.
-pub fn read_number(bytes: &[u8], at: usize) -> Number
+pub fn read_number(bytes: &[u8], at: usize) -> Result<Number, NumberError>
     ensures { result ≡ read_at bytes.now at }
 {
-    if bytes.len() <= at {
-        return Number::Missing;
-    }
-    let first = bytes[at] as u32;
+    let first = group_at(bytes, at)?;
     if first < 128 {
-        return Number::Value {
+        return Ok(Number {
             value: first,
             next: at + 1,
-        };
+        });
     }
     let mut value = first - 128;
     let mut weight: u32 = 128;
-    let mut i = at + 1;
+    let mut next = at + 1;
+    // Not a `for` over the three groups, which the compiler unrolls: that reads points slower, takes more stack, and registers of SSE.
     while weight < FIFTH {
-        if bytes.len() <= i {
-            return Number::Missing;
-        }
-        let group = bytes[i] as u32;
+        let group = group_at(bytes, next)?;
         value += weight * (group % 128);
-        i += 1;
+        next += 1;
         if group < 128 {
             if group == 0 {
-                return Number::Padded;
+                return Err(NumberError::Padded);
             }
-            return Number::Value { value, next: i };
+            return Ok(Number { value, next });
         }
         weight *= 128;
     }
-    if bytes.len() <= i {
-        return Number::Missing;
-    }
-    let fifth = bytes[i] as u32;
+    let fifth = group_at(bytes, next)?;
     if 16 <= fifth {
-        return Number::OutOfRange;
+        return Err(NumberError::OutOfRange);
     }
     if fifth == 0 {
-        return Number::Padded;
+        return Err(NumberError::Padded);
     }
-    Number::Value {
+    Ok(Number {
         value: value + FIFTH * fifth,
-        next: i + 1,
-    }
+        next: next + 1,
+    })
 }
 
 // How many groups a number takes.
@@ -92,6 +99,7 @@ pub fn write_number(out: &mut [u8], at: usize, v: u32) -> usize
 {
     let mut rest = v;
     let mut i = at;
+    // Not a `for` over the places: the loop ends by what is left of the number, and how many places there are is known only then.
     while 128 <= rest {
         out[i] = (rest % 128 + 128) as u8;
         rest /= 128;

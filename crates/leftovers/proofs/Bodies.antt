@@ -23,8 +23,8 @@ use Rattle.reversal.specs.Reached.{is_reached}
 use Rattle.collector.specs.Collect.{collected, collect_in}
 use Rattle.allocator.specs.Allocation.{take, take_collected, good_head, allocate_in, new_in}
 use Rattle.allocator.proofs.Allocation.{swept-head, good_bound}
-use Rattle.operations.specs.declared.HeldCell.{HeldCell}
-use Rattle.operations.specs.declared.HeldCell.TheVariants as held_cell
+use Rattle.std.proofs.Common.{Result, Ok, Err}
+use Rattle.answers.specs.declared.Refusal.{Refusal}
 use Rattle.operations.specs.Operations.{held_cell_of, of_kind, held_kind_of, cell_to, with_cell, with_kind, follow_in, link_in, coordinate_in}
 use Rattle.operations.proofs.Bodies.{cell_there, kind_there}
 use Rattle.calls.specs.declared.Call.{Call}
@@ -77,19 +77,19 @@ module _ (n : ℕ) (u t : List ℕ) (long : length u ≡ pool_length register_co
   kind-held_longer : (point : Bool) (a : ℕ) → a < register_count → held_kind_of point n (u ++ t) a ≡ held_kind_of point n u a
   kind-held_longer point a low = ap (of_kind point (u ++ t)) (held-longer a low) ∙ go (held_cell_of n u a) refl
     where
-      go : (q : HeldCell) → held_cell_of n u a ≡ q → of_kind point (u ++ t) q ≡ of_kind point u q
-      go (held_cell.Cell x) e =
-          ap (λ (b : Bool). cond (cond b point (not point)) (held_cell.Cell x) (held_cell.Refused refusal.Kind))
+      go : (q : Result ℕ Refusal) → held_cell_of n u a ≡ q → of_kind point (u ++ t) q ≡ of_kind point u q
+      go (Ok x) e =
+          ap (λ (b : Bool). cond (cond b point (not point)) (Ok x) (Err refusal.Kind))
           (kind-longer register_count n u t long some x (cell_there n u a refl e).1)
-      go (held_cell.Refused k) e = refl
+      go (Err k) e = refl
 
-  cell_to_longer : {q' q : HeldCell} → q' ≡ q → ((x : ℕ) → q ≡ held_cell.Cell x → (0 < x) × (x ≤ n)) → (body' body : ℕ → Outcome × List ℕ)
+  cell_to_longer : {q' q : Result ℕ Refusal} → q' ≡ q → ((x : ℕ) → q ≡ Ok x → (0 < x) × (x ≤ n)) → (body' body : ℕ → Outcome × List ℕ)
       → ((x : ℕ) → 0 < x → x ≤ n → Behind (body' x) (body x)) → Behind (cell_to (u ++ t) body' q') (cell_to u body q)
-  cell_to_longer {q'} {q} same there body' body on = subst (λ (p : HeldCell). Behind (cell_to (u ++ t) body' p) (cell_to u body q)) (sym same) (go q there)
+  cell_to_longer {q'} {q} same there body' body on = subst (λ (p : Result ℕ Refusal). Behind (cell_to (u ++ t) body' p) (cell_to u body q)) (sym same) (go q there)
     where
-      go : (q : HeldCell) → ((x : ℕ) → q ≡ held_cell.Cell x → (0 < x) × (x ≤ n)) → Behind (cell_to (u ++ t) body' q) (cell_to u body q)
-      go (held_cell.Cell x) within = let here = within x refl in on x here.0 here.1
-      go (held_cell.Refused k) within = nothing _
+      go : (q : Result ℕ Refusal) → ((x : ℕ) → q ≡ Ok x → (0 < x) × (x ≤ n)) → Behind (cell_to (u ++ t) body' q) (cell_to u body q)
+      go (Ok x) within = let here = within x refl in on x here.0 here.1
+      go (Err k) within = nothing _
 
   with_cell_longer : (a : ℕ) → a < register_count → (body' body : ℕ → Outcome × List ℕ) → ((x : ℕ) → 0 < x → x ≤ n → Behind (body' x) (body x))
       → Behind (with_cell n (u ++ t) a body') (with_cell n u a body)
@@ -194,35 +194,35 @@ module _ (n : ℕ) (u t : List ℕ) (long : length u ≡ pool_length register_co
 
   pub body_longer : (c : Call) → Registers (registers_of c) → Behind n u t long some (body_of c n (u ++ t)) (body_of c n u)
   body_longer (call.Copy r a) there =
-      same_test (Behind n u t long some) (holds_longer n u t long some a there.second)
+      same_test (Behind n u t long some) (holds_longer n u t long some a there.1.0)
       (λ e. record {
         said = refl;
-        words = ap (set_register (u ++ t) r) (register-longer register_count n u t long some a there.second)
-            ∙ set-register_longer register_count n u t long some r (register u a) there.first;
+        words = ap (set_register (u ++ t) r) (register-longer register_count n u t long some a there.1.0)
+            ∙ set-register_longer register_count n u t long some r (register u a) there.0;
       })
       λ e. nothing n u t long some (refused 3)
-  body_longer (call.Clear r) there = record { said = refl; words = set-register_longer register_count n u t long some r 0 there.first }
-  body_longer (call.New r a b v) there = new_longer r a b v there.first there.second there.third
-  body_longer (call.Left r a) there = follow_longer n u t long some 1 r a (omega arith) there.first there.second
-  body_longer (call.Right r a) there = follow_longer n u t long some 2 r a (omega arith) there.first there.second
-  body_longer (call.SetLeft a b) there = link-cell_longer n u t long some 1 a b (omega arith) there.first there.second
-  body_longer (call.SetRight a b) there = link-cell_longer n u t long some 2 a b (omega arith) there.first there.second
+  body_longer (call.Clear r) there = record { said = refl; words = set-register_longer register_count n u t long some r 0 there.0 }
+  body_longer (call.New r a b v) there = new_longer r a b v there.0 there.1.0 there.1.1.0
+  body_longer (call.Left r a) there = follow_longer n u t long some 1 r a (omega arith) there.0 there.1.0
+  body_longer (call.Right r a) there = follow_longer n u t long some 2 r a (omega arith) there.0 there.1.0
+  body_longer (call.SetLeft a b) there = link-cell_longer n u t long some 1 a b (omega arith) there.0 there.1.0
+  body_longer (call.SetRight a b) there = link-cell_longer n u t long some 2 a b (omega arith) there.0 there.1.0
   body_longer (call.SetValue a v) there =
-      with_cell_longer n u t long some a there.first _ _ λ x low high.
+      with_cell_longer n u t long some a there.0 _ _ λ x low high.
       record { said = refl; words = set-cell_longer register_count n u t long some x 3 v high (omega arith) }
   body_longer (call.Value a) there =
-      with_cell_longer n u t long some a there.first _ _ λ x low high.
+      with_cell_longer n u t long some a there.0 _ _ λ x low high.
       record { said = ap (λ (v : ℕ). answered (v ∷ [])) (cell-longer register_count n u t long some x 3 high (omega arith)); words = refl }
   body_longer (call.Same a b) there =
       same_test (Behind n u t long some)
-      (ap₂ (λ (p q : Bool). p && q) (holds_longer n u t long some a there.first) (holds_longer n u t long some b there.second))
+      (ap₂ (λ (p q : Bool). p && q) (holds_longer n u t long some a there.0) (holds_longer n u t long some b there.1.0))
       (λ e. record {
-        said = ap₂ (λ (p q : ℕ). answered (cond (eqb p q) 1 0 ∷ [])) (register-longer register_count n u t long some a there.first)
-            (register-longer register_count n u t long some b there.second);
+        said = ap₂ (λ (p q : ℕ). answered (cond (eqb p q) 1 0 ∷ [])) (register-longer register_count n u t long some a there.0)
+            (register-longer register_count n u t long some b there.1.0);
         words = refl;
       })
       λ e. nothing n u t long some (refused 3)
   body_longer call.Collect there = collect_longer n u t long some
-  body_longer (call.Point r v x y) there = allocate_longer r point_state x y v there.first
-  body_longer (call.East a) there = coordinate_longer n u t long some 1 a (omega arith) there.first
-  body_longer (call.North a) there = coordinate_longer n u t long some 2 a (omega arith) there.first
+  body_longer (call.Point r v x y) there = allocate_longer r point_state x y v there.0
+  body_longer (call.East a) there = coordinate_longer n u t long some 1 a (omega arith) there.0
+  body_longer (call.North a) there = coordinate_longer n u t long some 2 a (omega arith) there.0

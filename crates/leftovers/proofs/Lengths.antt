@@ -22,14 +22,14 @@ use Rattle.collector.specs.Collect.{collected, collect_in}
 use Rattle.recursive_marker.specs.Recursive.{recursion_limit}
 use Rattle.worst_case.proofs.Built.{built-length}
 use Rattle.allocator.specs.Allocation.{take, take_collected, good_head, allocate_in}
-use Rattle.operations.specs.declared.HeldCell.{HeldCell}
-use Rattle.operations.specs.declared.HeldCell.TheVariants as held_cell
+use Rattle.std.proofs.Common.{Result, Ok, Err}
+use Rattle.answers.specs.declared.Refusal.{Refusal}
 use Rattle.operations.specs.Operations.{held_cell_of, held_kind_of, cell_to, follow_in, link_in}
 use Rattle.calls.specs.declared.Call.{Call}
 use Rattle.calls.specs.declared.Call.TheVariants as call
 use Rattle.calls.specs.Calls.{registers_of, body_of, call_of}
-use Rattle.batch.specs.declared.Ran.{Ran}
-use Rattle.batch.specs.declared.Ran.TheVariants as ran
+use Rattle.batch.specs.declared.Stopped.{Stopped}
+use Rattle.batch.specs.declared.Stopped.TheVariants as stopped
 use Rattle.batch.specs.Program.{Program, ended, malformed, then, program_of}
 use Rattle.batch.specs.Run.{written, run_from}
 use Rattle.image.specs.Image.{Image, Parsed, parsed, fault, read_image}
@@ -65,9 +65,9 @@ module _ (n : ℕ) (w : List ℕ) where
   collect_length = either (AsLong w) (well_formed register_count n w) (λ e. collected-length) (λ e. refl)
 
   -- a call on the cell that a register holds, of either kind or of one
-  cell-length : (q : HeldCell) (body : ℕ → Outcome × List ℕ) → ((x : ℕ) → AsLong w (body x)) → AsLong w (cell_to w body q)
-  cell-length (held_cell.Cell x) body on = on x
-  cell-length (held_cell.Refused k) body on = refl
+  cell-length : (q : Result ℕ Refusal) (body : ℕ → Outcome × List ℕ) → ((x : ℕ) → AsLong w (body x)) → AsLong w (cell_to w body q)
+  cell-length (Ok x) body on = on x
+  cell-length (Err k) body on = refl
 
   follow_length : (field r a : ℕ) → AsLong w (follow_in n w field r a)
   follow_length field r a =
@@ -117,9 +117,9 @@ run_length k (then c rest) w out = go (leb (3 * k + 3) (length out)) (run_length
   where
     go : (t : Bool) → length (run_from (suc k) rest (call_of c w).1 (written out k (call_of c w).0)).1 ≡ length (call_of c w).1
         → length
-        (elim t as (λ x. Ran × List ℕ × List ℕ) [
+        (elim t as (λ x. Result ℕ Stopped × List ℕ × List ℕ) [
           | true ↦ run_from (suc k) rest (call_of c w).1 (written out k (call_of c w).0)
-          | false ↦ (ran.NoRoom k, w, out)
+          | false ↦ (Err (stopped.NoRoom k), w, out)
         ]).1
         ≡ length w
     go true after = after ∙ call_length w c

@@ -19,7 +19,7 @@ use Rattle.pool.specs.States.{pair_state, free_state, is_point, as_used}
 use Rattle.pool.proofs.Links.{link-same}
 use Rattle.questions.specs.Validity.{valid_link, valid_cell, well_formed}
 use Rattle.pool.proofs.Laws.{length-set_cell, length-set_register}
-use Rattle.pool.proofs.Every.{every_cong, tabulate-list, tabulate_cong, get_d_tabulate}
+use Rattle.pool.proofs.Every.{every_cong, tabulate-list, tabulate_cong, get_or-tabulate}
 use Rattle.pool.proofs.Retained.{Place, place, word_stays, word_field, length-retain}
 use Rattle.pool.proofs.Node.{length-put_cell}
 use Rattle.pool.proofs.FreshPool.{blank_length}
@@ -177,7 +177,7 @@ module _ (R n : ℕ) (u t : List ℕ) (long : length u ≡ pool_length R n) (som
       at : (k : ℕ) → Dec (k < length u) → Place R n k → get_or (retain R n keep u ++ t) k 0 ≡ retained_word R n keep (u ++ t) k
       at k (yes below) p =
           get_or-append (retain R n keep u) t 0 k (omega (arith, length-retain R n keep u))
-          ∙ (get_d_tabulate (length u) (retained_word R n keep u) k 0 below ∙ word k below p)
+          ∙ (get_or-tabulate (length u) (retained_word R n keep u) k 0 below ∙ word k below p)
       at k (no past) (Place.first e) = absurd (omega arith)
       at k (no past) (Place.stays other away test) =
           behind (retain R n keep u) (length-retain R n keep u) k (omega arith)

@@ -1,5 +1,6 @@
 -- The words behind the cells stay in every operation: it leaves as many words as it is lent, and these are what it leaves without the words behind the cells, and
 -- then those.
+use Rattle.std.proofs.Common.{Result}
 use Prim.Native.Nat.{ℕ, ◌≤◌}
 use native.Mathlib.Omega.{arith}
 use native.Mathlib.Decide.{dec_le}
@@ -10,7 +11,7 @@ use lib.Seq.{drop_at, length-take-le}
 use Rattle.answers.specs.Outcome.{Outcome}
 use Rattle.pool.specs.Layout.{register_count, pool_length, cell_count_of_length, leftover_words}
 use Rattle.load.specs.declared.Loaded.{Loaded}
-use Rattle.batch.specs.declared.Ran.{Ran}
+use Rattle.batch.specs.declared.Stopped.{Stopped}
 use Rattle.tally.specs.declared.Tally.{Tally}
 use Rattle.leftovers.specs.Leftovers.{Operation, fresh, call, collect_tally, collect_stack, collect_recursive, worst_case, load, run, words_after, LeftoversStay, without_leftover, AsWithout}
 use Rattle.leftovers.proofs.Lengths.{operation_length}
@@ -35,7 +36,7 @@ module _ (w own behind : List ℕ) (unseen : AsWithout w own behind) where
   parted collect_recursive = ap (λ (x : Outcome × List ℕ). x.1) unseen.recursive
   parted worst_case = ap (λ (x : Outcome × List ℕ). x.1) unseen.worst_case_behind
   parted (load bytes) = ap (λ (x : Loaded × List ℕ). x.1) (unseen.load bytes)
-  parted (run list out) = ap (λ (x : Ran × List ℕ × List ℕ). x.1) (unseen.run list out)
+  parted (run list out) = ap (λ (x : Result ℕ Stopped × List ℕ × List ℕ). x.1) (unseen.run list out)
 
 pub leftovers_stay : LeftoversStay
 leftovers_stay o w =

@@ -9,14 +9,15 @@ use lib.ListN.{length, length-take, length-drop, length-append, replicate, take-
 use lib.Seq.{length-take-le}
 use lib.Dec.{leb}
 use borrow.Author.Tests.{lt-ltb}
+use Rattle.std.specs.Prelude.{Ok, Err}
 use Rattle.answers.specs.declared.Refusal.TheVariants as refusal
 use Rattle.answers.specs.Outcome.{Outcome, answered, refused}
 use Rattle.pool.specs.Layout.{register_count, pool_length, leftover_limit, cell_count_of_length, leftover_words, cell_count, graph_of, roots_of}
 use Rattle.pool.specs.Lengths.{LengthOf}
 use Rattle.pool.specs.Fresh.{fresh_of}
 use Rattle.questions.specs.Validity.{well_formed}
-use Rattle.questions.specs.declared.Admitted.{Admitted}
-use Rattle.questions.specs.declared.Admitted.TheVariants as admitted
+use Rattle.std.proofs.Common.{Result, Ok, Err}
+use Rattle.answers.specs.declared.Refusal.{Refusal}
 use Rattle.questions.specs.Questions.{sized_of, asked_next, are_registers, admit_of, admitted_to}
 use Rattle.pool.proofs.Sizes.{length_of, of_length, no_cells}
 use Rattle.questions.proofs.WellFormed.{well_formed_read}
@@ -32,8 +33,8 @@ use Rattle.tally.specs.declared.Tally.{Tally}
 use Rattle.tally.specs.TallyOf.{tally_of, tally_after}
 use Rattle.calls.specs.declared.Call.{Call}
 use Rattle.calls.specs.Calls.{registers_of, body_of, call_of}
-use Rattle.batch.specs.declared.Ran.{Ran}
-use Rattle.batch.specs.declared.Ran.TheVariants as ran
+use Rattle.batch.specs.declared.Stopped.{Stopped}
+use Rattle.batch.specs.declared.Stopped.TheVariants as stopped
 use Rattle.batch.specs.Program.{Program, ended, malformed, then, program_of}
 use Rattle.batch.specs.Run.{written, run_from}
 use Rattle.image.specs.Image.{Image, Parsed, parsed, fault, read_image, image_of}
@@ -70,18 +71,18 @@ module _ (n : ℕ) (u t : List ℕ) (fits : LengthOf register_count n 0 (length 
   asked_longer = rw (cells-longer, cells_u, count-longer register_count n u t long some) refl
 
   -- the number of cells that a question hands on
-  asked_cells : {m : ℕ} → sized_of u ≡ admitted.Cells m → n ≡ m
+  asked_cells : {m : ℕ} → sized_of u ≡ Ok m → n ≡ m
   asked_cells told = sym cells_u ∙ (sized_cells u told).0.counted
 
   -- an operation behind the first question
   behind-size : {A : Type 0} (body' body refusing' refusing : ℕ → A) (P : A → A → Type 0) → P (body' n) (body n) → ((k : ℕ) → P (refusing' k) (refusing k))
       → P (admitted_to body' refusing' (sized_of (u ++ t))) (admitted_to body refusing (sized_of u))
   behind-size body' body refusing' refusing P on off =
-      subst (λ (q : Admitted). P (admitted_to body' refusing' q) (admitted_to body refusing (sized_of u))) (sym asked_longer) (go (sized_of u) refl)
+      subst (λ (q : Result ℕ Refusal). P (admitted_to body' refusing' q) (admitted_to body refusing (sized_of u))) (sym asked_longer) (go (sized_of u) refl)
     where
-      go : (q : Admitted) → sized_of u ≡ q → P (admitted_to body' refusing' q) (admitted_to body refusing q)
-      go (admitted.Cells m) told = subst (λ (k : ℕ). P (body' k) (body k)) (asked_cells told) on
-      go (admitted.Refused k) told = off _
+      go : (q : Result ℕ Refusal) → sized_of u ≡ q → P (admitted_to body' refusing' q) (admitted_to body refusing q)
+      go (Ok m) told = subst (λ (k : ℕ). P (body' k) (body k)) (asked_cells told) on
+      go (Err k) told = off _
 
   -- both parts are the same
   whole : {x' x : Outcome × List ℕ} → Behind n u t long some x' x → x' ≡ and_behind x t
@@ -148,22 +149,22 @@ module _ (n : ℕ) (u t : List ℕ) (fits : LengthOf register_count n 0 (length 
           → load_image register_count n read (length bytes) (u ++ t) ≡ and_behind (load_image register_count n read (length bytes) u) t
       go (parsed i end) e =
           let r = image-read register_count n bytes i end e in
-          ap (λ (v : List ℕ). (record { verdict = 0; end = end }, v))
+          ap (λ (v : List ℕ). (record { verdict = Ok tt; end = end }, v))
           (loaded-longer register_count n t some u long i (image-few register_count n bytes i end r) (image-registers register_count n bytes i end r))
       go (fault why) e = refl
 
   call-longer : (c : Call) → call_of c (u ++ t) ≡ and_behind (call_of c u) t
   call-longer c =
-      ap (λ (q : Admitted). admitted_to (λ m. body_of c m (u ++ t)) (λ k. (refused k, u ++ t)) (asked_next (are_registers (registers_of c)) q)) asked_longer
+      ap (λ (q : Result ℕ Refusal). admitted_to (λ m. body_of c m (u ++ t)) (λ k. (refused k, u ++ t)) (asked_next (are_registers (registers_of c)) q)) asked_longer
       ∙ go (admit_of u (registers_of c)) refl
     where
-      go : (q : Admitted) → admit_of u (registers_of c) ≡ q
+      go : (q : Result ℕ Refusal) → admit_of u (registers_of c) ≡ q
           → admitted_to (λ m. body_of c m (u ++ t)) (λ k. (refused k, u ++ t)) q ≡ and_behind (admitted_to (λ m. body_of c m u) (λ k. (refused k, u)) q) t
-      go (admitted.Cells m) told =
+      go (Ok m) told =
           let asked = admit_cells u (registers_of c) told in
           subst (λ (k : ℕ). body_of c k (u ++ t) ≡ and_behind (body_of c k u) t) (asked_cells asked.0)
           (whole (body_longer n u t long some c (registers_there (registers_of c) asked.1)))
-      go (admitted.Refused k) told = refl
+      go (Err k) told = refl
 
 -- A run, where each call does with t what it does without, and leaves words of which the same holds.
 run-behind : (t : List ℕ) (Q : List ℕ → Type 0) → ((u : List ℕ) → Q u → (c : Call) → (call_of c (u ++ t) ≡ and_behind (call_of c u) t) × Q (call_of c u).1)
@@ -176,8 +177,8 @@ run-behind t Q each k (then c rest) u out q =
     ap (λ (x : Outcome × List ℕ). next (leb (3 * k + 3) (length out)) (run_from (suc k) rest x.1 (written out k x.0)) (u ++ t)) first.0
     ∙ go (leb (3 * k + 3) (length out)) (run-behind t Q each (suc k) rest (call_of c u).1 (written out k (call_of c u).0) first.1)
   where
-    next : Bool → Ran × List ℕ × List ℕ → List ℕ → Ran × List ℕ × List ℕ
-    next room after v = elim room as (λ x. Ran × List ℕ × List ℕ) [ true ↦ after | false ↦ (ran.NoRoom k, v, out) ]
+    next : Bool → Result ℕ Stopped × List ℕ × List ℕ → List ℕ → Result ℕ Stopped × List ℕ × List ℕ
+    next room after v = elim room as (λ x. Result ℕ Stopped × List ℕ × List ℕ) [ true ↦ after | false ↦ (Err (stopped.NoRoom k), v, out) ]
 
     go : (room : Bool)
         → run_from (suc k) rest ((call_of c u).1 ++ t) (written out k (call_of c u).0) ≡ and_behind_first (run_from (suc k) rest (call_of c u).1 (written out k (call_of c u).0)) t
@@ -188,7 +189,7 @@ run-behind t Q each k (then c rest) u out q =
 
 -- Words of a length of no pool are refused, and stay.
 module _ (w : List ℕ) (none : cell_count_of_length register_count (length w) ≡ 0) where
-  size-refused : sized_of w ≡ admitted.Refused refusal.Size
+  size-refused : sized_of w ≡ Err refusal.Size
   size-refused = sized_none w (no_cells register_count w none)
 
   call-refused : (c : Call) → call_of c w ≡ (refused 1, w)
@@ -213,7 +214,7 @@ module _ (u t : List ℕ) (none : cell_count_of_length register_count (length u)
         stack = λ stack. refused-alike_first (λ w. stack_of w stack) (refused 1) stack λ w no_pool_lem. rw (size-refused w no_pool_lem) refl;
         recursive = refused-alike recursive_of (refused 1) λ w no_pool_lem. rw (size-refused w no_pool_lem) refl;
         worst_case_behind = refused-alike worst_case_of (refused 1) λ w no_pool_lem. rw no_pool_lem refl;
-        load = λ bytes. refused-alike (λ w. load_of w bytes) (record { verdict = 1; end = length bytes }) λ w no_pool_lem. rw no_pool_lem refl;
+        load = λ bytes. refused-alike (λ w. load_of w bytes) (record { verdict = Err refusal.Size; end = length bytes }) λ w no_pool_lem. rw no_pool_lem refl;
         save = λ s out. rw (size-refused u none, size-refused (u ++ t) none-longer) refl;
         run = λ list out.
             run-behind t (λ v. v ≡ u)

@@ -8,7 +8,7 @@ use lib.ListN.{length, get_or}
 use lib.Dec.{leb}
 use borrow.Author.Tests.{le-leb, leb-true}
 use Rattle.pool.specs.Layout.{pool_length, cell_count_of_length, cell_count, count, register, cell, state, is_point_at, link_of}
-use Rattle.pool.specs.States.{is_used}
+use Rattle.pool.specs.States.{is_used, is_point_kind}
 use Rattle.pool.proofs.Links.{link-pair, link-point, retained_kind}
 use Rattle.pool.specs.Retain.{free_list, free_cells, blank_words}
 use Rattle.pool.proofs.Sizes.{same_count}
@@ -16,7 +16,7 @@ use Rattle.pool.proofs.Retained.{length-retain, retain-count, retain-register}
 use Rattle.questions.proofs.RetainedPool.{Kept, retained_well_formed}
 use Rattle.pool.proofs.RetainedPool.{retained_used, retained_same, retained_free_list}
 use Rattle.questions.proofs.WellFormed.{WellFormed}
-use Rattle.image.specs.Image.{is_point_kind, Image}
+use Rattle.image.specs.Image.{Image}
 use Rattle.image.proofs.Reading.{each_at}
 use Rattle.image.proofs.Images.{LinksWithin}
 use Rattle.load.specs.Load.{put_image, loaded_words}

@@ -4,28 +4,28 @@ use native.Mathlib.Omega.{arith}
 use native.Mathlib.Decide.{dec_le, dec_lt, ℕ_discrete}
 use mathlib.Core.Path.{◌≡◌, refl, sym, ap, ◌∙◌}
 use mathlib.Core.List.{List, ◌++◌}
+use Rattle.std.specs.Prelude.{Result, Ok, Err}
 use mathlib.Core.Bool.{Bool, true, false, cond}
-use lib.ListN.{length, get_or, take, drop, set, replicate, length-set, length-append, length-drop, length-replicate}
-use lib.Seq.{take_all, get_or-set_same, get_or-set_other}
+use lib.ListN.{length, get_or, drop, set, replicate, length-set, length-append, length-drop, length-replicate}
+use lib.Seq.{get_or-set_same, get_or-set_other}
 use lib.Dec.{leb, ltb}
 use borrow.Author.Tests.{lt-ltb, leb-true}
 use Rattle.leb128.specs.Leb128.{Bytes}
 use Rattle.pool.specs.Layout.{register_count, first_register, first_cell, pool_length, cell_count_of_length, cell_at, register, set_register, cell, state, set_count, is_point_at}
-use Rattle.pool.specs.States.{pair_state, point_state, is_point, is_used}
+use Rattle.pool.specs.States.{pair_state, point_state, is_point, is_used, is_point_kind}
 use Rattle.pool.proofs.States.{pair_is, point_is, used-alike}
 use Rattle.pool.specs.Retain.{blank_words, kept_field, retain}
-use Rattle.answers.specs.Outcome.{refusal_number}
 use Rattle.answers.specs.declared.Refusal.{Refusal}
+use Rattle.answers.specs.declared.Refusal.TheVariants as refusal
 use Rattle.pool.proofs.Sizes.{counted_sized}
 use Rattle.pool.proofs.Retained.{Elsewhere, retain_cong}
 use Rattle.pool.proofs.FreshPool.{blank_length, blank_behind}
-use Rattle.image_scan.specs.declared.Scan.{Scan}
-use Rattle.image_scan.specs.declared.Scan.TheVariants as scan
-use Rattle.image.specs.Image.{is_point_kind, Image, Parsed, parsed, fault, read_count, read_link, read_cell, read_each, read_image}
+use Rattle.image_scan.specs.declared.Scanned.{Scanned}
+use Rattle.image.specs.Image.{Image, Parsed, parsed, fault, read_count, read_link, read_cell, read_each, read_image}
 use Rattle.image_scan.specs.Steps.{scan_of}
 use Rattle.image.proofs.Reading.{between_inside}
 use Rattle.image.proofs.Images.{image-read, image-few, image-registers, reads_image_bytes}
-use Rattle.image_scan.proofs.Scanning.{scanned, scanned_fault}
+use Rattle.image_scan.proofs.Scanning.{whole, scanned, scanned_fault}
 use Rattle.load.specs.declared.Loaded.{Loaded}
 use Rattle.load.specs.Load.{put_fields, put_each, put_image, loaded_words, load_image, load_of}
 use Rattle.pool.specs.Steps.{FirstUsed}
@@ -182,11 +182,8 @@ module _ (R n : ℕ) (bytes : List ℕ) where
       let second = list i.cells end (rw (number, here) at r.cells) in
       second ∙ ap (put_each (put_fields R) 1 i.cells) first.0
 
--- What load answers: no pool; a refused image; a whole one.
+-- What load answers of words that are as many as a pool has: a refused image; a whole one.
 module _ (w bytes : List ℕ) (n : ℕ) (cells : n ≡ cell_count_of_length register_count (length w)) where
-  pub load_no_pool : (v : ℕ) → n ≡ 0 → v ≡ 1 → ◌≡◌ {A = Loaded × List ℕ} (record { verdict = v; end = length bytes }, w) (load_of w bytes)
-  load_no_pool v none e = simp (← cells, none, e)
-
   module _ (some : n ≡ 0 → ⊥) where
     load-pool : (read : Parsed Image) → read_image register_count n bytes ≡ read → load_of w bytes ≡ load_image register_count n read (length bytes) w
     load-pool read e = simp (← cells, lt-ltb 0 n (omega (arith, some)), e)
@@ -211,24 +208,23 @@ module _ (w bytes : List ℕ) (n : ℕ) (cells : n ≡ cell_count_of_length regi
       freed_image : retain register_count n (λ j. leb j K) (set v 0 n) ≡ loaded_words register_count n i w
       freed_image = rw (← number, put) (filled_loaded register_count n i few w all room)
 
-    module _ (s : Scan) (says : s ≡ scan_of (read_image register_count n bytes)) where
-      pub load-refused : (why : Refusal) (v : ℕ) → s ≡ scan.Refused why → v ≡ refusal_number why
-          → ◌≡◌ {A = Loaded × List ℕ} (record { verdict = v; end = length bytes }, w) (load_of w bytes)
-      load-refused why v e number = sym (load-pool (fault why) (scanned_fault _ why (sym e ∙ says)) ∙ simp (← number))
+    module _ (s : Result Scanned Refusal) (says : s ≡ scan_of (read_image register_count n bytes)) where
+      pub load-refused : (why : Refusal) → s ≡ Err why → ◌≡◌ {A = Loaded × List ℕ} (record { verdict = Err why; end = length bytes }, w) (load_of w bytes)
+      load-refused why e = sym (load-pool (fault why) (scanned_fault _ why (sym e ∙ says)))
 
-      module _ (K end : ℕ) (e : s ≡ scan.Whole K end) (v : List ℕ)
+      module _ (K end : ℕ) (e : s ≡ whole K end) (v : List ℕ)
           (fill : WhereRead (read_image register_count n bytes) (λ i behind. v ≡ put_image register_count i w)) where
         pub load_filled : (K ≤ n) × (pool_length register_count n ≤ length (set v 0 n)) × FirstUsed register_count K (set v 0 n)
         load_filled =
             let i = scanned _ K end (sym e ∙ says) in
-            filled_image i.image end i.whole K i.number v (fill i.image end i.whole)
+            filled_image i.image end i.is_whole K i.number v (fill i.image end i.is_whole)
 
         pub load-whole : (freed : List ℕ) → freed ≡ retain register_count n (λ j. leb j K) (set v 0 n)
-            → ◌≡◌ {A = Loaded × List ℕ} (record { verdict = 0; end = end }, freed) (load_of w bytes)
+            → ◌≡◌ {A = Loaded × List ℕ} (record { verdict = Ok tt; end = end }, freed) (load_of w bytes)
         load-whole freed free =
             let i = scanned _ K end (sym e ∙ says) in
-            let words = free ∙ freed_image i.image end i.whole K i.number v (fill i.image end i.whole) in
-            sym (load-pool _ i.whole ∙ ap (λ (l : List ℕ). (record { verdict = 0; end = end }, l)) (sym words))
+            let words = free ∙ freed_image i.image end i.is_whole K i.number v (fill i.image end i.is_whole) in
+            sym (load-pool _ i.is_whole ∙ ap (λ (l : List ℕ). (record { verdict = Ok tt; end = end }, l)) (sym words))
 
 -- The image ends within the bytes.
 pub load_end : (w bytes : List ℕ) → Bytes bytes → (load_of w bytes).0.end ≤ length bytes
@@ -238,11 +234,7 @@ load_end w bytes byte = go (ltb 0 n) (read_image register_count n bytes) refl
     n = cell_count_of_length register_count (length w)
 
     go : (t : Bool) (read : Parsed Image) → read_image register_count n bytes ≡ read
-        → (cond t (load_image register_count n read (length bytes) w) (record { verdict = 1; end = length bytes }, w)).0.end ≤ length bytes
+        → (cond t (load_image register_count n read (length bytes) w) (record { verdict = Err refusal.Size; end = length bytes }, w)).0.end ≤ length bytes
     go false read e = omega arith
     go true (fault why) e = omega arith
     go true (parsed i end) e = between_inside (reads_image_bytes register_count n bytes i end byte e)
-
--- The part of the bytes from there on.
-pub load_part : (bytes : List ℕ) (end at : ℕ) → end ≡ at → take (length bytes - end) (drop end bytes) ≡ drop at bytes
-load_part bytes end at e = take_all (length bytes - end) (drop end bytes) (omega (arith, length-drop end bytes)) ∙ ap (λ (k : ℕ). drop k bytes) e

@@ -10,6 +10,7 @@ use Rattle.pool.proofs.Laws.{length-set_register, register-same, register_other}
 use Rattle.pool.proofs.Node.{written, length-put_cell, cell-put_cell, cell-put_cell_other}
 use Rattle.pool.proofs.Retained.{Elsewhere, put_cell_elsewhere}
 use Rattle.image.specs.declared.ImageCell.{ImageCell}
+use Rattle.pool.specs.declared.Kind.TheVariants as kind
 use Rattle.load.specs.Load.{state_of_kind, put_fields, put_each}
 
 -- The fields of an image's cell, as those of a pool's cell; and a cell that stands past the end of a list.
@@ -17,7 +18,7 @@ abbrev pub image_field : ImageCell → ℕ → ℕ
 image_field c f = written (state_of_kind c.kind) c.left c.right c.value f
 
 abbrev pub no_cell : ImageCell
-no_cell = record { kind = 0; left = 0; right = 0; value = 0 }
+no_cell = record { kind = kind.Pair; left = 0; right = 0; value = 0 }
 
 -- One cell.
 module _ (R : ℕ) (w : List ℕ) (i : ℕ) (c : ImageCell) where

@@ -1,16 +1,16 @@
 -- The proofs of the statements in `specs/Load`.
-use Prim.Native.Nat.{ℕ, ◌+◌, ◌<◌, ◌≤◌}
+use Prim.Native.Nat.{ℕ, ◌+◌, ◌≤◌}
 use native.Mathlib.Omega.{arith}
 use native.Mathlib.Decide.{dec_le, dec_lt}
 use mathlib.Core.Path.{◌≡◌, refl, sym}
 use mathlib.Core.List.{List}
+use Rattle.std.specs.Prelude.{Ok, Err}
 use mathlib.Core.Bool.{Bool, true, false, cond, ◌&&◌}
 use lib.ListN.{length}
 use lib.Dec.{leb, ltb}
 use borrow.Author.Tests.{ltb-true, le-leb, lt-leb}
 use Rattle.pool.specs.Layout.{register_count, cell_limit, pool_length, leftover_limit, cell_count_of_length, cell_count}
 use Rattle.questions.specs.Validity.{well_formed}
-use Rattle.answers.specs.Outcome.{refusal_number}
 use Rattle.answers.specs.declared.Refusal.{Refusal}
 use Rattle.answers.specs.declared.Refusal.TheVariants as refusal
 use Rattle.pool.proofs.Sizes.{length_of, of_length, length_sized}
@@ -42,7 +42,7 @@ no_pool_lem n e few outside =
 pub check_is_load : CheckIsLoad
 check_is_load n e bytes w few long = go (dec_le 1 n) (dec_le n cell_limit)
   where
-    outside : (1 ≤ n → n ≤ cell_limit → ⊥) → (load_of w bytes).0.verdict ≡ 1
+    outside : (1 ≤ n → n ≤ cell_limit → ⊥) → (load_of w bytes).0.verdict ≡ Err refusal.Size
     outside out = simp (long, no_pool_lem n e few out)
 
     go : Dec (1 ≤ n) → Dec (n ≤ cell_limit) → check_of bytes n ≡ (load_of w bytes).0.verdict
@@ -53,22 +53,6 @@ check_is_load n e bytes w few long = go (dec_le 1 n) (dec_le n cell_limit)
     go (no low) high = simp (lt-leb 1 n (omega arith)) (sym (outside (λ a b. low a)))
 
 -- Every accepted load leaves a well-formed pool.
-refusal_positive : (why : Refusal) → 0 < refusal_number why
-refusal_positive refusal.Size = omega arith
-refusal_positive refusal.Register = omega arith
-refusal_positive refusal.Malformed = omega arith
-refusal_positive refusal.Nil = omega arith
-refusal_positive refusal.Full = omega arith
-refusal_positive refusal.Truncated = omega arith
-refusal_positive refusal.OutOfRange = omega arith
-refusal_positive refusal.LinkRange = omega arith
-refusal_positive refusal.TooManyCells = omega arith
-refusal_positive refusal.NoRoom = omega arith
-refusal_positive refusal.TooLarge = omega arith
-refusal_positive refusal.Padded = omega arith
-refusal_positive refusal.Kind = omega arith
-refusal_positive refusal.KindNumber = omega arith
-
 pub load_is_well_formed : LoadIsWellFormed
 load_is_well_formed w bytes = go (ltb 0 n) refl (read_image register_count n bytes) refl
   where
@@ -76,11 +60,11 @@ load_is_well_formed w bytes = go (ltb 0 n) refl (read_image register_count n byt
     n = cell_count_of_length register_count (length w)
 
     go : (t : Bool) → ltb 0 n ≡ t → (read : Parsed Image) → read_image register_count n bytes ≡ read
-        → let loaded = cond t (load_image register_count n read (length bytes) w) (record { verdict = 1; end = length bytes }, w) in
-        loaded.0.verdict ≡ 0 → (cell_count register_count loaded.1 ≡ n) × (well_formed register_count n loaded.1 ≡ true)
-    go false none read e zero = absurd (omega arith)
-    go true some (fault why) e zero = absurd (omega (arith, refusal_positive why))
-    go true some (parsed i end) e zero =
+        → let loaded = cond t (load_image register_count n read (length bytes) w) (record { verdict = Err refusal.Size; end = length bytes }, w) in
+        loaded.0.verdict ≡ Ok tt → (cell_count register_count loaded.1 ≡ n) × (well_formed register_count n loaded.1 ≡ true)
+    go false none read e done = cc
+    go true some (fault why) e done = cc
+    go true some (parsed i end) e done =
         let r = image-read register_count n bytes i end e in
         let few = image-few register_count n bytes i end r in
         let all = image-registers register_count n bytes i end r in
@@ -99,17 +83,17 @@ old-image_not_loaded w registers cells all some old = (load (ltb 0 m) refl, chec
     m : ℕ
     m = cell_count_of_length register_count (length w)
 
-    load : (t : Bool) → ltb 0 m ≡ t → (v : ℕ) × (0 < v) × (load_of w bytes ≡ (record { verdict = v; end = length bytes }, w))
+    load : (t : Bool) → ltb 0 m ≡ t → (why : Refusal) × (load_of w bytes ≡ (record { verdict = Err why; end = length bytes }, w))
     load true is =
         let (why, read) = old-image_refused register_count m registers cells all some old in
-        (refusal_number why, refusal_positive why, rw (is, read) refl)
-    load false is = (1, omega arith, rw is refl)
+        (why, rw (is, read) refl)
+    load false is = (refusal.Size, rw is refl)
 
-    check : (n : ℕ) → 0 < check_of bytes n
+    check : (n : ℕ) → (why : Refusal) × (check_of bytes n ≡ Err why)
     check n = go (leb 1 n && leb n cell_limit) refl
       where
-        go : (t : Bool) → (leb 1 n && leb n cell_limit) ≡ t → 0 < check_of bytes n
+        go : (t : Bool) → (leb 1 n && leb n cell_limit) ≡ t → (why : Refusal) × (check_of bytes n ≡ Err why)
         go true is =
             let (why, read) = old-image_refused register_count n registers cells all some old in
-            rw (is, read) (refusal_positive why)
-        go false is = rw is (omega arith)
+            (why, rw (is, read) refl)
+        go false is = (refusal.Size, rw is refl)

@@ -8,16 +8,25 @@ ghost use Rattle.load.specs.Load.{state_of_kind, put_fields, put_each, put_image
 ghost use Rattle.load.specs.Steps.{WhereRead};
 
 use answers::Refusal;
-use image_reader::Field;
-use image_scan::Scan;
-use pool::Pool;
+use image_reader::KindRead;
+use pool::{Cell, Kind, Pool};
 
-// What load answers: 0 or the refusal's number, and where the bytes behind the image start.
+// What load answers: why it is refused, if it is, and where the bytes behind the image start; refused, the length of the bytes.
 #[derive(Clone, Copy)]
 pub struct Loaded {
-    pub verdict: u32,
+    pub verdict: Result<(), Refusal>,
     pub end: usize,
 }
+
+// What load hands back: the caller's bytes behind the image, and why it is refused, if it is; refused, the empty part at their end.
+#[derive(Clone, Copy)]
+pub struct Behind<'a> {
+    pub rest: &'a [u8],
+    pub verdict: Result<(), Refusal>,
+}
+
+// The bytes and a place of them are no reader here, and none in the scan: each function gives the place behind what it read, so that its contract says what
+// one reading gives, of any place, as the definitions do.
 
 // Writes the register of an image that stands at `at` to register j. Gives the place behind it. Bytes that were scanned, for whatever number k of cells, have
 // no fault, so that no bound is asked again; nothing is said of others.
@@ -25,21 +34,21 @@ fn fill_register(words: &mut [u32], j: u32, bytes: &[u8], at: usize) -> usize
     requires { (j < register_count) × (pool_length register_count 0 ≤ length words.old) }
     ensures { (k : ℕ) → WhereRead (read_link k bytes.now at) (λ x end. (words.new ≡ set_register words.old j x) × (result ≡ end)) }
 {
-    let Field::Value { value, next } = image_reader::read_number(bytes, at) else {
+    let Ok(link) = image_reader::read_number(bytes, at) else {
         return at;
     };
-    pool::write_register(words, j, value);
-    next
+    pool::write_register(words, j, link.value);
+    link.next
 }
 
 // The state of a cell of that kind.
-fn state_of_kind(kind: u32) -> u32
+fn state_of_kind(kind: Kind) -> u32
     ensures { result ≡ state_of_kind kind }
 {
-    if kind == image::POINT {
-        return Pool::POINT;
+    match kind {
+        Kind::Pair => Pool::PAIR,
+        Kind::Point => Pool::POINT,
     }
-    Pool::PAIR
 }
 
 // Writes the cell of an image that stands at `at`, kind, left, right, value, to cell i. Gives the place behind it.
@@ -47,32 +56,26 @@ fn fill_cell(words: &mut [u32], i: u32, bytes: &[u8], at: usize) -> usize
     requires { (0 < i) × (pool_length register_count i ≤ length words.old) }
     ensures { (k : ℕ) → WhereRead (read_cell k bytes.now at) (λ c end. (words.new ≡ put_fields register_count words.old i c) × (result ≡ end)) }
 {
-    let Field::Value {
-        value: kind,
-        next: behind_kind,
-    } = image_reader::read_number(bytes, at)
-    else {
+    let Ok(KindRead { kind, next }) = image_reader::read_kind(bytes, at) else {
         return at;
     };
-    let Field::Value {
-        value: left,
-        next: behind_left,
-    } = image_reader::read_number(bytes, behind_kind)
-    else {
+    let Ok(left) = image_reader::read_number(bytes, next) else {
         return at;
     };
-    let Field::Value {
-        value: right,
-        next: behind_right,
-    } = image_reader::read_number(bytes, behind_left)
-    else {
+    let Ok(right) = image_reader::read_number(bytes, left.next) else {
         return at;
     };
-    let Field::Value { value, next } = image_reader::read_number(bytes, behind_right) else {
+    let Ok(value) = image_reader::read_number(bytes, right.next) else {
         return at;
     };
-    pool::put_cell(words, i, state_of_kind(kind), left, right, value);
-    next
+    let cell = Cell {
+        state: state_of_kind(kind),
+        left: left.value,
+        right: right.value,
+        value: value.value,
+    };
+    pool::put_cell(words, i, cell);
+    value.next
 }
 
 // Writes the registers of an image, which stand at `start`. Gives the place behind them.
@@ -81,10 +84,8 @@ fn fill_registers(words: &mut [u32], bytes: &[u8], start: usize) -> usize
     ensures { (k : ℕ) → WhereRead (read_each (read_link k bytes.now) register_count start) (λ links end. (words.new ≡ put_each set_register 0 links words.old) × (result ≡ end)) }
 {
     let mut at = start;
-    let mut j = 0;
-    while j < Pool::REGISTERS {
+    for j in 0..Pool::REGISTERS {
         at = fill_register(words, j, bytes, at);
-        j += 1;
     }
     at
 }
@@ -95,10 +96,8 @@ fn fill_cells(words: &mut [u32], bytes: &[u8], start: usize, k: u32)
     ensures { WhereRead (read_each (read_cell k bytes.now) k start) (λ cells end. words.new ≡ put_each (put_fields register_count) 1 cells words.old) }
 {
     let mut at = start;
-    let mut i = 0;
-    while i < k {
-        i += 1;
-        at = fill_cell(words, i, bytes, at);
+    for i in 0..k {
+        at = fill_cell(words, i + 1, bytes, at);
     }
 }
 
@@ -109,11 +108,11 @@ fn fill(words: &mut [u32], bytes: &[u8], n: u32)
     requires { pool_length register_count n ≤ length words.old }
     ensures { WhereRead (read_image register_count n bytes.now) (λ i end. words.new ≡ put_image register_count i words.old) }
 {
-    let Field::Value { value, next } = image_reader::read_count(bytes, n) else {
+    let Ok(count) = image_reader::read_count(bytes, n) else {
         return;
     };
-    let at = fill_registers(words, bytes, next);
-    fill_cells(words, bytes, at, value);
+    let at = fill_registers(words, bytes, count.next);
+    fill_cells(words, bytes, at, count.value);
 }
 
 // Loads the image at the start of the bytes, whole or not at all.
@@ -123,30 +122,34 @@ pub fn load_at(words: &mut [u32], bytes: &[u8]) -> Loaded
     let n = pool::cell_count_of_length(words.len());
     if n == 0 {
         return Loaded {
-            verdict: Refusal::Size.number(),
+            verdict: Err(Refusal::Size),
             end: bytes.len(),
         };
     }
     match image_scan::scan_image(bytes, n) {
-        Scan::Refused(why) => Loaded {
-            verdict: why.number(),
+        Err(why) => Loaded {
+            verdict: Err(why),
             end: bytes.len(),
         },
-        Scan::Whole { cells, end } => {
+        Ok(image) => {
             fill(words, bytes, n);
             words[Pool::COUNT] = n;
-            pool::free_above(words, n, cells);
-            Loaded { verdict: 0, end }
+            pool::free_above(words, n, image.cells);
+            Loaded {
+                verdict: Ok(()),
+                end: image.end,
+            }
         },
     }
 }
 
-// Loads the image at the start of the bytes. Gives the bytes behind it, and 0; or the empty part at their end, and the refusal's number.
-pub fn load<'a>(words: &mut [u32], bytes: &'a [u8], verdict: &mut u32) -> &'a [u8]
-    ensures { Handed (load_of words.old bytes.now) bytes.now words.new verdict.new result.now bytes.entry.ref_ptr result.ref_ptr }
+// Loads the image at the start of the bytes. Gives the bytes behind it; or the empty part at their end, and why it is refused.
+pub fn load<'a>(words: &mut [u32], bytes: &'a [u8]) -> Behind<'a>
+    ensures { Handed (load_of words.old bytes.now) bytes.now words.new result.verdict result.rest.now bytes.entry.ref_ptr result.rest.ref_ptr }
 {
     let loaded = load_at(words, bytes);
-    let end = loaded.end;
-    *verdict = loaded.verdict;
-    &bytes[end..]
+    Behind {
+        rest: &bytes[loaded.end..],
+        verdict: loaded.verdict,
+    }
 }

@@ -1,5 +1,6 @@
 -- The sweep, turn by turn.
 use Prim.Native.Nat.{ℕ, zero, suc, ◌+◌, ◌-◌, ◌<◌, ◌≤◌}
+use native.Mathlib.Numerals.{add-one}
 use native.Mathlib.Omega.{arith}
 use native.Mathlib.Decide.{ℕ_discrete}
 use mathlib.Core.Path.{◌≡◌, sym, ap, ap₂, ◌∙◌}
@@ -71,29 +72,31 @@ module _ (R n : ℕ) (w₀ : List ℕ) (room : pool_length R n ≤ length w₀) 
     this = omega arith
 
     -- the state that is read is still the one at the start
-    state-read : (s : ℕ) → s ≡ cell R w i 0 → cell R w₀ (suc (i - 1)) 0 ≡ s
-    state-read s read = rw this (sym (read ∙ t.swept.below i 0 some (omega arith) (omega arith)))
+    state-read : (s : ℕ) → s ≡ cell R w (i - 1 + 1) 0 → cell R w₀ (suc (i - 1)) 0 ≡ s
+    state-read s read = rw (← add-one (i - 1)) (sym (read ∙ t.swept.below (i - 1 + 1) 0 (omega arith) (omega arith) (omega arith)))
 
-    pub turn_kept : (s u : ℕ) (w' : List ℕ) → s ≡ cell R w i 0 → is_marked s ≡ true → as_used s ≡ u → w' ≡ set_cell R w i 0 u → Turn R n w₀ w' (i - 1) next freed
+    pub turn_kept : (s u : ℕ) (w' : List ℕ) → s ≡ cell R w (i - 1 + 1) 0 → is_marked s ≡ true → as_used s ≡ u → w' ≡ set_cell R w (i - 1 + 1) 0 u
+        → Turn R n w₀ w' (i - 1) next freed
     turn_kept s u w' read is used write =
-        let made : w' ≡ unmark_cell R w i = write ∙ ap (set_cell R w i 0) (sym used ∙ ap as_used read) in
+        let made : w' ≡ unmark_cell R w (i - 1 + 1) = write ∙ ap (set_cell R w (i - 1 + 1) 0) (sym used ∙ ap as_used read) in
         let keep : marked_cell R w₀ (suc (i - 1)) ≡ true = ap is_marked (state-read s read) ∙ is in
         record {
           few = omega (arith, t.few);
-          swept = rw (made ∙ ap (λ (k : ℕ). unmark_cell R w k) (sym this))
+          swept = rw (made ∙ ap (λ (k : ℕ). unmark_cell R w k) (add-one (i - 1)))
               (swept_kept R n (marked_cell R w₀) w₀ w (i - 1) top room (rw this t.swept) keep);
           chain = t.chain ∙ sym (free-kept (marked_cell R w₀) n (i - 1) top keep ∙ ap (free_above (marked_cell R w₀) n) this);
           counted = omega (arith, t.counted, kept_more (marked_cell R w₀) i some (rw this at keep));
         }
 
-    pub turn_free : (s : ℕ) (w' : List ℕ) → s ≡ cell R w i 0 → is_marked s ≡ false → w' ≡ put_cell R w i free_state next 0 0 → Turn R n w₀ w' (i - 1) i (freed + 1)
+    pub turn_free : (s : ℕ) (w' : List ℕ) → s ≡ cell R w (i - 1 + 1) 0 → is_marked s ≡ false → w' ≡ put_cell R w (i - 1 + 1) free_state next 0 0
+        → Turn R n w₀ w' (i - 1) (i - 1 + 1) (freed + 1)
     turn_free s w' read is write =
         let drop : marked_cell R w₀ (suc (i - 1)) ≡ false = ap is_marked (state-read s read) ∙ is in
         record {
           few = omega (arith, t.few);
-          swept = rw (write ∙ ap (λ (k : ℕ). put_cell R w k free_state next 0 0) (sym this))
+          swept = rw (write ∙ ap (λ (k : ℕ). put_cell R w k free_state next 0 0) (add-one (i - 1)))
               (swept-free R n (marked_cell R w₀) w₀ w (i - 1) top room (rw this t.swept) next drop (t.chain ∙ ap (free_above (marked_cell R w₀) n) (sym this)));
-          chain = sym (free_here (marked_cell R w₀) n (i - 1) top drop ∙ this);
+          chain = add-one (i - 1) ∙ sym (free_here (marked_cell R w₀) n (i - 1) top drop);
           counted = omega (arith, t.counted, kept_same (marked_cell R w₀) i some (rw this at drop));
         }
 

@@ -6,22 +6,21 @@ ghost use Rattle.pool.specs.Layout.{register_count, pool_length, state, mark_cel
 ghost use Rattle.pool.specs.States.{is_used, is_marked};
 ghost use Rattle.pool.specs.Retain.{sweep_of};
 
-use pool::Pool;
+use pool::{Cell, Pool};
 
 // Is it the state of a marked cell?
+#[tactic(auto, unfolding(pool::specs::States::is_marked))]
 pub fn is_marked(state: u32) -> bool
     ensures { result ≡ is_marked state }
 {
-    if state == Pool::MARKED_PAIR {
-        return true;
-    }
-    state == Pool::MARKED_POINT
+    matches!(state, Pool::MARKED_PAIR | Pool::MARKED_POINT)
 }
 
 // The bits in which the state of a marked cell differs from that of a used one of its kind: 3 from 0, and 6 from 5.
 const MARK: u32 = 3;
 
 // Marks a used cell, or makes a marked cell used again.
+// (Two functions with one body, since each promises another state of another one: a third that both call would be as long as what they share.)
 pub fn mark_cell(words: &mut [u32], i: u32)
     requires { (0 < i) × (pool_length register_count i ≤ length words.old) × (is_used (state register_count words.old i) ≡ true) }
     ensures { words.new ≡ mark_cell register_count words.old i }
@@ -56,22 +55,23 @@ pub fn sweep(words: &mut [u32], n: u32) -> u32
     requires { pool_length register_count n ≤ length words.old }
     ensures { (result, words.new) ≡ sweep_of register_count n words.old }
 {
-    let mut i = n;
     let mut next = 0;
     let mut freed = 0;
-    while 0 < i {
-        let state = pool::read_cell(words, i, Pool::STATE);
-        if state == Pool::MARKED_POINT {
-            pool::write_cell(words, i, Pool::STATE, Pool::POINT);
-            i -= 1;
-        } else if state == Pool::MARKED_PAIR {
-            pool::write_cell(words, i, Pool::STATE, Pool::PAIR);
-            i -= 1;
-        } else {
-            pool::put_cell(words, i, Pool::FREE, next, 0, 0);
-            next = i;
-            freed += 1;
-            i -= 1;
+    for i in (0..n).rev() {
+        match pool::read_cell(words, i + 1, Pool::STATE) {
+            Pool::MARKED_POINT => pool::write_cell(words, i + 1, Pool::STATE, Pool::POINT),
+            Pool::MARKED_PAIR => pool::write_cell(words, i + 1, Pool::STATE, Pool::PAIR),
+            _ => {
+                let free = Cell {
+                    state: Pool::FREE,
+                    left: next,
+                    right: 0,
+                    value: 0,
+                };
+                pool::put_cell(words, i + 1, free);
+                next = i + 1;
+                freed += 1;
+            }
         }
     }
     pool::write_head(words, next);

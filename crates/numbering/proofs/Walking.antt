@@ -19,7 +19,7 @@ use Rattle.graph.proofs.Marks.{outside-nil, outside-cell, marks-append, marks_ca
 use Rattle.graph.proofs.Walk.{Walk, order-walk}
 use Rattle.graph.proofs.Theorems.{preorder-length}
 use Rattle.pool.specs.Layout.{register, link_of, graph_of, roots_of}
-use Rattle.pool.proofs.Every.{length-tabulate, get_d_tabulate}
+use Rattle.pool.proofs.Every.{length-tabulate, get_or-tabulate}
 use Rattle.questions.proofs.WellFormed.{Link, WellFormed}
 use Rattle.questions.proofs.PoolGraph.{Used, link_bound, used-links, pool-within}
 use Rattle.reversal.specs.Reached.{reached_cells, reached_count}
@@ -262,7 +262,7 @@ module _ (R n : ℕ) (w : List ℕ) (well : WellFormed R n w) where
           next-root : drop root (roots_of R w) ≡ register w root ∷ drop (root + 1) (roots_of R w)
           next-root =
               drop-cons (roots_of R w) root 0 (omega (arith, length-tabulate R (λ j. register w j)))
-              ∙ rw (get_d_tabulate R (λ j. register w j) root 0 more, add-one root)
+              ∙ rw (get_or-tabulate R (λ j. register w j) root 0 more, add-one root)
 
       pub walking_end : depth ≤ 0 → R ≤ root → (count ≡ reached_count R n w) × Numbered R n w s
       walking_end none last =

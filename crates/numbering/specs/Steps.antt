@@ -1,5 +1,6 @@
 -- The numbering of the reached cells in lent scratch: the first n words hold each cell's number, the next n the cell of each number.
 use Rattle.std.specs.Prelude.{ℕ, ◌+◌, ◌-◌, ◌*◌, ◌<◌, ◌≤◌, ◌≡◌, List, Bool, true, not, ◌&&◌, length, get_or, replicate, eqb}
+use Rattle.std.specs.Coded.{le_prop, Coded-set, coded_bool, coded_ℕ}
 use Rattle.pool.specs.Layout.{cell_limit, pool_length}
 use Rattle.questions.specs.Validity.{well_formed}
 use Rattle.reversal.specs.Reached.{reached_cells, reached_count}
@@ -38,3 +39,22 @@ pub record Listed (n : ℕ) (s t : List ℕ) : Type 0 where
 pub record Ordered (R n : ℕ) (w s : List ℕ) : Type 0 where
   pub numbers : Numbered R n w s
   pub cells : (p : ℕ) → p < reached_count R n w → get_or s (n + p) 0 ≡ get_or (reached_cells R n w) p 0
+
+-- Of either of these any two proofs are equal, as it has to be of what a struct always holds.
+pub Savable-prop : {R n : ℕ} {w : List ℕ} {s : ℕ} → IsProp (Savable R n w s)
+Savable-prop a b =
+    λ j.
+    record {
+      most = le_prop a.most b.most j;
+      room = le_prop a.room b.room j;
+      scratch = le_prop a.scratch b.scratch j;
+      is_well_formed = Coded-set coded_bool _ _ a.is_well_formed b.is_well_formed j;
+    }
+
+pub Ordered-prop : {R n : ℕ} {w s : List ℕ} → IsProp (Ordered R n w s)
+Ordered-prop a b =
+    λ j.
+    record {
+      numbers = λ x low high. Coded-set coded_ℕ _ _ (a.numbers x low high) (b.numbers x low high) j;
+      cells = λ p below. Coded-set coded_ℕ _ _ (a.cells p below) (b.cells p below) j;
+    }

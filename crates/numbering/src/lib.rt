@@ -30,6 +30,7 @@ fn number_cells(words: &[u32], scratch: &mut [u32], n: u32) -> u32
     let mut depth = 0;
     let mut count = 0;
     let mut root = 0;
+    // Not a `for` over the registers: most turns take no next register, but follow a link or take one off the stack.
     loop {
         if unnumbered(scratch, hand) {
             let left = pool::link_of(words, hand, Pool::LEFT);
@@ -57,19 +58,16 @@ fn list_cells(scratch: &mut [u32], n: u32)
     ensures { Listed n scratch.old scratch.new }
 {
     let base = n as usize;
-    let mut i = n;
-    while 0 < i {
-        let number = scratch[i as usize - 1];
-        if number == 0 {
-            i -= 1;
-        } else {
-            scratch[base + (number as usize - 1)] = i;
-            i -= 1;
+    for i in (0..n).rev() {
+        let number = scratch[i as usize];
+        if number != 0 {
+            scratch[base + (number as usize - 1)] = i + 1;
         }
     }
 }
 
-// Fills the scratch with the number of each cell and the cell of each number. Gives the number of cells.
+// Fills the scratch with the number of each cell and the cell of each number. Gives the number of cells. The pool and the scratch are no struct here, as they
+// are once all is numbered: what it had to keep of the scratch would change with each step.
 pub fn order_cells(words: &[u32], scratch: &mut [u32], n: u32) -> u32
     requires { Savable register_count n words.now (length scratch.old) }
     ensures { (result ≡ reached_count register_count n words.now) × Ordered register_count n words.now scratch.new }

@@ -8,13 +8,14 @@ use mathlib.Core.Bool.{Bool, true, false, cond, false≢true}
 use borrow.Author.Tests.{lt-ltb}
 use Rattle.graph.proofs.Marks.{zero_or_above}
 use Rattle.pool.specs.Layout.{register_count, register, set_register, cell, is_point_at}
+use Rattle.questions.proofs.Admission.{Registers}
 use Rattle.questions.specs.Questions.{are_registers}
 use Rattle.questions.proofs.WellFormed.{Link}
 use Rattle.answers.specs.Outcome.{Outcome, answered, refused, status, given}
 use Rattle.operations.specs.Operations.{coordinate_in}
 use Rattle.calls.specs.declared.Call.{Call}
 use Rattle.calls.specs.declared.Call.TheVariants as call
-use Rattle.calls.specs.Calls.{names, registers_of, body_of, call_of}
+use Rattle.calls.specs.Calls.{registers_of, body_of, call_of}
 use Rattle.batch.specs.Run.{answers_of}
 use Rattle.invariant.proofs.Standing.{Standing, called, on_nil, on_cell_lem, on_kind_lem, each_link, standing_set_register}
 use Rattle.observation.specs.Reads.{is_read, are_reads, AnswerAlike}
@@ -29,8 +30,9 @@ pub flip : {N M : ℕ} {w v : List ℕ} → Alike N M w v → Alike M N v w
 flip a = record { first = a.second; second = a.first; answers = λ calls reads. sym (a.answers calls reads) }
 
 -- Registers that there are.
-pub there : (r a : ℕ) → r < register_count → a < register_count → are_registers (names r a a) ≡ true
-there r a hr ha = simp (lt-ltb r register_count hr, lt-ltb a register_count ha)
+pub there : (named : List ℕ) → Registers named → are_registers named ≡ true
+there [] h = refl
+there (k ∷ rest) h = simp (lt-ltb k register_count h.0) (there rest h.1)
 
 module _ {N M : ℕ} {w v : List ℕ} (a : Alike N M w v) (c : Call) (read : is_read c ≡ true) (asked : are_registers (registers_of c) ≡ true) where
   -- One read is answered alike,
@@ -77,7 +79,7 @@ module _ {N M : ℕ} {w v : List ℕ} (a : Alike N M w v) (k : ℕ) (low : k < r
   nil_too e =
       ⊎_elim (λ z. z)
       (λ some.
-      let answers = said a (call.Value k) refl (there k k low low) in
+      let answers = said a (call.Value k) refl (there (k ∷ []) (low, tt)) in
       let differ = rw (on_nil a.first k low e _, on_cell_lem a.second k low some _) at answers in
       absurd (omega (arith, ap status differ)))
       (zero_or_above (register v k))
@@ -100,11 +102,11 @@ module _ {N M : ℕ} {w v : List ℕ} (a : Alike N M w v) (k : ℕ) (low : k < r
         record {
           kind = east.0;
           value = ap (λ (o : Outcome). given o 0 0)
-              (rw (on_cell_lem a.first k low some _, on_cell_lem a.second k low some' _) at (said a (call.Value k) refl (there k k low low)));
+              (rw (on_cell_lem a.first k low some _, on_cell_lem a.second k low some' _) at (said a (call.Value k) refl (there (k ∷ []) (low, tt))));
           coordinates = λ point f both.
               each_link (λ f. cell register_count w (register w k) f ≡ cell register_count v (register v k) f) (east.1 point)
-              ((coordinate_told (call.North k) 2 refl (there k k low low) (λ n u. refl)).1 point) f both.0 both.1;
+              ((coordinate_told (call.North k) 2 refl (there (k ∷ []) (low, tt)) (λ n u. refl)).1 point) f both.0 both.1;
         }
       where
         east : Told 1
-        east = coordinate_told (call.East k) 1 refl (there k k low low) λ n u. refl
+        east = coordinate_told (call.East k) 1 refl (there (k ∷ []) (low, tt)) λ n u. refl

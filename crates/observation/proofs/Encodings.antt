@@ -7,6 +7,8 @@ use mathlib.Core.List.{List, [], ◌∷◌, ◌++◌, append_assoc, flat_map}
 use lib.ListN.{length, get_or}
 use Rattle.leb128.specs.Leb128.{groups, encode}
 use Rattle.leb128.proofs.Encoding.{groups-last, groups-more}
+use Rattle.image.specs.Kinds.{kind_number, kind_numbered}
+use Rattle.image.proofs.Images.{kind_renumbered}
 use Rattle.image.specs.Image.{Image, cell_bytes, image_bytes}
 
 -- Two lists that begin with an encoding each begin with the same, and go on alike.
@@ -56,11 +58,12 @@ each_decodable code one (x ∷ xs) (y ∷ ys) e a b same =
 
 cell_decodable : Decodable cell_bytes
 cell_decodable c d a b e =
-    let kind = encode_decodable c.kind d.kind _ _ (simp append_assoc at e) in
+    let kind = encode_decodable (kind_number c.kind) (kind_number d.kind) _ _ (simp append_assoc at e) in
     let left = encode_decodable c.left d.left _ _ kind.1 in
     let right = encode_decodable c.right d.right _ _ left.1 in
     let value = encode_decodable c.value d.value _ _ right.1 in
-    (λ j. record { kind = kind.0 j; left = left.0 j; right = right.0 j; value = value.0 j }, value.1)
+    let same-kind = sym (kind_renumbered c.kind) ∙ ap kind_numbered kind.0 ∙ kind_renumbered d.kind in
+    (λ j. record { kind = same-kind j; left = left.0 j; right = right.0 j; value = value.0 j }, value.1)
 
 -- The bytes of two images with as many registers.
 pub image-one_to_one : (i k : Image) → length i.registers ≡ length k.registers → image_bytes i ≡ image_bytes k → i ≡ k

@@ -15,11 +15,12 @@ use Rattle.graph.proofs.Theorems.{preorder-reached, preorder-distinct}
 use Rattle.graph.proofs.Pairing.{paired_reach, preorder-paired, length-paired}
 use Rattle.pool.specs.Layout.{register_count, register, cell, is_point_at, link_of, graph_of, roots_of}
 use Rattle.pool.proofs.Links.{link-pair}
-use Rattle.pool.proofs.Every.{length-tabulate, get_d_tabulate}
+use Rattle.pool.proofs.Every.{length-tabulate, get_or-tabulate}
 use Rattle.questions.proofs.WellFormed.{WellFormed}
 use Rattle.questions.proofs.PoolGraph.{pool-within}
 use Rattle.reversal.specs.Reached.{reached_cells}
-use Rattle.image.specs.Image.{kind_of, number_in, saved_word, saved_cell, saved_image}
+use Rattle.image.specs.Kinds.{kind_of}
+use Rattle.image.specs.Image.{number_in, saved_word, saved_cell, saved_image}
 use Rattle.load.proofs.Putting.{no_cell}
 use Rattle.numbering.proofs.Numbering.{number-member, Placed, number_placed, number_at}
 use Rattle.numbering.proofs.PoolNumbers.{reached-member, nil-number}
@@ -69,7 +70,7 @@ module _ (n m : ℕ) (w v : List ℕ) (well : WellFormed register_count n w) (we
         held k low =
             let root : PairedLinks w v (get_or (roots_of register_count w) k 0) (get_or (roots_of register_count v) k 0) =
             Paired.root k (omega (arith, length-tabulate register_count (λ j. register w j))) in
-            rw (get_d_tabulate register_count (λ j. register w j) k 0 low, get_d_tabulate register_count (λ j. register v j) k 0 low) at root
+            rw (get_or-tabulate register_count (λ j. register w j) k 0 low, get_or-tabulate register_count (λ j. register v j) k 0 low) at root
 
     -- Two cells that are paired are saved as the same.
     same-cell : (x y : ℕ) → PairedLinks w v x y → 0 < x → 0 < y → saved_cell register_count w order x ≡ saved_cell register_count v order' y

@@ -13,8 +13,9 @@ use Rattle.pool.proofs.Every.{member-tabulate}
 use Rattle.questions.proofs.WellFormed.{WellFormed}
 use Rattle.invariant.proofs.Standing.{each_link}
 use Rattle.reversal.specs.Reached.{reached_cells}
+use Rattle.pool.specs.States.{is_point_kind}
 use Rattle.image.specs.declared.ImageCell.{ImageCell}
-use Rattle.image.specs.Image.{is_point_kind, Image, number_in, saved_word, saved_cell, saved_image}
+use Rattle.image.specs.Image.{Image, number_in, saved_word, saved_cell, saved_image}
 use Rattle.load.proofs.Putting.{no_cell}
 use Rattle.numbering.proofs.Numbering.{number-member, number_placed}
 use Rattle.numbering.proofs.PoolNumbers.{NilOrReached, reached-member, nil-number, number-nil, number-one}

@@ -13,8 +13,8 @@ use Rattle.graph.proofs.Marks.{zero_or_above}
 use Rattle.pool.specs.Layout.{register_count, register, set_register, cell, value, is_point_at, link_of, graph_of, roots_of}
 use Rattle.pool.proofs.Laws.{cell-set_register, register_other}
 use Rattle.pool.proofs.Links.{link-pair}
+use Rattle.questions.proofs.Admission.{Among}
 use Rattle.pool.proofs.Sizes.{both}
-use Rattle.questions.specs.declared.Named.{Named}
 use Rattle.questions.specs.Questions.{are_registers}
 use Rattle.questions.proofs.WellFormed.{Link, link_made}
 use Rattle.answers.specs.Outcome.{Outcome, answered, refused}
@@ -47,12 +47,6 @@ pub record Related (S F : ℕ → Type 0) (P : ℕ → ℕ → Type 0) (w v : Li
   pub registers : (k : ℕ) → S k → P (register w k) (register v k)
   pub content : (x y : ℕ) → P x y → 0 < x → 0 < y → SameContent F w v x y
   pub links : (x y : ℕ) → P x y → 0 < x → 0 < y → (f : ℕ) → 0 < f → f < 3 → P (link_of register_count w x f) (link_of register_count v y f)
-
--- The registers that a call names are of that set.
-pub record Among (S : ℕ → Type 0) (named : Named) : Type 0 where
-  pub first : S named.first
-  pub second : S named.second
-  pub third : S named.third
 
 -- What a read needs to answer alike, beside that the pools are related: east and north the field that they read, same that no two links are related with one.
 pub record Needs (F : ℕ → Type 0) (P : ℕ → ℕ → Type 0) (c : Call) : Type 0 where
@@ -187,20 +181,20 @@ module _ (S F : ℕ → Type 0) (P : ℕ → ℕ → Type 0) (N M : ℕ) where
             rw (ne_eqb (register w a) (register w b) e, ne_eqb (register v a) (register v b) apart)
 
     body_step : (c : Call) → is_read c ≡ true → Needs F P c → Among S (registers_of c) → Step (body_of c N w) (body_of c M v)
-    body_step (call.Copy r a) e n h = copy_step r a h.first h.second
-    body_step (call.Clear r) e n h = set-step r 0 0 (low r h.first) (Link.nil refl) (Link.nil refl) rel.nil
+    body_step (call.Copy r a) e n h = copy_step r a h.0 h.1.0
+    body_step (call.Clear r) e n h = set-step r 0 0 (low r h.0) (Link.nil refl) (Link.nil refl) rel.nil
     body_step (call.New r a b v) e n h = absurd (false≢true e)
-    body_step (call.Left r a) e n h = follow_step 1 (omega arith) (omega arith) r a h.first h.second
-    body_step (call.Right r a) e n h = follow_step 2 (omega arith) (omega arith) r a h.first h.second
+    body_step (call.Left r a) e n h = follow_step 1 (omega arith) (omega arith) r a h.0 h.1.0
+    body_step (call.Right r a) e n h = follow_step 2 (omega arith) (omega arith) r a h.0 h.1.0
     body_step (call.SetLeft a b) e n h = absurd (false≢true e)
     body_step (call.SetRight a b) e n h = absurd (false≢true e)
     body_step (call.SetValue a v) e n h = absurd (false≢true e)
-    body_step (call.Value a) e n h = value-step a h.first
-    body_step (call.Same a b) e n h = same_step (n.same a b refl) a b h.first h.second
+    body_step (call.Value a) e n h = value-step a h.0
+    body_step (call.Same a b) e n h = same_step (n.same a b refl) a b h.0 h.1.0
     body_step call.Collect e n h = absurd (false≢true e)
     body_step (call.Point r v x y) e n h = absurd (false≢true e)
-    body_step (call.East a) e n h = coordinate_step 1 (n.east a refl) a h.first
-    body_step (call.North a) e n h = coordinate_step 2 (n.north a refl) a h.first
+    body_step (call.East a) e n h = coordinate_step 1 (n.east a refl) a h.0
+    body_step (call.North a) e n h = coordinate_step 2 (n.north a refl) a h.0
 
     -- A read that names registers of the set, or one that there is not.
     call_step : (c : Call) → is_read c ≡ true → Needs F P c → (are_registers (registers_of c) ≡ true → Among S (registers_of c)) → Step (call_of c w) (call_of c v)

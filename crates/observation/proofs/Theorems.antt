@@ -48,7 +48,7 @@ related_alike {n} {m} F P pool other rel calls reads needs =
     related_answers (λ k. k < register_count) F P n m (λ k low. low) calls reads
     (λ c mem. (
       needs c mem,
-      λ there. let named = registers_there (registers_of c) there in record { first = named.first; second = named.second; third = named.third },
+      λ there. registers_there (registers_of c) there,
     ))
     (standing pool) (standing other) rel
 

@@ -13,7 +13,7 @@ use Rattle.pool.specs.Layout.{register_count, first_register, register, set_regi
 use Rattle.pool.specs.States.{is_point}
 use Rattle.pool.proofs.Laws.{cell-set_register, register_other}
 use Rattle.pool.proofs.Links.{link-pair, link-point, link-same}
-use Rattle.pool.proofs.Every.{length-tabulate, get_d_tabulate}
+use Rattle.pool.proofs.Every.{length-tabulate, get_or-tabulate}
 use Rattle.questions.specs.Questions.{are_registers}
 use Rattle.questions.proofs.WellFormed.{Link, link_made}
 use Rattle.answers.specs.Outcome.{Outcome, answered, given}
@@ -66,10 +66,10 @@ record Follows (f : ℕ) (c : ℕ → Call) : Type 0 where
   does : (t n : ℕ) (u : List ℕ) → body_of (c t) n u ≡ follow_in n u f t t
 
 left-follows : Follows 1 (λ t. call.Left t t)
-left-follows = record { above = omega arith; below = omega arith; read = λ t. refl; asked = λ t low. there t t low low; does = λ t n u. refl }
+left-follows = record { above = omega arith; below = omega arith; read = λ t. refl; asked = λ t low. there (t ∷ t ∷ []) (low, (low, tt)); does = λ t n u. refl }
 
 right-follows : Follows 2 (λ t. call.Right t t)
-right-follows = record { above = omega arith; below = omega arith; read = λ t. refl; asked = λ t low. there t t low low; does = λ t n u. refl }
+right-follows = record { above = omega arith; below = omega arith; read = λ t. refl; asked = λ t low. there (t ∷ t ∷ []) (low, (low, tt)); does = λ t n u. refl }
 
 -- The pools after the links of both cells that register t holds are put there, in the place of the cells: those of points by `clear`.
 follow_alike : {N M : ℕ} {w v : List ℕ} → Alike N M w v → (t : ℕ) → t < register_count → {f : ℕ} {c : ℕ → Call} → Follows f c → 0 < register w t
@@ -83,7 +83,7 @@ follow_alike {N} {M} {w} {v} a t low {f} {c} by some some' = go (is_point_at reg
         → Alike N M (set_register w t (link_of register_count w (register w t) f)) (set_register v t (link_of register_count v (register v t) f))
     go true is =
         rw (link-point register_count w (register w t) f is, link-point register_count v (register v t) f (sym kind ∙ is))
-        (set-alike a (call.Clear t) refl (there t t low low) t 0 0 low (Link.nil refl) (Link.nil refl) refl refl)
+        (set-alike a (call.Clear t) refl (there (t ∷ []) (low, tt)) t 0 0 low (Link.nil refl) (Link.nil refl) refl refl)
     go false is =
         let one = follow_there a.first t f low by.above by.below some is in
         let two = follow_there a.second t f low by.above by.below some' (sym kind ∙ is) in
@@ -105,7 +105,7 @@ module _ (N M : ℕ) (w v : List ℕ) where
         low = below;
         walk = λ w' v' same same' e e' t low a.
             rw (e, e') at
-            (set-alike a (call.Copy t i) refl (there t i low below) t (register w' i) (register v' i) low
+            (set-alike a (call.Copy t i) refl (there (t ∷ i ∷ []) (low, (below, tt))) t (register w' i) (register v' i) low
             (a.first.well.registers i below) (a.second.well.registers i below)
             (rw (holds_link_lem a.first i below) refl) (rw (holds_link_lem a.second i below) refl));
       }
@@ -132,7 +132,7 @@ module _ (N M : ℕ) (w v : List ℕ) where
   walkable : {x y : ℕ} → PairedLinks w v x y → Walkable x y
   walkable (Paired.root i below) =
       let low : i < register_count = omega (arith, length-tabulate register_count (λ k. register w k)) in
-      rw (get_d_tabulate register_count (λ k. register w k) i 0 low, get_d_tabulate register_count (λ k. register v k) i 0 low) (walk-root i low)
+      rw (get_or-tabulate register_count (λ k. register w k) i 0 low, get_or-tabulate register_count (λ k. register v k) i 0 low) (walk-root i low)
   walkable (Paired.left p hx hy) = walk-link (walkable p) hx hy left-follows
   walkable (Paired.right p hx hy) = walk-link (walkable p) hx hy right-follows
 
@@ -166,7 +166,7 @@ module _ (N M : ℕ) (w v : List ℕ) where
     -- Two walks meet in both pools or in none: the second goes first, in another register than the one where the first starts, and `same` compares the two.
     meet : {x y x' y' : ℕ} → Walkable x y → Walkable x' y' → (x ≡ x') ↔ (y ≡ y')
     meet {x} {y} {x'} {y'} p q =
-        let told = said first (call.Same k s) refl (there k s p.low other.0) in
+        let told = said first (call.Same k s) refl (there (k ∷ s ∷ []) (p.low, (other.0, tt))) in
         tests (rw (
           holds_link_lem first.first k p.low,
           holds_link_lem first.first s other.0,

@@ -4,19 +4,18 @@ use native.Mathlib.Omega.{arith}
 use mathlib.Core.Path.{◌≡◌, refl, sym, ap, ◌∙◌}
 use mathlib.Core.List.{List, [], ◌∷◌}
 use mathlib.Core.Bool.{Bool, true, false, cond, not}
-use mathlib.Core.Logic.{◌⊎◌, inl, inr}
 use lib.Dec.{eqb}
+use Rattle.std.specs.Int.{from_bool}
+use Rattle.answers.proofs.Flags.{flag_number}
 use borrow.Author.Tests.{eq-eqb, ne_eqb, eqb-false}
 use Rattle.pool.specs.Layout.{register_count, register, set_register, cell, set_cell, state}
-use Rattle.pool.specs.States.{pair_state, point_state, is_used}
-use Rattle.pool.proofs.States.{used_is, pair_is, point_is}
+use Rattle.pool.specs.States.{is_used}
 use Rattle.questions.specs.Validity.{valid_link}
 use Rattle.questions.specs.Questions.{holds_link}
 use Rattle.answers.specs.Outcome.{Outcome, answered, refused, refusal_number}
 use Rattle.answers.specs.declared.Refusal.{Refusal}
 use Rattle.answers.specs.declared.Refusal.TheVariants as refusal
-use Rattle.operations.specs.declared.HeldCell.{HeldCell}
-use Rattle.operations.specs.declared.HeldCell.TheVariants as held_cell
+use Rattle.std.proofs.Common.{Result, Ok, Err}
 use Rattle.operations.specs.Operations.{held_cell_of, is_of_kind, of_kind, held_kind_of, cell_to, with_kind, copy_in, link_in, same_in}
 use Rattle.questions.proofs.RegisterLinks.{Holds, holds_cell}
 
@@ -24,20 +23,17 @@ module _ (n : ℕ) (w : List ℕ) {a x : ℕ} (h : Holds n w a x) where
   pub copied : (r : ℕ) {w' : List ℕ} → w' ≡ set_register w r x → (answered [], w') ≡ copy_in n w r a
   copied r e = simp (h.link, h.valid, e)
 
-  pub same-link : {b y : ℕ} → Holds n w b y → x ≡ y → (answered (1 ∷ []), w) ≡ same_in n w a b
-  same-link {y = y} k e = simp (h.link, k.link, h.valid, k.valid, eq-eqb x y e)
-
-  pub other_link : {b y : ℕ} → Holds n w b y → (x ≡ y → ⊥) → (answered (0 ∷ []), w) ≡ same_in n w a b
-  other_link {y = y} k e = simp (h.link, k.link, h.valid, k.valid, ne_eqb x y e)
+  pub same_told : {b y : ℕ} → Holds n w b y → {q : ℕ} → q ≡ from_bool (eqb x y) → (answered (q ∷ []), w) ≡ same_in n w a b
+  same_told {y = y} k e = simp (h.link, k.link, h.valid, k.valid) (ap (λ (v : ℕ). (answered (v ∷ []), w)) (e ∙ flag_number (eqb x y)))
 
   pub same-malformed : (b : ℕ) → holds_link n w b ≡ false → (refused 3, w) ≡ same_in n w a b
   same-malformed b not = simp (not, h.link, h.valid)
 
   -- Whether that link leads to a cell.
-  pub held-nil : x ≡ 0 → held_cell.Refused refusal.Nil ≡ held_cell_of n w a
+  pub held-nil : x ≡ 0 → Err refusal.Nil ≡ held_cell_of n w a
   held-nil nil = simp (h.link, h.valid) (simp (eq-eqb x 0 nil))
 
-  pub held-cell : (x ≡ 0 → ⊥) → held_cell.Cell x ≡ held_cell_of n w a
+  pub held-cell : (x ≡ 0 → ⊥) → Ok x ≡ held_cell_of n w a
   held-cell some = simp (h.link, h.valid) (simp (ne_eqb x 0 some))
 
   -- setleft and setright, where that link is the one to be stored in b's cell.
@@ -45,12 +41,12 @@ module _ (n : ℕ) (w : List ℕ) {a x : ℕ} (h : Holds n w a x) where
   stored field b e = simp (h.link, h.valid) e
 
 -- What follows the question whether a holds a cell.
-module _ (n : ℕ) (w : List ℕ) (a : ℕ) {q : HeldCell} (read : q ≡ held_cell_of n w a) where
-  pub cell-used : {x : ℕ} → q ≡ held_cell.Cell x → (0 < x) × (x ≤ n) × (is_used (state register_count w x) ≡ true)
+module _ (n : ℕ) (w : List ℕ) (a : ℕ) {q : Result ℕ Refusal} (read : q ≡ held_cell_of n w a) where
+  pub cell-used : {x : ℕ} → q ≡ Ok x → (0 < x) × (x ≤ n) × (is_used (state register_count w x) ≡ true)
   cell-used {x} told = go (holds_link n w a) (eqb (register w a) 0) refl refl (sym read ∙ told)
     where
       go : (s t : Bool) → holds_link n w a ≡ s → eqb (register w a) 0 ≡ t
-          → cond s (cond t (held_cell.Refused refusal.Nil) (held_cell.Cell (register w a))) (held_cell.Refused refusal.Malformed) ≡ held_cell.Cell x
+          → cond s (cond t (Err refusal.Nil) (Ok (register w a))) (Err refusal.Malformed) ≡ Ok x
           → (0 < x) × (x ≤ n) × (is_used (state register_count w x) ≡ true)
       go true true valid nil same = let z : ◌≡◌ {A = ℕ} 0 1 = cc in absurd (omega arith)
       go true false valid some same =
@@ -59,49 +55,37 @@ module _ (n : ℕ) (w : List ℕ) (a : ℕ) {q : HeldCell} (read : q ≡ held_ce
           holds_cell holds (rw link at (eqb-false (register w a) 0 some))
       go false t valid nil same = let z : ◌≡◌ {A = ℕ} 0 1 = cc in absurd (omega arith)
 
-  pub cell_there : {x : ℕ} → q ≡ held_cell.Cell x → (0 < x) × (x ≤ n)
+  pub cell_there : {x : ℕ} → q ≡ Ok x → (0 < x) × (x ≤ n)
   cell_there told = ((cell-used told).0, (cell-used told).1)
 
--- What the state of a used cell says of its kind.
-module _ (point : Bool) (w : List ℕ) (x : ℕ) (used : is_used (state register_count w x) ≡ true) where
-  pub kind-point : state register_count w x ≡ point_state → point ≡ is_of_kind point w x
-  kind-point e = rw (point_is (state register_count w x) e).1
-
-  pub kind-pair : (state register_count w x ≡ point_state → ⊥) → not point ≡ is_of_kind point w x
-  kind-pair other = go (used_is (state register_count w x) used)
-    where
-      go : (state register_count w x ≡ pair_state) ⊎ (state register_count w x ≡ point_state) → not point ≡ is_of_kind point w x
-      go (inl e) = rw (pair_is (state register_count w x) e).1
-      go (inr e) = absurd (other e)
-
 -- What follows the question of which kind it is.
-module _ (point : Bool) (n : ℕ) (w : List ℕ) (a : ℕ) {q : HeldCell} (read : q ≡ held_kind_of point n w a) where
-  pub kind_there : {x : ℕ} → q ≡ held_cell.Cell x → (0 < x) × (x ≤ n)
+module _ (point : Bool) (n : ℕ) (w : List ℕ) (a : ℕ) {q : Result ℕ Refusal} (read : q ≡ held_kind_of point n w a) where
+  pub kind_there : {x : ℕ} → q ≡ Ok x → (0 < x) × (x ≤ n)
   kind_there {x} told = go (held_cell_of n w a) refl (sym read ∙ told)
     where
-      go : (h : HeldCell) → h ≡ held_cell_of n w a → of_kind point w h ≡ held_cell.Cell x → (0 < x) × (x ≤ n)
-      go (held_cell.Cell y) e same = of (is_of_kind point w y) same
+      go : (h : Result ℕ Refusal) → h ≡ held_cell_of n w a → of_kind point w h ≡ Ok x → (0 < x) × (x ≤ n)
+      go (Ok y) e same = of (is_of_kind point w y) same
         where
-          of : (t : Bool) → cond t (held_cell.Cell y) (held_cell.Refused refusal.Kind) ≡ held_cell.Cell x → (0 < x) × (x ≤ n)
+          of : (t : Bool) → cond t (Ok y) (Err refusal.Kind) ≡ Ok x → (0 < x) × (x ≤ n)
           of true h = cell_there n w a e h
           of false h = let z : ◌≡◌ {A = ℕ} 0 1 = cc in absurd (omega arith)
-      go (held_cell.Refused k) e same = let z : ◌≡◌ {A = ℕ} 0 1 = cc in absurd (omega arith)
+      go (Err k) e same = let z : ◌≡◌ {A = ℕ} 0 1 = cc in absurd (omega arith)
 
 -- The kind of the cell that is held, once it is asked.
-module _ (point : Bool) (n : ℕ) (w : List ℕ) (a : ℕ) {q : HeldCell} (read : q ≡ held_cell_of n w a) where
-  pub kind-told : {x : ℕ} → q ≡ held_cell.Cell x → {t : Bool} → t ≡ is_of_kind point w x
-      → cond t (held_cell.Cell x) (held_cell.Refused refusal.Kind) ≡ held_kind_of point n w a
-  kind-told {x} told e = ap (λ (t : Bool). cond t (held_cell.Cell x) (held_cell.Refused refusal.Kind)) e ∙ ap (of_kind point w) (sym told ∙ read)
+module _ (point : Bool) (n : ℕ) (w : List ℕ) (a : ℕ) {q : Result ℕ Refusal} (read : q ≡ held_cell_of n w a) where
+  pub kind-told : {x : ℕ} → q ≡ Ok x → {t : Bool} → t ≡ is_of_kind point w x
+      → cond t (Ok x) (Err refusal.Kind) ≡ held_kind_of point n w a
+  kind-told {x} told e = ap (λ (t : Bool). cond t (Ok x) (Err refusal.Kind)) e ∙ ap (of_kind point w) (sym told ∙ read)
 
-  pub kind-none : {k : Refusal} → q ≡ held_cell.Refused k → held_cell.Refused k ≡ held_kind_of point n w a
+  pub kind-none : {k : Refusal} → q ≡ Err k → Err k ≡ held_kind_of point n w a
   kind-none told = ap (of_kind point w) (sym told ∙ read)
 
 -- The body runs on the cell that is found, and not where none is.
-module _ (w : List ℕ) {h q : HeldCell} (read : q ≡ h) (body : ℕ → Outcome × List ℕ) where
-  pub with_cell_lem : {x : ℕ} → q ≡ held_cell.Cell x → {p : Outcome × List ℕ} → p ≡ body x → p ≡ cell_to w body h
+module _ (w : List ℕ) {h q : Result ℕ Refusal} (read : q ≡ h) (body : ℕ → Outcome × List ℕ) where
+  pub with_cell_lem : {x : ℕ} → q ≡ Ok x → {p : Outcome × List ℕ} → p ≡ body x → p ≡ cell_to w body h
   with_cell_lem told done = done ∙ ap (cell_to w body) (sym told ∙ read)
 
-  pub with_none : {k : Refusal} → q ≡ held_cell.Refused k → (refused (refusal_number k), w) ≡ cell_to w body h
+  pub with_none : {k : Refusal} → q ≡ Err k → (refused (refusal_number k), w) ≡ cell_to w body h
   with_none told = ap (cell_to w body) (sym told ∙ read)
 
 -- left and right, on cell x, whose link was read.

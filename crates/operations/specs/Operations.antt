@@ -1,13 +1,12 @@
 -- The bodies of the calls but `new`, `point` and `collect`: what each call answers and leaves behind the first two questions, on a pool of n cells (01,
 -- "The eleven calls" and "Questions, in order"; 02, S-8).
-use Rattle.std.specs.Prelude.{ℕ, List, [], ◌∷◌, Bool, true, false, cond, ◌&&◌, not, eqb}
+use Rattle.std.specs.Prelude.{ℕ, List, [], ◌∷◌, Bool, true, false, cond, ◌&&◌, not, eqb, Result, Ok, Err}
 use Rattle.pool.specs.Layout.{register_count, register, set_register, cell, set_cell, value, is_point_at}
 use Rattle.questions.specs.Validity.{valid_link}
 use Rattle.questions.specs.Questions.{holds_link}
+use Rattle.answers.specs.declared.Refusal.{Refusal}
 use Rattle.answers.specs.declared.Refusal.TheVariants as refusal
 use Rattle.answers.specs.Outcome.{Outcome, answered, refused, refusal_number}
-use Rattle.operations.specs.declared.HeldCell.{HeldCell}
-use Rattle.operations.specs.declared.HeldCell.TheVariants as held_cell
 
 -- "copy r a": r gets what a holds, which must be sound (3).
 abbrev pub copy_in : ℕ → List ℕ → ℕ → ℕ → Outcome × List ℕ
@@ -18,27 +17,27 @@ abbrev pub clear_in : List ℕ → ℕ → Outcome × List ℕ
 clear_in w r = (answered [], set_register w r 0)
 
 -- The cell that a holds: "Are the registers read sound? .. No: 3", and then "does a hold a cell? No: 4."
-abbrev pub held_cell_of : ℕ → List ℕ → ℕ → HeldCell
+abbrev pub held_cell_of : ℕ → List ℕ → ℕ → Result ℕ Refusal
 held_cell_of n w a =
-    cond (holds_link n w a) (cond (eqb (register w a) 0) (held_cell.Refused refusal.Nil) (held_cell.Cell (register w a))) (held_cell.Refused refusal.Malformed)
+    cond (holds_link n w a) (cond (eqb (register w a) 0) (Err refusal.Nil) (Ok (register w a))) (Err refusal.Malformed)
 
 -- Is cell x of the kind that is asked for, a point or a pair?
 abbrev pub is_of_kind : Bool → List ℕ → ℕ → Bool
 is_of_kind point w x = cond (is_point_at register_count w x) point (not point)
 
 -- "13 where left, right or a link change meets a point, or east or north a pair, directly after 4" (02, S-8).
-abbrev pub of_kind : Bool → List ℕ → HeldCell → HeldCell
-of_kind point w (held_cell.Cell x) = cond (is_of_kind point w x) (held_cell.Cell x) (held_cell.Refused refusal.Kind)
-of_kind point w (held_cell.Refused k) = held_cell.Refused k
+abbrev pub of_kind : Bool → List ℕ → Result ℕ Refusal → Result ℕ Refusal
+of_kind point w (Ok x) = cond (is_of_kind point w x) (Ok x) (Err refusal.Kind)
+of_kind point w (Err k) = Err k
 
 -- The cell that a holds, where it is of that kind.
-abbrev pub held_kind_of : Bool → ℕ → List ℕ → ℕ → HeldCell
+abbrev pub held_kind_of : Bool → ℕ → List ℕ → ℕ → Result ℕ Refusal
 held_kind_of point n w a = of_kind point w (held_cell_of n w a)
 
 -- The body runs on a cell; where there is none, "A refusal gives its number alone .. and changes nothing".
-abbrev pub cell_to : List ℕ → (ℕ → Outcome × List ℕ) → HeldCell → Outcome × List ℕ
-cell_to w body (held_cell.Cell x) = body x
-cell_to w body (held_cell.Refused k) = (refused (refusal_number k), w)
+abbrev pub cell_to : List ℕ → (ℕ → Outcome × List ℕ) → Result ℕ Refusal → Outcome × List ℕ
+cell_to w body (Ok x) = body x
+cell_to w body (Err k) = (refused (refusal_number k), w)
 
 -- The body runs on the cell that a holds.
 abbrev pub with_cell : ℕ → List ℕ → ℕ → (ℕ → Outcome × List ℕ) → Outcome × List ℕ

@@ -1,5 +1,6 @@
 -- The laws of `every` and `tabulate`.
-use Prim.Native.Nat.{ℕ, zero, suc, ◌-◌, ◌<◌, ◌≤◌}
+use Prim.Native.Nat.{ℕ, zero, suc, ◌+◌, ◌-◌, ◌<◌, ◌≤◌}
+use Rattle.std.specs.List.{list_all, range_with_len}
 use mathlib.Core.Path.{◌≡◌, refl, sym, ap, ap₂, ◌∙◌}
 use mathlib.Core.Logic.{⊎_elim}
 use mathlib.Core.List.Memᴰ
@@ -12,22 +13,12 @@ use lib.Seq.{get_or_at, ext_get_or}
 use Rattle.pool.specs.Words.{tabulate, every}
 use Rattle.pool.proofs.Sizes.{both}
 
--- nothing to test; the highest number tested passes, or fails
+-- nothing to test
 module _ (p : ℕ → Bool) where
   pub every-none : (k : ℕ) → k ≤ 0 → every k p ≡ true
   unfolding every
   every-none zero h = refl
   every-none (suc k) h = absurd (omega arith)
-
-  pub every_pass : (k : ℕ) → 0 < k → p (k - 1) ≡ true → every k p ≡ every (k - 1) p
-  unfolding every
-  every_pass zero h e = absurd (omega arith)
-  every_pass (suc k) h e = let less : suc k - 1 ≡ k = omega arith in simp (less, rw less at e)
-
-  pub every_fail : (k : ℕ) → 0 < k → p (k - 1) ≡ false → every k p ≡ false
-  unfolding every
-  every_fail zero h e = absurd (omega arith)
-  every_fail (suc k) h e = let less : suc k - 1 ≡ k = omega arith in simp (rw less at e)
 
   -- where every number passes, each does; and the other way round
   pub every_each : (n : ℕ) → every n p ≡ true → (k : ℕ) → k < n → p k ≡ true
@@ -44,21 +35,43 @@ module _ (p : ℕ → Bool) where
   each_every zero h = refl
   each_every (suc n) h = simp (h n (omega arith)) (each_every n λ k below. h k (omega arith))
 
+-- the lowest number, and those above it
+every_first : (n : ℕ) (q : ℕ → Bool) → every (suc n) q ≡ (q 0 && every n (λ k. q (suc k)))
+unfolding every
+every_first zero q = refl
+every_first (suc n) q = ap (λ (b : Bool). q (suc n) && b) (every_first n q) ∙ swap (q (suc n)) (q 0) (every n (λ k. q (suc k)))
+  where
+    swap : (a b c : Bool) → (a && (b && c)) ≡ (b && (a && c))
+    swap true b c = refl
+    swap false true c = refl
+    swap false false c = refl
+
 -- two tests that agree wherever they are asked
 pub every_cong : (n : ℕ) (p q : ℕ → Bool) → ((k : ℕ) → k < n → p k ≡ q k) → every n p ≡ every n q
 unfolding every
 every_cong zero p q same = refl
 every_cong (suc n) p q same = ap₂ (λ (a b : Bool). a && b) (same n (omega arith)) (every_cong n p q λ k below. same k (omega arith))
 
+-- the test of every number of a range
+range-from : (n a : ℕ) (p : ℕ → Bool) → list_all p (range_with_len a n) ≡ every n (λ k. p (a + k))
+range-from zero a p = sym (every-none (λ k. p (a + k)) zero (omega arith))
+range-from (suc n) a p =
+    ap₂ (λ (b c : Bool). b && c) (ap p (omega arith))
+    (range-from n (a + 1) p ∙ every_cong n (λ k. p (a + 1 + k)) (λ k. p (a + suc k)) λ k below. ap p (omega arith))
+    ∙ sym (every_first n (λ k. p (a + k)))
+
+pub every_range : (n : ℕ) (p : ℕ → Bool) → list_all p (range_with_len 0 n) ≡ every n p
+every_range n p = range-from n 0 p ∙ every_cong n (λ k. p (0 + k)) p λ k below. ap p (omega arith)
+
 pub length-tabulate : (n : ℕ) (f : ℕ → ℕ) → length (tabulate n f) ≡ n
 unfolding tabulate
 length-tabulate zero f = refl
 length-tabulate (suc n) f = simp (length-append, length-tabulate n f) (omega arith)
 
-pub get_d_tabulate : (n : ℕ) (f : ℕ → ℕ) (k d : ℕ) → k < n → get_or (tabulate n f) k d ≡ f k
+pub get_or-tabulate : (n : ℕ) (f : ℕ → ℕ) (k d : ℕ) → k < n → get_or (tabulate n f) k d ≡ f k
 unfolding tabulate
-get_d_tabulate zero f k d below = absurd (omega arith)
-get_d_tabulate (suc n) f k d below = go (λ less. get_d_tabulate n f k d less) (dec_lt k n)
+get_or-tabulate zero f k d below = absurd (omega arith)
+get_or-tabulate (suc n) f k d below = go (λ less. get_or-tabulate n f k d less) (dec_lt k n)
   where
     go : (k < n → get_or (tabulate n f) k d ≡ f k) → Dec (k < n) → get_or (tabulate n f ++ (f n ∷ [])) k d ≡ f k
     go rest (yes less) = get_or-append (tabulate n f) (f n ∷ []) d k (rw (length-tabulate n f) less) ∙ rest less
@@ -86,7 +99,7 @@ tabulate_cong (suc n) f g same = ap₂ (λ (l : List ℕ) (x : ℕ). l ++ (x ∷
 pub tabulate-list : (n : ℕ) (f : ℕ → ℕ) (l : List ℕ) → length l ≡ n → ((k : ℕ) → k < n → get_or l k 0 ≡ f k) → l ≡ tabulate n f
 tabulate-list n f l len same =
     ext_get_or 0 l (tabulate n f) (len ∙ sym (length-tabulate n f)) λ k below.
-    same k (rw len at below) ∙ sym (get_d_tabulate n f k 0 (rw len at below))
+    same k (rw len at below) ∙ sym (get_or-tabulate n f k 0 (rw len at below))
 
 -- what stands in a list by a rule
 pub tabulate-member : (n : ℕ) (f : ℕ → ℕ) (x : ℕ) → Memᴰ x (tabulate n f) → (k : ℕ) × (k < n) × (x ≡ f k)

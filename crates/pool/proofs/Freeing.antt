@@ -1,5 +1,6 @@
 -- The cells above the first k of n are freed, from cell n down: the turns of the loop, and what they make of the words.
-use Prim.Native.Nat.{ℕ, zero, suc, ◌-◌, ◌<◌, ◌≤◌}
+use Prim.Native.Nat.{ℕ, zero, suc, ◌+◌, ◌-◌, ◌<◌, ◌≤◌}
+use native.Mathlib.Numerals.{add-one}
 use native.Mathlib.Omega.{arith}
 use native.Mathlib.Decide.{dec_le}
 use mathlib.Core.Path.{◌≡◌, refl, sym, ap, ◌∙◌}
@@ -40,7 +41,7 @@ module _ (R k n : ℕ) (w₀ : List ℕ) where
         record { some = few; few = omega arith; swept = swept_none R n first w₀; chain = rw none refl }
 
     module _ (w : List ℕ) (i next : ℕ) (f : Freeing w i next) where
-      pub freeing_turn : (w' : List ℕ) → k < i → w' ≡ put_cell R w i free_state next 0 0 → Freeing w' (i - 1) i
+      pub freeing_turn : (w' : List ℕ) → k < i → w' ≡ put_cell R w (i - 1 + 1) free_state next 0 0 → Freeing w' (i - 1) (i - 1 + 1)
       freeing_turn w' above write =
           let high = f.few in
           let this : suc (i - 1) ≡ i = omega arith in
@@ -48,10 +49,10 @@ module _ (R k n : ℕ) (w₀ : List ℕ) where
           record {
             some = omega arith;
             few = omega arith;
-            swept = rw (write ∙ ap (λ (j : ℕ). put_cell R w j free_state next 0 0) (sym this))
+            swept = rw (write ∙ ap (λ (j : ℕ). put_cell R w j free_state next 0 0) (add-one (i - 1)))
                 (swept-free R n first w₀ w (i - 1) (omega arith) room (rw this f.swept) next here
                 (f.chain ∙ ap (free_above first n) (sym this)));
-            chain = sym (free_here first n (i - 1) (omega arith) here ∙ this);
+            chain = add-one (i - 1) ∙ sym (free_here first n (i - 1) (omega arith) here);
           }
 
       pub freeing_last : (w' : List ℕ) → i ≤ k → FirstUsed R k w₀ → w' ≡ set_head w next → w' ≡ retain R n first w₀

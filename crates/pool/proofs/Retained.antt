@@ -15,7 +15,7 @@ use Rattle.pool.specs.States.{free_state}
 use Rattle.pool.specs.Retain.{lowest_free, free_above, kept_field, free_field, retained_field, retained_word, retain, kept_count}
 use Rattle.pool.proofs.Laws.{length-set_head}
 use Rattle.pool.proofs.Node.{written, length-put_cell, cell-put_cell, cell-put_cell_other}
-use Rattle.pool.proofs.Every.{length-tabulate, get_d_tabulate, tabulate-list, tabulate_cong}
+use Rattle.pool.proofs.Every.{length-tabulate, get_or-tabulate, tabulate-list, tabulate_cong}
 
 -- the first of several cells is kept, or is the lowest free one
 lowest_step : (keep : ℕ → Bool) (k i : ℕ) (t : Bool) → keep i ≡ t
@@ -148,16 +148,16 @@ module _ (R n : ℕ) (keep : ℕ → Bool) (w₀ : List ℕ) where
   module _ (room : pool_length R n ≤ length w₀) where
     pub retain-head : 0 < n → head (retain R n keep w₀) ≡ free_above keep n 0
     unfolding retain head
-    retain-head some = get_d_tabulate (length w₀) (retained_word R n keep w₀) 1 0 (omega arith)
+    retain-head some = get_or-tabulate (length w₀) (retained_word R n keep w₀) 1 0 (omega arith)
 
     pub retain-count : count (retain R n keep w₀) ≡ count w₀
     unfolding retain count
-    retain-count = get_d_tabulate (length w₀) (retained_word R n keep w₀) 0 0 (omega arith) ∙ word_stays 0 (λ e. omega arith) (simp (lt-ltb 0 (first_cell R) (omega arith)))
+    retain-count = get_or-tabulate (length w₀) (retained_word R n keep w₀) 0 0 (omega arith) ∙ word_stays 0 (λ e. omega arith) (simp (lt-ltb 0 (first_cell R) (omega arith)))
 
     pub retain-register : (k : ℕ) → k < R → register (retain R n keep w₀) k ≡ register w₀ k
     unfolding retain register
     retain-register k low =
-        get_d_tabulate (length w₀) (retained_word R n keep w₀) (first_register + k) 0 (omega arith) ∙ word_stays (first_register + k) (λ e. omega arith) (simp (lt-ltb (first_register + k) (first_cell R) (omega arith)))
+        get_or-tabulate (length w₀) (retained_word R n keep w₀) (first_register + k) 0 (omega arith) ∙ word_stays (first_register + k) (λ e. omega arith) (simp (lt-ltb (first_register + k) (first_cell R) (omega arith)))
 
     pub retain_elsewhere : (k : ℕ) → (k ≡ 1 → ⊥) → Elsewhere R n k → get_or (retain R n keep w₀) k 0 ≡ get_or w₀ k 0
     unfolding retain
@@ -165,7 +165,7 @@ module _ (R n : ℕ) (keep : ℕ → Bool) (w₀ : List ℕ) where
       where
         go : Dec (k < length w₀) → Place R n k → get_or (retain R n keep w₀) k 0 ≡ get_or w₀ k 0
         go (yes below) (Place.first e) = absurd (other e)
-        go (yes below) (Place.stays q r test) = get_d_tabulate (length w₀) (retained_word R n keep w₀) k 0 below ∙ word_stays k other test
+        go (yes below) (Place.stays q r test) = get_or-tabulate (length w₀) (retained_word R n keep w₀) k 0 below ∙ word_stays k other test
         go (yes below) (Place.field i f low high hf e) = absurd (away i f low high hf e)
         go (no past) p =
             get_or-eq_default (retain R n keep w₀) 0 (omega (arith, length-retain)) ∙ sym (get_or-eq_default w₀ 0 (omega arith))
@@ -173,7 +173,7 @@ module _ (R n : ℕ) (keep : ℕ → Bool) (w₀ : List ℕ) where
     pub retain-cell : (i f : ℕ) → 0 < i → i ≤ n → f < 4 → cell R (retain R n keep w₀) i f ≡ retained_field R n keep w₀ i f
     unfolding retain cell
     retain-cell i f low high hf =
-        get_d_tabulate (length w₀) (retained_word R n keep w₀) (cell_at R i f) 0 (omega arith) ∙ word_field i f low high hf
+        get_or-tabulate (length w₀) (retained_word R n keep w₀) (cell_at R i f) 0 (omega arith) ∙ word_field i f low high hf
 
 -- at most all cells are kept
 pub kept-most : (keep : ℕ → Bool) (n : ℕ) → kept_count keep n ≤ n

@@ -14,9 +14,6 @@ module _ (s a b : ℕ) where
   pub first_of : s ≡ a → true ≡ (eqb s a || eqb s b)
   first_of e = simp (eq-eqb s a e)
 
-  pub second_of : (s ≡ a → ⊥) → eqb s b ≡ (eqb s a || eqb s b)
-  second_of other = simp (ne_eqb s a other)
-
   one_of : (eqb s a || eqb s b) ≡ true → (s ≡ a) ⊎ (s ≡ b)
   one_of e = go (eqb s a) refl e
     where

@@ -1,5 +1,7 @@
 -- The states of a cell (01, "The pool's words"; 02, S-8). A used cell is a pair of links or a point.
-use Rattle.std.specs.Prelude.{ℕ, Bool, cond, ◌||◌, eqb}
+use Rattle.std.specs.Prelude.{ℕ, Bool, cond, ◌||◌, eqb, true, false}
+use Rattle.pool.specs.declared.Kind.{Kind}
+use Rattle.pool.specs.declared.Kind.TheVariants as kind
 
 -- "State 0 is used, 4 is free; 1, 2 and 3 stand only inside a collection.": 0 is the state of a pair.
 abbrev pub pair_state : ℕ
@@ -44,3 +46,8 @@ as_marked s = cond (is_point s) marked_point_state marked_pair_state
 -- What the sweep makes of the state of a marked cell: "The sweep sets state 3 to 0", and "a collection leaves it at state 5" (02, S-8) of a point.
 unfoldable pub as_used : ℕ → ℕ
 as_used s = cond (is_point s) point_state pair_state
+
+-- Is it the kind of a point?
+abbrev pub is_point_kind : Kind → Bool
+is_point_kind kind.Pair = false
+is_point_kind kind.Point = true

@@ -13,6 +13,13 @@ ghost use Rattle.pool.specs.Fresh.{fresh_of};
 
 use answers::{Answer, Refusal};
 
+// The kinds of a used cell: a pair of links, or a point.
+#[derive(Clone, Copy, Debug, PartialEq, Eq)]
+pub enum Kind {
+    Pair,
+    Point,
+}
+
 // The pool: its limits, and where everything stands in its words.
 #[derive(Clone, Copy)]
 pub struct Pool {}
@@ -57,21 +64,31 @@ impl Pool {
 
     // Makes the words a pool of as many cells as they hold, all of them free and all registers nil. Gives the number of cells, and of the words left over
     // behind them, which stay.
-    pub fn fresh(words: &mut [u32]) -> Answer
+    pub fn fresh(words: &mut [u32]) -> Result<Answer, Refusal>
         ensures { (answer_outcome result, words.new) ≡ fresh_of words.old }
     {
         let n = cell_count_of_length(words.len());
         if n == 0 {
-            return Answer::Refused(Refusal::Size);
+            return Err(Refusal::Size);
         }
         let leftover = ((words.len() - Pool::FIRST_CELL) % Pool::CELL_WORDS) as u32;
         blank(words, n);
         free_above(words, n, 0);
-        Answer::Pair(n, leftover)
+        Ok(Answer::Pair(n, leftover))
     }
 }
 
-// The number of cells of a pool of that many words, or 0 where no pool has that length.
+// The four words of a cell: the left and right ones are links of a pair and numbers of a point.
+#[derive(Clone, Copy)]
+pub struct Cell {
+    pub state: u32,
+    pub left: u32,
+    pub right: u32,
+    pub value: u32,
+}
+
+// The number of cells of a pool of that many words, or 0 where no pool has that length. By two returns, which a call that tests the 0 goes to directly:
+// with one expression for the number in their place each call had three to five instructions more.
 pub fn cell_count_of_length(len: usize) -> u32
     ensures { result ≡ cell_count_of_length register_count len }
 {
@@ -85,6 +102,7 @@ pub fn cell_count_of_length(len: usize) -> u32
     cells as u32
 }
 
+#[tactic(auto, unfolding(crate::specs::Layout::cell))]
 pub fn read_cell(words: &[u32], i: u32, field: usize) -> u32
     requires { (0 < i) × (field < 4) × (pool_length register_count i ≤ length words.now) }
     ensures { result ≡ cell register_count words.now i field }
@@ -92,6 +110,7 @@ pub fn read_cell(words: &[u32], i: u32, field: usize) -> u32
     words[Pool::FIRST_CELL + Pool::CELL_WORDS * (i as usize - 1) + field]
 }
 
+#[tactic(auto, unfolding(crate::specs::Layout::set_cell))]
 pub fn write_cell(words: &mut [u32], i: u32, field: usize, v: u32)
     requires { (0 < i) × (field < 4) × (pool_length register_count i ≤ length words.old) }
     ensures { words.new ≡ set_cell register_count words.old i field v }
@@ -99,6 +118,7 @@ pub fn write_cell(words: &mut [u32], i: u32, field: usize, v: u32)
     words[Pool::FIRST_CELL + Pool::CELL_WORDS * (i as usize - 1) + field] = v;
 }
 
+#[tactic(auto, unfolding(crate::specs::Layout::register))]
 pub fn read_register(words: &[u32], k: u32) -> u32
     requires { (k < register_count) × (pool_length register_count 0 ≤ length words.now) }
     ensures { result ≡ register words.now k }
@@ -106,6 +126,7 @@ pub fn read_register(words: &[u32], k: u32) -> u32
     words[Pool::FIRST_REGISTER + k as usize]
 }
 
+#[tactic(auto, unfolding(crate::specs::Layout::set_register))]
 pub fn write_register(words: &mut [u32], k: u32, v: u32)
     requires { (k < register_count) × (pool_length register_count 0 ≤ length words.old) }
     ensures { words.new ≡ set_register words.old k v }
@@ -113,6 +134,7 @@ pub fn write_register(words: &mut [u32], k: u32, v: u32)
     words[Pool::FIRST_REGISTER + k as usize] = v;
 }
 
+#[tactic(auto, unfolding(crate::specs::Layout::head))]
 pub fn read_head(words: &[u32]) -> u32
     requires { pool_length register_count 0 ≤ length words.now }
     ensures { result ≡ head words.now }
@@ -120,6 +142,7 @@ pub fn read_head(words: &[u32]) -> u32
     words[Pool::HEAD]
 }
 
+#[tactic(auto, unfolding(crate::specs::Layout::set_head))]
 pub fn write_head(words: &mut [u32], v: u32)
     requires { pool_length register_count 0 ≤ length words.old }
     ensures { words.new ≡ set_head words.old v }
@@ -128,23 +151,19 @@ pub fn write_head(words: &mut [u32], v: u32)
 }
 
 // The tests of a cell's state: is it a point, marked or not?
+#[tactic(auto, unfolding(crate::specs::States::is_point))]
 pub fn is_point(state: u32) -> bool
     ensures { result ≡ is_point state }
 {
-    if state == Pool::POINT {
-        return true;
-    }
-    state == Pool::MARKED_POINT
+    matches!(state, Pool::POINT | Pool::MARKED_POINT)
 }
 
 // Is it used, a pair or a point?
+#[tactic(auto, unfolding(crate::specs::States::is_used))]
 pub fn is_used(state: u32) -> bool
     ensures { result ≡ is_used state }
 {
-    if state == Pool::PAIR {
-        return true;
-    }
-    state == Pool::POINT
+    matches!(state, Pool::PAIR | Pool::POINT)
 }
 
 pub fn is_free(state: u32) -> bool
@@ -162,25 +181,27 @@ pub fn is_point_at(words: &[u32], i: u32) -> bool
 }
 
 // A link of a cell: its left or right field, and nil of a point.
+#[tactic(auto, unfolding(crate::specs::Layout::link_of))]
 pub fn link_of(words: &[u32], i: u32, field: usize) -> u32
     requires { (0 < i) × (field < 4) × (pool_length register_count i ≤ length words.now) }
     ensures { result ≡ link_of register_count words.now i field }
 {
     if is_point_at(words, i) {
-        return 0;
+        0
+    } else {
+        read_cell(words, i, field)
     }
-    read_cell(words, i, field)
 }
 
 // Writes the four words of a cell.
-pub fn put_cell(words: &mut [u32], i: u32, state: u32, left: u32, right: u32, value: u32)
+pub fn put_cell(words: &mut [u32], i: u32, cell: Cell)
     requires { (0 < i) × (pool_length register_count i ≤ length words.old) }
-    ensures { words.new ≡ put_cell register_count words.old i state left right value }
+    ensures { words.new ≡ put_cell register_count words.old i cell.state cell.left cell.right cell.value }
 {
-    write_cell(words, i, Pool::STATE, state);
-    write_cell(words, i, Pool::LEFT, left);
-    write_cell(words, i, Pool::RIGHT, right);
-    write_cell(words, i, Pool::VALUE, value);
+    write_cell(words, i, Pool::STATE, cell.state);
+    write_cell(words, i, Pool::LEFT, cell.left);
+    write_cell(words, i, Pool::RIGHT, cell.right);
+    write_cell(words, i, Pool::VALUE, cell.value);
 }
 
 // Puts the cells above the first k of n onto the free list, in ascending order. The first k are used, and stay.
@@ -188,12 +209,16 @@ pub fn free_above(words: &mut [u32], n: u32, k: u32)
     requires { (k ≤ n) × (pool_length register_count n ≤ length words.old) × FirstUsed register_count k words.old }
     ensures { words.new ≡ retain register_count n (λ j. leb j k) words.old }
 {
-    let mut i = n;
     let mut next = 0;
-    while k < i {
-        put_cell(words, i, Pool::FREE, next, 0, 0);
-        next = i;
-        i -= 1;
+    for i in (k..n).rev() {
+        let cell = Cell {
+            state: Pool::FREE,
+            left: next,
+            right: 0,
+            value: 0,
+        };
+        put_cell(words, i + 1, cell);
+        next = i + 1;
     }
     write_head(words, next);
 }
@@ -212,9 +237,5 @@ pub fn blank(words: &mut [u32], n: u32)
 pub fn clear(words: &mut [u32])
     ensures { words.new ≡ replicate (length words.old) 0 }
 {
-    let mut k = 0;
-    while k < words.len() {
-        words[k] = 0;
-        k += 1;
-    }
+    words.fill(0);
 }

@@ -1,20 +1,18 @@
 -- All cells are plausible exactly if all are valid, and what decides of one cell.
 use Prim.Native.Nat.{ℕ, suc, ◌-◌, ◌<◌, ◌≤◌}
 use native.Mathlib.Omega.{arith}
-use native.Mathlib.Decide.{ℕ_discrete}
 use mathlib.Core.Path.{◌≡◌, refl, sym, ◌∙◌}
 use mathlib.Core.List.{List}
 use mathlib.Core.Bool.{Bool, true, false, ◌&&◌, ◌||◌, not}
 use lib.Dec.{eqb, leb}
-use borrow.Author.Tests.{eq-eqb, ne_eqb, eqb-false, leb-true}
+use borrow.Author.Tests.{eqb-false, leb-true}
 use Rattle.pool.specs.Words.{every}
-use Rattle.pool.specs.Layout.{cell, state, link_of}
-use Rattle.pool.specs.States.{pair_state, point_state, is_used, is_free}
+use Rattle.pool.specs.Layout.{state, link_of}
+use Rattle.pool.specs.States.{is_used, is_free}
 use Rattle.questions.specs.Validity.{valid_link, valid_cell, cells_valid}
 use Rattle.questions.specs.Steps.{plausible_link, plausible_cell}
 use Rattle.pool.proofs.Sizes.{both}
-use Rattle.pool.proofs.States.{pair_is, point_is, neither_used, used_not_free, free_not_used}
-use Rattle.pool.proofs.Links.{link-pair, link-point}
+use Rattle.pool.proofs.States.{free_not_used}
 use Rattle.pool.proofs.Every.{every_each, every_cong}
 
 module _ (R n : ℕ) (w : List ℕ) where
@@ -54,37 +52,3 @@ module _ (R n : ℕ) (w : List ℕ) where
       go true v e f = sym e ∙ (same-cells (decided (λ i. plausible_link R n w (link_of R w i 1)) (λ i. plausible_link R n w (link_of R w i 2)) e) ∙ f)
       go false true e f = sym e ∙ (same-cells (decided (λ i. valid_link R n w (link_of R w i 1)) (λ i. valid_link R n w (link_of R w i 2)) f) ∙ f)
       go false false e f = refl
-
--- a cell by its state: the links of a pair are asked, of a point nothing
-module _ (R n : ℕ) (w : List ℕ) (i : ℕ) {s : ℕ} (read : s ≡ state R w i) where
-  plausible_pair : s ≡ pair_state → plausible_cell R n w i ≡ (plausible_link R n w (cell R w i 1) && plausible_link R n w (cell R w i 2))
-  plausible_pair e =
-      let is = pair_is (state R w i) (sym read ∙ e) in
-      rw (used_not_free (state R w i) is.0, is.0, link-pair R w i 1 is.1, link-pair R w i 2 is.1) refl
-
-  -- the left link of a pair fails, or the right one decides
-  module _ (pair : s ≡ pair_state) {l : ℕ} (left : l ≡ cell R w i 1) where
-    pub left_fails : plausible_link R n w l ≡ false → false ≡ plausible_cell R n w i
-    left_fails fails = rw (plausible_pair pair, ← left, fails)
-
-    pub right_decides : {r : ℕ} → plausible_link R n w l ≡ true → r ≡ cell R w i 2 → plausible_link R n w r ≡ plausible_cell R n w i
-    right_decides passes right = rw (plausible_pair pair, ← left, passes, ← right)
-
-  plausible_point : s ≡ point_state → plausible_cell R n w i ≡ true
-  plausible_point e =
-      let is = point_is (state R w i) (sym read ∙ e) in
-      rw (used_not_free (state R w i) is.0, is.0, link-point R w i 1 is.1, link-point R w i 2 is.1) refl
-
-  pub plausible_free : is_free s ≡ true → plausible_cell R n w i ≡ true
-  plausible_free is = rw (← read, is) refl
-
-  plausible_none : is_free s ≡ false → (s ≡ pair_state → ⊥) → (s ≡ point_state → ⊥) → plausible_cell R n w i ≡ false
-  plausible_none other pair point = rw (← read, other, neither_used s pair point) refl
-
-  -- where it is neither a pair nor free, whether it is a point decides
-  pub point_decides : is_free s ≡ false → (s ≡ pair_state → ⊥) → eqb s point_state ≡ plausible_cell R n w i
-  point_decides other pair = go (ℕ_discrete s point_state)
-    where
-      go : Dec (s ≡ point_state) → eqb s point_state ≡ plausible_cell R n w i
-      go (yes e) = eq-eqb s point_state e ∙ sym (plausible_point e)
-      go (no e) = ne_eqb s point_state e ∙ sym (plausible_none other pair e)

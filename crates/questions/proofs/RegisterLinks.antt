@@ -8,8 +8,9 @@ use Rattle.pool.specs.Layout.{register_count, register, state}
 use Rattle.pool.specs.States.{is_used}
 use Rattle.questions.specs.Validity.{valid_link}
 use Rattle.questions.specs.Questions.{held_of, holds_link}
-use Rattle.questions.specs.declared.Held.{Held}
-use Rattle.questions.specs.declared.Held.TheVariants as held
+use Rattle.std.proofs.Common.{Result, Ok, Err}
+use Rattle.answers.specs.declared.Refusal.TheVariants as refusal
+use Rattle.answers.specs.declared.Refusal.{Refusal}
 use Rattle.questions.proofs.WellFormed.{Link, link-read}
 
 -- the register a holds the valid link x
@@ -17,18 +18,18 @@ pub record Holds (n : ℕ) (w : List ℕ) (a x : ℕ) : Type 0 where
   pub link : register w a ≡ x
   pub valid : valid_link register_count n w x ≡ true
 
-module _ (n : ℕ) (w : List ℕ) (a : ℕ) {q : Held} (read : q ≡ held_of n w a) where
-  pub holds : {x : ℕ} → q ≡ held.Link x → Holds n w a x
+module _ (n : ℕ) (w : List ℕ) (a : ℕ) {q : Result ℕ Refusal} (read : q ≡ held_of n w a) where
+  pub holds : {x : ℕ} → q ≡ Ok x → Holds n w a x
   holds {x} told = go (valid_link register_count n w (register w a)) refl (sym read ∙ told)
     where
-      go : (t : Bool) → valid_link register_count n w (register w a) ≡ t → cond t (held.Link (register w a)) held.Malformed ≡ held.Link x → Holds n w a x
+      go : (t : Bool) → valid_link register_count n w (register w a) ≡ t → cond t (Ok (register w a)) (Err refusal.Malformed) ≡ Ok x → Holds n w a x
       go true e same = let link : register w a ≡ x = cc in record { link = link; valid = rw link at e }
       go false e same = let z : ◌≡◌ {A = ℕ} 0 1 = cc in absurd (omega arith)
 
-  pub holds_none : q ≡ held.Malformed → holds_link n w a ≡ false
-  holds_none told = go (valid_link register_count n w (register w a)) refl (sym read ∙ told)
+  pub holds_none : {k : Refusal} → q ≡ Err k → holds_link n w a ≡ false
+  holds_none {k} told = go (valid_link register_count n w (register w a)) refl (sym read ∙ told)
     where
-      go : (t : Bool) → valid_link register_count n w (register w a) ≡ t → cond t (held.Link (register w a)) held.Malformed ≡ held.Malformed
+      go : (t : Bool) → valid_link register_count n w (register w a) ≡ t → cond t (Ok (register w a)) (Err refusal.Malformed) ≡ Err k
           → holds_link n w a ≡ false
       go true e same = let z : ◌≡◌ {A = ℕ} 0 1 = cc in absurd (omega arith)
       go false e same = e

@@ -5,7 +5,7 @@ ghost use Rattle.std.specs.Prelude.{◌≡◌};
 ghost use Rattle.leb128.specs.Leb128.{read_at};
 ghost use Rattle.reader.specs.Reading.{place_behind};
 
-use leb128::Number;
+use leb128::{Number, NumberError};
 
 // The bytes, and the place of the next number.
 #[derive(Clone, Copy)]
@@ -14,38 +14,29 @@ pub struct Reader<'a> {
     pub at: usize,
 }
 
-// The place behind a number that was read at `at`; where there was none, `at` itself.
-fn place_behind(number: Number, at: usize) -> usize
-    ensures { result ≡ place_behind number at }
-{
-    match number {
-        Number::Value { value: _, next } => next,
-        Number::Missing => at,
-        Number::OutOfRange => at,
-        Number::Padded => at,
+impl<'a> Reader<'a> {
+    // A reader over the bytes, at a place of them.
+    pub fn new(bytes: &'a [u8], at: usize) -> Reader<'a>
+        ensures { (result.bytes ≡ bytes.entry) × (result.at ≡ at) }
+    {
+        Reader { bytes, at }
+    }
+
+    // Reads the next number, and advances behind it; where there is none, it stays.
+    pub fn next_number(&mut self) -> Result<Number, NumberError>
+        ensures { (result ≡ read_at self.old.bytes.now self.old.at) × (self.new.bytes ≡ self.old.bytes) × (self.new.at ≡ place_behind result self.old.at) }
+    {
+        let number = leb128::read_number(self.bytes, self.at);
+        if let Ok(read) = number {
+            self.at = read.next;
+        }
+        number
     }
 }
 
-// A reader over the bytes, at a place of them.
-pub fn reader_at<'a>(bytes: &'a [u8], at: usize) -> Reader<'a>
-    ensures { (result.bytes ≡ bytes.entry) × (result.at ≡ at) }
-{
-    Reader { bytes, at }
-}
-
-// Reads the next number, and advances behind it.
-pub fn next_number<'s, 'a>(r: &'s mut Reader<'a>) -> Number
-    ensures { (result ≡ read_at r.old.bytes.now r.old.at) × (r.new.bytes ≡ r.old.bytes) × (r.new.at ≡ place_behind result r.old.at) }
-{
-    let number = leb128::read_number(r.bytes, r.at);
-    r.at = place_behind(number, r.at);
-    number
-}
-
 // The number at a place of the bytes, by a reader that is laid over them there.
-pub fn number_at(bytes: &[u8], at: usize) -> Number
+pub fn number_at(bytes: &[u8], at: usize) -> Result<Number, NumberError>
     ensures { result ≡ read_at bytes.now at }
 {
-    let mut reader = reader_at(bytes, at);
-    next_number(&mut reader)
+    Reader::new(bytes, at).next_number()
 }

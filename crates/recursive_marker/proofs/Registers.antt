@@ -14,13 +14,13 @@ use Rattle.graph.proofs.Congruence.{dfs-all_alike}
 use Rattle.graph.proofs.Theorems.{preorder-length}
 use Rattle.pool.specs.Layout.{pool_length, register, is_point_at, roots_of, graph_of}
 use Rattle.questions.specs.Validity.{well_formed}
-use Rattle.pool.proofs.Every.{length-tabulate, get_d_tabulate, member-tabulate}
+use Rattle.pool.proofs.Every.{length-tabulate, get_or-tabulate, member-tabulate}
 use Rattle.questions.proofs.WellFormed.{well_formed_read}
 use Rattle.questions.proofs.PoolGraph.{pool-within}
 use Rattle.reversal.specs.ReversalTheorem.{mark_all, Agreement, marked_of}
 use Rattle.reversal.specs.Reached.{reached_cells, pair_count, point_count, visits_of}
 use Rattle.reversal.proofs.VisitCount.{visits-append, visits-most}
-use Rattle.reversal.proofs.MarkAll.{mark_all-append, length-mark_all, register-mark_all}
+use Rattle.reversal.proofs.MarkAll.{mark_all-append, register-mark_all}
 use Rattle.reversal.proofs.PoolMarks.{state_marks, agreement, alike}
 use Rattle.reversal.proofs.Agreement.{agreement-dfs}
 use Rattle.recursive_marker.specs.Steps.{Markable, visited}
@@ -55,9 +55,6 @@ module _ (R n : ℕ) (w₀ : List ℕ) where
     pub agree : Agreement R n (graph_of R w₀) (is_point_at R w₀) marks w
     pub rest : DfsAll (graph_of R w₀) marks (drop k (roots_of R w₀)) todo
 
-  pub marking_length : (w : List ℕ) (visits k : ℕ) → Marking w visits k → length w ≡ length w₀
-  marking_length w visits k g = ap length g.words ∙ length-mark_all R w₀ g.done
-
   module _ (well : well_formed R n w₀ ≡ true) (room : pool_length R n ≤ length w₀) where
     pub marking_first : Marking w₀ 0 0
     unfolding mark_all pair_count point_count
@@ -85,7 +82,7 @@ module _ (R n : ℕ) (w₀ : List ℕ) where
       from : Next (graph_of R w₀) g.marks p (drop (k + 1) (roots_of R w₀)) g.todo
       from =
           next g.rest p (drop (k + 1) (roots_of R w₀))
-          (drop-cons (roots_of R w₀) k 0 (omega (arith, roots-length)) ∙ rw (get_d_tabulate R (λ j. register w₀ j) k 0 here, ← add-one k, this))
+          (drop-cons (roots_of R w₀) k 0 (omega (arith, roots-length)) ∙ rw (get_or-tabulate R (λ j. register w₀ j) k 0 here, ← add-one k, this))
 
       -- no more cells than there are
       few : length g.done + (length from.t + length from.u) ≤ n

@@ -12,7 +12,6 @@ ghost use Rattle.recursive_marker.specs.Steps.{Markable, visited};
 
 use answers::{Answer, Refusal};
 use pool::Pool;
-use questions::Admitted;
 
 // The most cells of a pool that is marked so. In a chain of that many cells the visit of the first cell has depth 64, that of the last depth 1, and the
 // visits of its links, which are nil, depth 0.
@@ -46,41 +45,29 @@ fn mark(words: &mut [u32], n: u32) -> u32
     ensures { (result, words.new) ≡ marked_of register_count n words.old }
 {
     let mut visits = 0;
-    let mut k = 0;
-    while k < Pool::REGISTERS {
+    for k in 0..Pool::REGISTERS {
         let p = pool::read_register(words, k);
         visits = visit(words, n, DEPTH, p, visits);
-        k += 1;
     }
     visits
 }
 
 // Marks and sweeps a pool of n cells.
-fn collect_in(words: &mut [u32], n: u32) -> Answer
+fn collect_in(words: &mut [u32], n: u32) -> Result<Answer, Refusal>
     requires { (pool_length register_count n ≤ length words.old) × (n ≤ recursion_limit) }
     ensures { (answer_outcome result, words.new) ≡ collect_in n words.old }
 {
-    if questions::well_formed(words, n) {
-        let visits = mark(words, n);
-        let kept = marks::sweep(words, n);
-        Answer::Pair(kept, visits)
-    } else {
-        Answer::Refused(Refusal::Malformed)
-    }
+    let (kept, visits) = collector::mark_and_sweep(words, n, |words: &mut [u32]| mark(words, n))?;
+    Ok(Answer::Pair(kept, visits))
 }
 
 // Collects a pool of at most 64 cells: the answer and the words are those of `collect`.
-pub fn collect_recursive(words: &mut [u32]) -> Answer
+pub fn collect_recursive(words: &mut [u32]) -> Result<Answer, Refusal>
     ensures { (answer_outcome result, words.new) ≡ recursive_of words.old }
 {
-    match questions::sized(words) {
-        Admitted::Cells(n) => {
-            if DEPTH < n {
-                Answer::Refused(Refusal::TooLarge)
-            } else {
-                collect_in(words, n)
-            }
-        }
-        Admitted::Refused(k) => Answer::Refused(k),
+    let n = questions::sized(words)?;
+    if DEPTH < n {
+        return Err(Refusal::TooLarge);
     }
+    collect_in(words, n)
 }

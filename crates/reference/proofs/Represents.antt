@@ -17,7 +17,7 @@ use Rattle.graph.proofs.Pairing.{paired-least, paired_reach, pairing_kept, order
 use Rattle.pool.specs.Layout.{register_count, register, cell, is_point_at, link_of, graph_of, roots_of}
 use Rattle.pool.specs.States.{is_point}
 use Rattle.pool.proofs.Links.{link-pair, link-point}
-use Rattle.pool.proofs.Every.{length-tabulate, get_d_tabulate}
+use Rattle.pool.proofs.Every.{length-tabulate, get_or-tabulate}
 use Rattle.questions.proofs.PoolGraph.{Used, reached-used, pool-within}
 use Rattle.reversal.specs.Reached.{reached_count, pair_count, point_count, visits_of, reached_visits}
 use Rattle.reference.specs.Model.{Entry, Model, entry, entry_link, held, model_graph, live, live_visits}
@@ -114,7 +114,7 @@ rep_made w m P one bounded roots cells =
     starts : (k : ℕ) → k < length (roots_of register_count w) → Nil (get_or (roots_of register_count w) k 0) (held m k)
     starts k low =
         let below : k < register_count = rw (length-tabulate register_count (λ j. register w j)) at low in
-        rw (get_d_tabulate register_count (λ j. register w j) k 0 below) (inl (roots k below))
+        rw (get_or-tabulate register_count (λ j. register w j) k 0 below) (inl (roots k below))
 
     -- of cells it is P that holds
     related : {x y : ℕ} → Nil x y → 0 < x → P x y
@@ -154,7 +154,7 @@ module _ {w : List ℕ} {m : Model} (rep : Represents w m) where
   root-pair k low =
       let start : Pair w m (get_or (roots_of register_count w) k 0) (held m k) =
       Paired.root k (rw (length-tabulate register_count (λ j. register w j)) low) in
-      rw (get_d_tabulate register_count (λ j. register w j) k 0 low) at start
+      rw (get_or-tabulate register_count (λ j. register w j) k 0 low) at start
 
   -- A link of the reference model that is paired is nil or a place.
   pub pair_place : {x y : ℕ} → Pair w m x y → y ≤ length m.cells

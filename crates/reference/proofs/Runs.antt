@@ -84,21 +84,21 @@ module _ {N : ℕ} (L : ℕ) {w : List ℕ} {m : Model} (inv : Invariant N w) (r
       all-observed = ap observed step.answer ∙ (plain_observed (plain_model m L c) ∙ sym step.answer)
 
   pub verdict : (c : Call) → Verdict N L c w m
-  verdict (call.Copy r a) = plain_verdict (call.Copy r a) refl λ h. copy_step inv.pool rep r a h.first h.second
-  verdict (call.Clear r) = plain_verdict (call.Clear r) refl λ h. clear_step inv.pool rep r h.first
+  verdict (call.Copy r a) = plain_verdict (call.Copy r a) refl λ h. copy_step inv.pool rep r a h.0 h.1.0
+  verdict (call.Clear r) = plain_verdict (call.Clear r) refl λ h. clear_step inv.pool rep r h.0
   verdict (call.New r a b v) =
-      allocate_verdict (call.New r a b v) r _ refl refl λ h. new_step inv rep r a b v h.first h.second h.third
-  verdict (call.Left r a) = plain_verdict (call.Left r a) refl λ h. follow_step inv.pool rep Field.left (omega arith) r a h.first h.second
-  verdict (call.Right r a) = plain_verdict (call.Right r a) refl λ h. follow_step inv.pool rep Field.right (omega arith) r a h.first h.second
-  verdict (call.SetLeft a b) = plain_verdict (call.SetLeft a b) refl λ h. link-step inv.pool rep Field.left (omega arith) a b h.first h.second
-  verdict (call.SetRight a b) = plain_verdict (call.SetRight a b) refl λ h. link-step inv.pool rep Field.right (omega arith) a b h.first h.second
-  verdict (call.SetValue a v) = plain_verdict (call.SetValue a v) refl λ h. set-value_step inv.pool rep a v h.first
-  verdict (call.Value a) = plain_verdict (call.Value a) refl λ h. value-step inv.pool rep a h.first
-  verdict (call.Same a b) = plain_verdict (call.Same a b) refl λ h. same_step inv.pool rep a b h.first h.second
+      allocate_verdict (call.New r a b v) r _ refl refl λ h. new_step inv rep r a b v h.0 h.1.0 h.1.1.0
+  verdict (call.Left r a) = plain_verdict (call.Left r a) refl λ h. follow_step inv.pool rep Field.left (omega arith) r a h.0 h.1.0
+  verdict (call.Right r a) = plain_verdict (call.Right r a) refl λ h. follow_step inv.pool rep Field.right (omega arith) r a h.0 h.1.0
+  verdict (call.SetLeft a b) = plain_verdict (call.SetLeft a b) refl λ h. link-step inv.pool rep Field.left (omega arith) a b h.0 h.1.0
+  verdict (call.SetRight a b) = plain_verdict (call.SetRight a b) refl λ h. link-step inv.pool rep Field.right (omega arith) a b h.0 h.1.0
+  verdict (call.SetValue a v) = plain_verdict (call.SetValue a v) refl λ h. set-value_step inv.pool rep a v h.0
+  verdict (call.Value a) = plain_verdict (call.Value a) refl λ h. value-step inv.pool rep a h.0
+  verdict (call.Same a b) = plain_verdict (call.Same a b) refl λ h. same_step inv.pool rep a b h.0 h.1.0
   verdict call.Collect = plain_verdict call.Collect refl λ h. collect_step inv.pool rep
-  verdict (call.Point r v x y) = allocate_verdict (call.Point r v x y) r _ refl refl λ h. point-step inv rep r v x y h.first
-  verdict (call.East a) = plain_verdict (call.East a) refl λ h. coordinate_step inv.pool rep Field.left a h.first
-  verdict (call.North a) = plain_verdict (call.North a) refl λ h. coordinate_step inv.pool rep Field.right a h.first
+  verdict (call.Point r v x y) = allocate_verdict (call.Point r v x y) r _ refl refl λ h. point-step inv rep r v x y h.0
+  verdict (call.East a) = plain_verdict (call.East a) refl λ h. coordinate_step inv.pool rep Field.left a h.0
+  verdict (call.North a) = plain_verdict (call.North a) refl λ h. coordinate_step inv.pool rep Field.right a h.0
 
 -- Where no call distinguishes the two, the answers to a list of calls are equal; where one does, not even their words are.
 pub record Compared (N L : ℕ) (calls : List Call) (w : List ℕ) (m : Model) : Type 0 where

@@ -1,13 +1,11 @@
 -- The text of a reply (01, "Strips flown on paper"), and what is proved of it.
-use Rattle.std.specs.Prelude.{ℕ, zero, suc, ◌+◌, ◌/◌, ◌%◌, ◌^◌, ◌<◌, ◌≤◌, ◌≡◌, List, [], ◌∷◌, ◌++◌, true, false, cond, length, take, drop, ltb, leb}
+use Rattle.std.specs.Prelude.{ℕ, zero, suc, ◌+◌, ◌/◌, ◌%◌, ◌^◌, ◌<◌, ◌≤◌, ◌≡◌, List, [], ◌∷◌, ◌++◌, true, false, cond, length, take, drop, ltb, leb, Option, Some, None}
 use Prim.Native.Char.{code}
 use Rattle.std.proofs.lemmas.List.Edits.{sets}
 use Rattle.answers.specs.Outcome.{Outcome, answered, allocated, refused, answer_outcome}
 use Rattle.lines.specs.Lines.{is_digit, all, is_number, decimal_value}
 use Rattle.replies.specs.declared.Reply.{Reply}
 use Rattle.replies.specs.declared.Reply.TheVariants as reply
-use Rattle.replies.specs.declared.Written.{Written}
-use Rattle.replies.specs.declared.Written.TheVariants.{Next, NoRoom}
 
 -- The decimal of a number, where up to `more` digits may stand before the last.
 unfoldable pub digits : ℕ → ℕ → List ℕ
@@ -52,10 +50,10 @@ abbrev pub reply_room : ℕ
 reply_room = 25
 
 -- Writes a text at a place: the answer and the bytes afterwards. Without room nothing changes.
-unfoldable pub reply_at : List ℕ → ℕ → List ℕ → Written × List ℕ
+unfoldable pub reply_at : List ℕ → ℕ → List ℕ → Option ℕ × List ℕ
 reply_at out at text =
     let next = at + length text in
-    cond (leb (at + reply_room) (length out)) (Next next, take at out ++ text ++ drop next out) (NoRoom, out)
+    cond (leb (at + reply_room) (length out)) (Some next, take at out ++ text ++ drop next out) (None, out)
 
 -- A decimal is read as its number.
 pub record ReadBack (v : ℕ) : Type 0 where

@@ -10,7 +10,7 @@ use lib.Seq.{drop-cons, drop-length}
 use Rattle.graph.proofs.Theorems.{preorder-length}
 use Rattle.pool.specs.Layout.{cell_limit, pool_length, register, set_cell, is_point_at, roots_of, graph_of}
 use Rattle.questions.specs.Validity.{well_formed}
-use Rattle.pool.proofs.Every.{length-tabulate, get_d_tabulate, member-tabulate}
+use Rattle.pool.proofs.Every.{length-tabulate, get_or-tabulate, member-tabulate}
 use Rattle.pool.proofs.Laws.{register-set_cell, length-set_cell}
 use Rattle.questions.proofs.WellFormed.{well_formed_read}
 use Rattle.questions.proofs.PoolGraph.{pool-within}
@@ -73,7 +73,7 @@ module _ (R n : ℕ) where
     roots-from : (k : ℕ) → k < R → drop k (roots_of R w₀) ≡ register w₀ k ∷ drop (k + 1) (roots_of R w₀)
     roots-from k low =
         drop-cons (roots_of R w₀) k 0 (omega (arith, roots-length))
-        ∙ rw (get_d_tabulate R (λ j. register w₀ j) k 0 low, ← add-one k)
+        ∙ rw (get_or-tabulate R (λ j. register w₀ j) k 0 low, ← add-one k)
 
     module _ (w : List ℕ) (visits k p : ℕ) (g : Marking w₀ w visits k) (here : k < R) (read : p ≡ register w k) where
       this : p ≡ register w₀ k

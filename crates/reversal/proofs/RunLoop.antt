@@ -138,17 +138,20 @@ module _ (R : ℕ) (s : Marker × List ℕ) {t : Marker × List ℕ} (visited : 
       let on : Leads R n s t = rw visited (leads_visit R n (leads_here R n s) h.bounded) in
       hand_from R n h.ending h.room on (omega (arith, h.bounded))
 
-  pub turn_once : t ≡ turn_of R 0 s
+  pub turn_once : (k : ℕ) → k ≤ 0 → t ≡ turn_of R k s
   unfolding turn_of
-  turn_once = visited
+  turn_once zero none = visited
+  turn_once (suc k) none = absurd (omega arith)
 
-  pub turn_again : (k : ℕ) → t.0.cell ≡ s.0.cell → {u : Marker × List ℕ} → u ≡ turn_of R k t → u ≡ turn_of R (suc k) s
+  pub turn_again : (k : ℕ) → 0 < k → t.0.cell ≡ s.0.cell → turn_of R (k - 1) t ≡ turn_of R k s
   unfolding turn_of
-  turn_again k stays made = rw (← visited, eq-eqb t.0.cell s.0.cell stays) made
+  turn_again zero some stays = absurd (omega arith)
+  turn_again (suc k) some stays = let less : suc k - 1 ≡ k = omega arith in rw (less, ← visited, eq-eqb t.0.cell s.0.cell stays)
 
-  pub turn_moved : (k : ℕ) → (t.0.cell ≡ s.0.cell → ⊥) → t ≡ turn_of R (suc k) s
+  pub turn_moved : (k : ℕ) → 0 < k → (t.0.cell ≡ s.0.cell → ⊥) → t ≡ turn_of R k s
   unfolding turn_of
-  turn_moved k moved = rw (← visited, ne_eqb t.0.cell s.0.cell moved) refl
+  turn_moved zero some moved = absurd (omega arith)
+  turn_moved (suc k) some moved = rw (← visited, ne_eqb t.0.cell s.0.cell moved) refl
 
 pub turn_by_lem : (R j k : ℕ) (s : Marker × List ℕ) {t : Marker × List ℕ} → t ≡ turn_of R k s → j ≡ k → t ≡ turn_of R j s
 turn_by_lem R j k s made same = rw same made

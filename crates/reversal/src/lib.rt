@@ -17,31 +17,20 @@ const FIRST_MARK: u32 = 1;
 
 const SECOND_MARK: u32 = 2;
 
-// A visit of the cell in hand, and one more where it stays in hand. Inlined, so that the mark is known at each.
+// A visit of the cell in hand, and up to MORE others as long as it stays in hand. Inlined, and its loop is unrolled then, so that the mark is known at each.
 #[inline(always)]
-fn visit_twice(m: Marker, words: &mut [u32], n: u32) -> Marker
+fn visits<const MORE: u32>(mut m: Marker, words: &mut [u32], n: u32) -> Marker
     requires { InHand register_count n (m, words.old) }
-    ensures { (result, words.new) ≡ turn_of register_count 1 (m, words.old) }
+    ensures { (result, words.new) ≡ turn_of register_count MORE (m, words.old) }
 {
     let cell = m.cell;
-    let next = m.visit(words, n);
-    if next.cell != cell {
-        return next;
+    for _left in (0..MORE).rev() {
+        m = m.visit(words, n);
+        if m.cell != cell {
+            return m;
+        }
     }
-    next.visit(words, n)
-}
-
-// The same with up to two more.
-fn visit_thrice(m: Marker, words: &mut [u32], n: u32) -> Marker
-    requires { InHand register_count n (m, words.old) }
-    ensures { (result, words.new) ≡ turn_of register_count 2 (m, words.old) }
-{
-    let cell = m.cell;
-    let next = m.visit(words, n);
-    if next.cell != cell {
-        return next;
-    }
-    visit_twice(next, words, n)
+    m.visit(words, n)
 }
 
 // A turn of the loop: a visit of the cell in hand, and then the others that it has left, 2 less its mark, for as long as it stays in hand. A point, whose
@@ -51,16 +40,13 @@ fn turn(m: Marker, words: &mut [u32], n: u32) -> Marker
     ensures { (result, words.new) ≡ turn_of register_count (2 - state register_count words.old m.cell) (m, words.old) }
 {
     let mark = pool::read_cell(words, m.cell, Pool::STATE);
-    if mark == SECOND_MARK {
-        return m.visit(words, n);
+    match mark {
+        // An arm of its own, so that this mark is known too.
+        SECOND_MARK => m.visit(words, n),
+        FIRST_MARK => visits::<1>(m, words, n),
+        Pool::PAIR => visits::<2>(m, words, n),
+        _ => m.visit(words, n),
     }
-    if mark == FIRST_MARK {
-        return visit_twice(m, words, n);
-    }
-    if mark == Pool::PAIR {
-        return visit_thrice(m, words, n);
-    }
-    m.visit(words, n)
 }
 
 // Marks from an unmarked link until the virtual root, which is no cell, is in hand. Gives the visits made so far. Gries makes one visit in a turn of
@@ -87,14 +73,10 @@ pub fn mark(words: &mut [u32], n: u32) -> u32
     ensures { (result, words.new) ≡ marked_of register_count n words.old }
 {
     let mut visits = 0;
-    let mut k = 0;
-    while k < Pool::REGISTERS {
+    for k in 0..Pool::REGISTERS {
         let p = pool::read_register(words, k);
         if visit::is_unmarked(words, p) {
             visits = mark_from(words, n, p, visits);
-            k += 1;
-        } else {
-            k += 1;
         }
     }
     visits

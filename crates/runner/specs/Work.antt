@@ -1,5 +1,5 @@
 -- A script is run in parts, and its replies are written in parts: together they print what the whole script prints.
-use Rattle.std.specs.Prelude.{ℕ, ◌+◌, ◌<◌, ◌≤◌, ◌≡◌, List, [], ◌∷◌, ◌++◌, true, false, ◌⊎◌, length, take, drop}
+use Rattle.std.specs.Prelude.{ℕ, ◌+◌, ◌<◌, ◌≤◌, ◌≡◌, List, [], ◌∷◌, ◌++◌, true, false, ◌⊎◌, length, take, drop, Option}
 use Prim.Native.Char.{code}
 use Rattle.pool.specs.Layout.{cell_limit, register_count, pool_length}
 use Rattle.lines.specs.declared.Line.{Line}
@@ -26,7 +26,7 @@ abbrev pub HasRoom : List ℕ → Progress → Type 0
 HasRoom out p = p.put + reply_room ≤ length out
 
 -- A line is run: its reply is put behind those that wait, and a new line begins behind it.
-pub record LineRun (line : Line) (next : ℕ) (w out : List ℕ) (p : Progress) (w' out' : List ℕ) (q : Progress) : Type 0 where
+pub record LineRun (line : Option Line) (next : ℕ) (w out : List ℕ) (p : Progress) (w' out' : List ℕ) (q : Progress) : Type 0 where
   pub text : waiting out' q ≡ waiting out p ++ (turn_of (length w) line (pool_of p.used w)).0
   pub pool : pool_of q.used w' ≡ (turn_of (length w) line (pool_of p.used w)).1
   pub reader : q.reader ≡ new_reader

@@ -6,7 +6,7 @@ ghost use Rattle.replies.specs.Replies.{reply_room};
 ghost use Rattle.runner.specs.Work.{HasRoom, LineRun, Advanced, Worked, initial, handed};
 
 use lines::Line;
-use replies::{Reply, Written};
+use replies::Reply;
 use script::{Found, LineReader};
 
 // How far a script is run.
@@ -39,12 +39,10 @@ impl Progress {
     pub fn handed(self) -> Progress
         ensures { result ≡ handed self }
     {
-        let reader = self.reader;
         Progress {
-            used: self.used,
-            reader,
             at: 0,
             put: 0,
+            ..self
         }
     }
 }
@@ -65,13 +63,7 @@ pub fn work(words: &mut [u32], bytes: &[u8], out: &mut [u8], progress: Progress)
 fn goes_on(len: usize, room: usize, p: Progress) -> bool
     ensures { result ≡ (ltb p.at len && leb (p.put + reply_room) room) }
 {
-    if len <= p.at {
-        return false;
-    }
-    if room < p.put {
-        return false;
-    }
-    Reply::ROOM <= room - p.put
+    p.at < len && Reply::ROOM <= room.saturating_sub(p.put)
 }
 
 // Reads on to the end of the line, and runs it, or to the end of the part.
@@ -79,38 +71,33 @@ fn advance(words: &mut [u32], bytes: &[u8], out: &mut [u8], p: Progress) -> Prog
     requires { HasRoom out.old p }
     ensures { Advanced bytes.now words.old out.old p words.new out.new result }
 {
-    let reader = p.reader;
-    let at = p.at;
-    match reader.next_line(bytes, at) {
+    match p.reader.next_line(bytes, p.at) {
         Found::Line { line, next } => run_line(words, out, p, line, next),
-        Found::More(begun) => Progress {
-            used: p.used,
-            reader: begun,
+        Found::More(reader) => Progress {
+            reader,
             at: bytes.len(),
-            put: p.put,
+            ..p
         },
     }
 }
 
 // Runs a line that ends at `next`, and puts its reply behind those that wait.
-fn run_line(words: &mut [u32], out: &mut [u8], p: Progress, line: Line, next: usize) -> Progress
+fn run_line(
+    words: &mut [u32],
+    out: &mut [u8],
+    p: Progress,
+    line: Option<Line>,
+    next: usize,
+) -> Progress
     requires { HasRoom out.old p }
     ensures { LineRun line next words.old out.old p words.new out.new result }
 {
     let turn = interpreter::execute(words, p.used, line);
-    let reply = turn.reply;
-    match replies::write_reply(out, p.put, reply) {
-        Written::Next(put) => Progress {
-            used: turn.used,
-            reader: LineReader::new(),
-            at: next,
-            put,
-        },
-        Written::NoRoom => Progress {
-            used: turn.used,
-            reader: LineReader::new(),
-            at: next,
-            put: p.put,
-        },
+    let put = replies::write_reply(out, p.put, turn.reply).unwrap();
+    Progress {
+        used: turn.used,
+        reader: LineReader::new(),
+        at: next,
+        put,
     }
 }

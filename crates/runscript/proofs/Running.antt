@@ -36,24 +36,17 @@ module _ (bytes w out : List ℕ) (p : Progress) (w' out' : List ℕ) (q : Progr
       }
 
 -- a part that is being run, from p₀ on
-pub record Running (bytes w₀ out₀ : List ℕ) (p₀ : Progress) (w out : List ℕ) (p : Progress) : Type 0 where
-  pub words : length w ≡ length w₀
-  pub room : length out ≡ length out₀
+pub record Running (bytes w₀ : List ℕ) (p₀ : Progress) (w : List ℕ) (p : Progress) : Type 0 where
   pub none_waits : p.put ≡ 0
   pub text : List ℕ
   pub follows : (more : List ℕ) → text ++ remaining w bytes p more ≡ remaining w₀ bytes p₀ more
 
-module _ (bytes w₀ out₀ : List ℕ) (p₀ : Progress) where
-  pub running_start : p₀.put ≡ 0 → Running bytes w₀ out₀ p₀ w₀ out₀ p₀
-  running_start none = record { words = refl; room = refl; none_waits = none; text = []; follows = λ more. refl }
-
+module _ (bytes w₀ : List ℕ) (p₀ : Progress) where
   pub running_on :
-      (w out : List ℕ) (p : Progress) (w' out' : List ℕ) (q : Progress) → Running bytes w₀ out₀ p₀ w out p → LinesRun bytes w p w' out' q
-      → length w' ≡ length w → length out' ≡ length out → Running bytes w₀ out₀ p₀ w' out' q
-  running_on w out p w' out' q before lines long wide =
+      (w : List ℕ) (p : Progress) (w' out' : List ℕ) (q : Progress) → Running bytes w₀ p₀ w p → LinesRun bytes w p w' out' q
+      → Running bytes w₀ p₀ w' q
+  running_on w p w' out' q before lines =
       record {
-        words = long ∙ before.words;
-        room = wide ∙ before.room;
         none_waits = lines.none_waits;
         text = before.text ++ lines.text;
         follows = λ more. rw append_assoc (ap (λ (t : List ℕ). before.text ++ t) (lines.follows more) ∙ before.follows more);
@@ -68,12 +61,12 @@ part_end : (bytes w : List ℕ) (p : Progress) (more : List ℕ) → length byte
 part_end bytes w p more past = parts_join w bytes [] more p past
 
 pub part-run :
-    (bytes w₀ out₀ : List ℕ) (p₀ : Progress) (w out : List ℕ) (p start : Progress) (is_written : Bool) → Running bytes w₀ out₀ p₀ w out p
-    → p₀ ≡ handed start → (is_written ≡ true → length bytes ≤ p.at) → PartRun bytes w₀ start w p is_written
-part-run bytes w₀ out₀ p₀ w out p start is_written running from whole =
+    (bytes w₀ : List ℕ) (start : Progress) (w : List ℕ) (p : Progress) (is_written : Bool) → Running bytes w₀ (handed start) w p
+    → (is_written ≡ true → length bytes ≤ p.at) → PartRun bytes w₀ start w p is_written
+part-run bytes w₀ start w p is_written running whole =
     record {
       text = running.text;
-      follows = λ more. running.follows more ∙ ap (λ (p : Progress). remaining w₀ bytes p more) from ∙ part_start bytes w₀ start more;
+      follows = λ more. running.follows more ∙ part_start bytes w₀ start more;
       whole = whole;
     }
 

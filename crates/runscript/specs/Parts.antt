@@ -1,7 +1,7 @@
 -- How runscript reads and prints a script in parts (01: "The program runscript reads standard input, one call a line ..", "It prints .."). No contract
 -- can speak of what is read from standard input or written to standard output. These speak of the bytes that hold what was read, of those that are
 -- handed over to be written, and of the words and the progress: what is printed, and then what the rest of the script prints, is what the script prints.
-use Rattle.std.specs.Prelude.{ℕ, ◌<◌, ◌≤◌, ◌≡◌, List, [], ◌++◌, Bool, true, false, length, take}
+use Rattle.std.specs.Prelude.{ℕ, ◌<◌, ◌≤◌, ◌≡◌, List, [], ◌++◌, Bool, true, false, length, take, Result, Ok, Err}
 use Rattle.pool.specs.Layout.{cell_limit, register_count, pool_length}
 use Rattle.interpreter.specs.Execute.{printed}
 use Rattle.runner.specs.Work.{remaining, handed, initial}
@@ -39,6 +39,11 @@ Finished w p out' = StandsIn out' (rest w p [])
 pub record ReadRun (bytes w : List ℕ) (p : Progress) (w' out' : List ℕ) (q : Progress) (goes_on : Bool) : Type 0 where
   pub part : 0 < length bytes → PartRun bytes w p w' q goes_on
   pub finished : length bytes ≡ 0 → Finished w p out' × (goes_on ≡ false)
+
+-- Does the script go on? Not behind the end of the input, nor where reading or writing fails.
+abbrev pub goes_on : {F : Type 0} → Result Bool F → Bool
+goes_on (Ok more) = more
+goes_on (Err failure) = false
 
 -- A part of the script is read and run. It stands at the start of the buffer and is not empty; `text` is what is written for it.
 pub record Continued (w : List ℕ) (p : Progress) (w' buffer' : List ℕ) (q : Progress) : Type 0 where

@@ -1,13 +1,13 @@
 // Runs a script from standard input, and writes the reply to each line to standard output. Its memory does not grow with the script.
 #![tactic(auto)]
 
-ghost use Rattle.std.specs.Prelude.{◌≡◌, true, ◌<◌, ◌≤◌, length};
-ghost use Rattle.replies.specs.Replies.{reply_room};
-ghost use Rattle.runscript.specs.Parts.{LinesRun, PartRun, Finished, ReadRun, Continued};
+ghost use Rattle.std.specs.Prelude.{◌≡◌, true, is_ok};
+ghost use Rattle.runscript.specs.Parts.{LinesRun, PartRun, Finished, ReadRun, Continued, goes_on};
 
 use pool::Pool;
 use runner::Progress;
 use std::env::{Env, FillError};
+use std::fmt;
 use std::io::Read;
 
 // The words of the largest pool.
@@ -16,151 +16,105 @@ const WORDS: usize = Pool::FIRST_CELL + Pool::CELL_WORDS * Pool::CELLS as usize;
 // The bytes of a part of the script, and of the replies that wait.
 const BUFFER: usize = 65536;
 
-// Where a script stands, and whether it goes on.
+// Why a script is not run to its end.
 #[derive(Clone, Copy)]
-struct Step {
-    progress: Progress,
-    more: bool,
+enum Failure {
+    Read,
+    Write,
 }
 
-// Writes the replies that wait, and says whether they are written.
-fn flush(rt: &(impl Print + Eprint), out: &[u8], put: usize) -> bool
-    requires { put ≤ length out.now }
-{
-    let is_written = rt.write_all(&out[..put]).is_ok();
-    if !is_written {
-        let _ = rt.eprintln("runscript: cannot write");
-    }
-    is_written
-}
-
-// Runs lines of a part up to its end, or until no more replies fit, and writes the replies.
-fn run_some(
-    rt: &(impl Print + Eprint),
-    words: &mut [u32],
-    bytes: &[u8],
-    out: &mut [u8],
-    p: Progress,
-) -> Step
-    requires { (p.put ≡ 0) × (reply_room ≤ length out.old) }
-    ensures { LinesRun bytes.now words.old p words.new out.new result.progress }
-{
-    let q = runner::work(words, bytes, out, p);
-    let reader = q.reader;
-    let more = flush(rt, out, q.put);
-    Step {
-        progress: Progress {
-            used: q.used,
-            reader,
-            at: q.at,
-            put: 0,
-        },
-        more,
-    }
-}
-
-// Runs the lines of a part of the script, and writes their replies.
-fn run_part(
-    rt: &(impl Print + Eprint),
-    words: &mut [u32],
-    bytes: &[u8],
-    out: &mut [u8],
-    start: Progress,
-) -> Step
-    requires { reply_room ≤ length out.old }
-    ensures { PartRun bytes.now words.old start words.new result.progress result.more }
-{
-    let mut p = start.handed();
-    while p.at < bytes.len() {
-        let step = run_some(rt, words, bytes, out, p);
-        let next = step.progress;
-        if !step.more {
-            return Step {
-                progress: next,
-                more: false,
-            };
+impl fmt::Display for Failure {
+    fn fmt<W: fmt::Write>(&self, f: &mut fmt::Formatter<W>) -> fmt::Result {
+        match self {
+            Failure::Read => write!(f, "cannot read"),
+            Failure::Write => write!(f, "cannot write"),
         }
-        p = next;
-    }
-    Step {
-        progress: p,
-        more: true,
     }
 }
 
-// Runs the last line, which has no line feed: the end of the input ends it as a line feed does.
-fn run_last(rt: &(impl Print + Eprint), words: &mut [u32], out: &mut [u8], progress: Progress)
-    requires { reply_room ≤ length out.old }
-    ensures { Finished words.old progress out.new }
-{
-    let reader = progress.reader;
-    if reader.begun() {
-        let p = progress.handed();
-        run_some(rt, words, b"\n", out, p);
-    }
-}
-
-// Runs what was read: a part of the script, or at the end of the input, where that is nothing, the last line.
-fn run_read(
-    rt: &(impl Print + Eprint),
-    words: &mut [u32],
-    bytes: &[u8],
-    out: &mut [u8],
+// A script that is being run: the words lent to its pool, the bytes of its replies, and how far it is run.
+#[derive(Drop)]
+struct ScriptRun {
+    words: [u32; WORDS],
+    out: [u8; BUFFER],
     progress: Progress,
-) -> Step
-    requires { reply_room ≤ length out.old }
-    ensures { ReadRun bytes.now words.old progress words.new out.new result.progress result.more }
-{
-    if bytes.len() == 0 {
-        run_last(rt, words, out, progress);
-        return Step {
-            progress,
-            more: false,
-        };
-    }
-    run_part(rt, words, bytes, out, progress)
 }
 
-// Reads the next part of the script into the buffer, and runs it.
-fn read_part(
-    rt: &(impl Print + Eprint),
-    input: &mut impl Read,
-    words: &mut [u32],
-    buffer: &mut [u8],
-    out: &mut [u8],
-    progress: Progress,
-) -> Step
-    requires { reply_room ≤ length out.old }
-    ensures { result.more ≡ true → Continued words.old progress words.new buffer.new result.progress }
-{
-    let Ok(n) = input.read(buffer) else {
-        let _ = rt.eprintln("runscript: cannot read");
-        return Step {
-            progress,
-            more: false,
-        };
+impl ScriptRun {
+    // Runs lines of a part up to its end, or until no more replies fit, and writes the replies.
+    fn run_some(&mut self, rt: &impl Print, bytes: &[u8]) -> Result<(), Failure>
+        requires { self.old.progress.put ≡ 0 }
+        ensures { LinesRun bytes.now self.old.words self.old.progress self.new.words self.new.out self.new.progress }
+    {
+        let progress = runner::work(&mut self.words, bytes, &mut self.out, self.progress);
+        self.progress = Progress { put: 0, ..progress };
+        rt.write_all(&self.out[..progress.put])
+            .map_err(|_| Failure::Write)
+    }
+
+    // Runs the lines of a part of the script, and writes their replies.
+    fn run_part(&mut self, rt: &impl Print, bytes: &[u8]) -> Result<(), Failure>
+        ensures { PartRun bytes.now self.old.words self.old.progress self.new.words self.new.progress (is_ok result) }
+    {
+        self.progress = self.progress.handed();
+        while self.progress.at < bytes.len() {
+            self.run_some(rt, bytes)?;
+        }
+        Ok(())
+    }
+
+    // Runs the last line, which has no line feed: the end of the input ends it as a line feed does.
+    fn run_last(&mut self, rt: &impl Print) -> Result<(), Failure>
+        ensures { Finished self.old.words self.old.progress self.new.out }
+    {
+        if self.progress.reader.begun() {
+            self.progress = self.progress.handed();
+            self.run_some(rt, b"\n")?;
+        }
+        Ok(())
+    }
+
+    // Runs what was read, and says whether the script goes on: a part of the script, or at the end of the input, where that is nothing, the last line.
+    fn run_read(&mut self, rt: &impl Print, bytes: &[u8]) -> Result<bool, Failure>
+        ensures { ReadRun bytes.now self.old.words self.old.progress self.new.words self.new.out self.new.progress (goes_on result) }
+    {
+        if bytes.is_empty() {
+            self.run_last(rt)?;
+            return Ok(false);
+        }
+        self.run_part(rt, bytes)?;
+        Ok(true)
+    }
+
+    // Reads the next part of the script into the buffer, and runs it.
+    fn read_part(
+        &mut self,
+        rt: &impl Print,
+        input: &mut impl Read,
+        buffer: &mut [u8],
+    ) -> Result<bool, Failure>
+        ensures { goes_on result ≡ true → Continued self.old.words self.old.progress self.new.words buffer.new self.new.progress }
+    {
+        let n = input.read(buffer).map_err(|_| Failure::Read)?;
+        self.run_read(rt, &buffer[..n])
+    }
+}
+
+// Runs the script on standard input. A proved loop has to end, and nothing says that the input does: the loop has a number of reads that no run uses up.
+fn run(rt: &(impl Print + Input)) -> Result<(), Failure> {
+    let mut run = ScriptRun {
+        words: [0; WORDS],
+        out: [0; BUFFER],
+        progress: Progress::start(),
     };
-    run_read(rt, words, &buffer[..n], out, progress)
-}
-
-// Runs the script on standard input. A proved loop has to end, and nothing says that the input does: the loop counts down, from a number of reads
-// that no run uses up.
-fn run(rt: &(impl Print + Eprint + Input)) {
-    let mut words = [0u32; WORDS];
     let mut buffer = [0u8; BUFFER];
-    let mut out = [0u8; BUFFER];
     let mut input = rt.reader();
-    let mut p = Progress::start();
-    let mut reads = u64::MAX;
-    while 0 < reads {
-        let step = read_part(rt, &mut input, &mut words, &mut buffer, &mut out, p);
-        if !step.more {
-            return;
+    'parts: for _ in 0..u64::MAX {
+        if !run.read_part(rt, &mut input, &mut buffer)? {
+            break;
         }
-        let next = step.progress;
-        p = next;
-        reads -= 1;
     }
+    Ok(())
 }
 
 // Is there an argument behind the program's name? Its bytes are not looked at.
@@ -176,5 +130,7 @@ fn main(rt: HostRuntime) {
         );
         return;
     }
-    run(&rt);
+    if let Err(failure) = run(&rt) {
+        let _ = eprintln!(rt; "runscript: {failure}");
+    }
 }

@@ -1,4 +1,3 @@
-pub mod Saving
 pub mod Determined
 pub mod SavedImage
 pub mod Renumbering

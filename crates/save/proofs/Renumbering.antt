@@ -13,12 +13,13 @@ use Rattle.graph.proofs.Pairing.{paired-least, preorder-paired, length-paired, p
 use Rattle.pool.specs.Words.{tabulate}
 use Rattle.pool.specs.Layout.{pool_length, register, cell, value, is_point_at, link_of, graph_of, roots_of}
 use Rattle.pool.proofs.Links.{link-pair, link-point}
-use Rattle.pool.proofs.Every.{length-tabulate, get_d_tabulate, tabulate-list}
+use Rattle.pool.proofs.Every.{length-tabulate, get_or-tabulate, tabulate-list}
 use Rattle.questions.proofs.WellFormed.{WellFormed}
 use Rattle.questions.proofs.PoolGraph.{pool-within}
 use Rattle.reversal.specs.Reached.{reached_cells, reached_count}
+use Rattle.pool.specs.States.{is_point_kind}
 use Rattle.image.specs.declared.ImageCell.{ImageCell}
-use Rattle.image.specs.Image.{is_point_kind, number_in, saved_word, saved_cell, saved_image}
+use Rattle.image.specs.Image.{number_in, saved_word, saved_cell, saved_image}
 use Rattle.image.proofs.Images.{LinksWithin}
 use Rattle.load.specs.Load.{loaded_words}
 use Rattle.load.proofs.Putting.{image_field}
@@ -82,8 +83,8 @@ module _ (R n : ℕ) (w : List ℕ) (m : ℕ) (few : reached_count R n w ≤ m) 
     roots_numbered i below =
         let low : i < R = omega (arith, length-tabulate R (λ k. register w k)) in (
           Reach.root (get_or-member (roots_of R w) i below),
-          get_d_tabulate R (λ k. register loaded k) i 0 low
-              ∙ (renumbered-register i low ∙ ap (number_in order) (sym (get_d_tabulate R (λ k. register w k) i 0 low))),
+          get_or-tabulate R (λ k. register loaded k) i 0 low
+              ∙ (renumbered-register i low ∙ ap (number_in order) (sym (get_or-tabulate R (λ k. register w k) i 0 low))),
         )
 
     links_numbered : (x y : ℕ) → Numbers x y → 0 < x → 0 < y

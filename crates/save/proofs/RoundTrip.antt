@@ -8,23 +8,27 @@ use lib.ListN.{length, get_or, take, drop}
 use lib.Dec.{leb, ltb}
 use lib.Seq.{drop-append_seam, ext_get_or}
 use borrow.Author.Tests.{lt-ltb, le-leb, ltb-true, leb-true}
+use Rattle.std.specs.Prelude.{Ok}
 use Rattle.graph.specs.Theorems.{Distinct}
 use Rattle.graph.proofs.Theorems.{preorder-distinct, preorder-length, preorder-reached}
 use Rattle.graph.proofs.Lists.{get_or-member}
 use Rattle.pool.specs.Words.{tabulate}
 use Rattle.pool.specs.Layout.{register_count, cell_limit, pool_length, cell_count_of_length, cell_count, cell, state, is_point_at, graph_of, roots_of}
-use Rattle.pool.specs.States.{is_used}
+use Rattle.pool.specs.States.{is_used, is_point_kind}
 use Rattle.pool.proofs.States.{same-state}
 use Rattle.questions.specs.Validity.{well_formed}
 use Rattle.pool.specs.Retain.{free_cells}
 use Rattle.answers.specs.Outcome.{Outcome, answered, status, given}
-use Rattle.pool.proofs.Every.{length-tabulate, get_d_tabulate, tabulate-member}
+use Rattle.pool.proofs.Every.{length-tabulate, get_or-tabulate, tabulate-member}
 use Rattle.pool.proofs.Sizes.{Sized, length_sized, cells_sized}
 use Rattle.questions.proofs.WellFormed.{WellFormed, well_formed_read, well_formed_made}
 use Rattle.questions.proofs.PoolGraph.{reached-used, pool-within}
 use Rattle.reversal.specs.Reached.{reached_cells, reached_count}
 use Rattle.image.specs.declared.ImageCell.{ImageCell}
-use Rattle.image.specs.Image.{kind_of, is_point_kind, number_in, saved_word, Image, saved_cell, saved_image, image_bytes, image_of, parsed, read_image}
+use Rattle.pool.specs.declared.Kind.{Kind}
+use Rattle.pool.specs.declared.Kind.TheVariants as kind
+use Rattle.image.specs.Kinds.{kind_of}
+use Rattle.image.specs.Image.{number_in, saved_word, Image, saved_cell, saved_image, image_bytes, image_of, parsed, read_image}
 use Rattle.image.proofs.Reading.{between_taken, each_at}
 use Rattle.image.proofs.Images as images
 use Rattle.image.proofs.Decoding.{Encodable, encodable_links, image-encoded}
@@ -57,7 +61,7 @@ module _ (R m : ℕ) (i : Image) (few : length i.cells ≤ m) (all : length i.re
   -- Each cell's number is its own.
   own_number : (x : ℕ) → x ≤ K → number_in order x ≡ x
   own_number zero h = place_none 1 order 0 (λ mem. omega (arith, (tabulate-member K suc 0 mem).2))
-  own_number (suc p) h = sym (ap (number_in order) (get_d_tabulate K suc p 0 h)) ∙ number_at counted p (omega (arith, length-tabulate K suc))
+  own_number (suc p) h = sym (ap (number_in order) (get_or-tabulate K suc p 0 h)) ∙ number_at counted p (omega (arith, length-tabulate K suc))
 
   same-registers : (saved_image R pool order).registers ≡ i.registers
   same-registers =
@@ -75,23 +79,22 @@ module _ (R m : ℕ) (i : Image) (few : length i.cells ≤ m) (all : length i.re
       linked : images.Linked K c
       linked = each_at links.cells p no_cell below
 
-      kind : is_point_at R pool (suc p) ≡ is_point_kind c.kind
-      kind = loaded-kind R m i few all words long p below
+      same-kind : is_point_at R pool (suc p) ≡ is_point_kind c.kind
+      same-kind = loaded-kind R m i few all words long p below
 
       field : (f : ℕ) → p < K → suc f < 4 → cell R pool (suc p) (suc f) ≡ image_field c (suc f)
       field = loaded-cell R m i few all words long p
 
-      again : (k : ℕ) → k ≤ 1 → kind_of (is_point_kind k) ≡ k
-      again zero h = refl
-      again (suc zero) h = refl
-      again (suc (suc k)) h = absurd (omega arith)
+      again : (k : Kind) → kind_of (is_point_kind k) ≡ k
+      again kind.Pair = refl
+      again kind.Point = refl
 
       k : kind_of (is_point_at R pool (suc p)) ≡ c.kind
-      k = ap kind_of kind ∙ again c.kind linked.kind-most
+      k = ap kind_of same-kind ∙ again c.kind
 
       word : (f : ℕ) → suc f < 4 → (is_point_kind c.kind ≡ false → image_field c (suc f) ≤ K)
           → saved_word (is_point_at R pool (suc p)) order (cell R pool (suc p) (suc f)) ≡ image_field c (suc f)
-      word f hf most = ap₂ (λ (t : Bool) (x : ℕ). saved_word t order x) kind (field f below hf) ∙ go (is_point_kind c.kind) most
+      word f hf most = ap₂ (λ (t : Bool) (x : ℕ). saved_word t order x) same-kind (field f below hf) ∙ go (is_point_kind c.kind) most
         where
           go : (t : Bool) → (t ≡ false → image_field c (suc f) ≤ K) → saved_word t order (image_field c (suc f)) ≡ image_field c (suc f)
           go true h = refl
@@ -109,7 +112,7 @@ module _ (R m : ℕ) (i : Image) (few : length i.cells ≤ m) (all : length i.re
       ext_get_or no_cell (saved_image R pool order).cells i.cells long λ p below.
       let low : p < K = omega arith in
       image-cell R pool order p (omega (arith, length-tabulate K suc))
-      ∙ (ap (saved_cell R pool order) (get_d_tabulate K suc p 0 low) ∙ same-cell p low)
+      ∙ (ap (saved_cell R pool order) (get_or-tabulate K suc p 0 low) ∙ same-cell p low)
 
   pub saved-again : image_of R m pool ≡ image_bytes i
   saved-again =
@@ -140,7 +143,7 @@ load-then_save words bytes i end byte some e visited s out long = go (load_of wo
     m : ℕ
     m = cell_count_of_length register_count (length words)
 
-    go : (loaded : Loaded × List ℕ) → loaded ≡ (record { verdict = 0; end = end }, loaded_words register_count m i words)
+    go : (loaded : Loaded × List ℕ) → loaded ≡ (record { verdict = Ok tt; end = end }, loaded_words register_count m i words)
         → reached_cells register_count m loaded.1 ≡ tabulate (length i.cells) suc
         → save_of loaded.1 s out ≡ save_image (take loaded.0.end bytes) s out
     go loaded is visited =
@@ -198,7 +201,7 @@ module _ (n : ℕ) (w words : List ℕ) (some : 0 < cell_count_of_length registe
       }
 
   restored : (out : List ℕ) → length (image_of register_count n w) ≤ length out → (loaded : Loaded × List ℕ)
-      → loaded ≡ (record { verdict = 0; end = length (image_of register_count n w) }, loaded_words register_count m image words)
+      → loaded ≡ (record { verdict = Ok tt; end = length (image_of register_count n w) }, loaded_words register_count m image words)
       → let bytes = image_of register_count n w ++ drop (length (image_of register_count n w)) out in
       Restored n w out (length (image_of register_count n w)) bytes m loaded.0.verdict (drop loaded.0.end bytes) loaded.1
   restored out fits loaded is =

@@ -6,8 +6,10 @@ use mathlib.Core.Bool.{Bool, true, false, true≢false}
 use mathlib.Core.List.{List, [], ◌∷◌, map}
 use lib.ListN.{length, get_or, length-map}
 use Rattle.pool.specs.Layout.{register, cell, is_point_at, roots_of}
-use Rattle.pool.proofs.Every.{length-tabulate, get_d_tabulate}
-use Rattle.image.specs.Image.{kind_of, is_point_kind, number_in, saved_word, saved_cell, saved_image}
+use Rattle.pool.proofs.Every.{length-tabulate, get_or-tabulate}
+use Rattle.pool.specs.States.{is_point_kind}
+use Rattle.image.specs.Kinds.{kind_of}
+use Rattle.image.specs.Image.{number_in, saved_word, saved_cell, saved_image}
 use Rattle.image.proofs.Reading.{each_map}
 use Rattle.image.proofs.Decoding.{Encodable}
 use Rattle.load.proofs.Putting.{no_cell}
@@ -29,7 +31,7 @@ module _ (R : ℕ) (w order : List ℕ) where
   pub image-register : (k : ℕ) → k < R → get_or (saved_image R w order).registers k 0 ≡ number_in order (register w k)
   image-register k low =
       get_d_map (number_in order) (roots_of R w) k 0 0 (omega (arith, length-tabulate R (λ j. register w j)))
-      ∙ ap (number_in order) (get_d_tabulate R (λ j. register w j) k 0 low)
+      ∙ ap (number_in order) (get_or-tabulate R (λ j. register w j) k 0 low)
 
   pub image-cell : (p : ℕ) → p < length order → get_or (saved_image R w order).cells p no_cell ≡ saved_cell R w order (get_or order p 0)
   image-cell p below = get_d_map (saved_cell R w order) order p no_cell 0 below
@@ -44,7 +46,6 @@ module _ (R : ℕ) (w order : List ℕ) where
         registers = each_map (number_in order) (roots_of R w) (λ x. omega (arith, number-most order x));
         cells = each_map (saved_cell R w order) order λ x. (
           record {
-            kind-most = kind (is_point_at R w x);
             left-most = λ pair. omega (arith, most (is_point_at R w x) (cell R w x 1) pair);
             right-most = λ pair. omega (arith, most (is_point_at R w x) (cell R w x 2) pair);
           },
@@ -52,10 +53,6 @@ module _ (R : ℕ) (w order : List ℕ) where
         );
       }
     where
-      kind : (t : Bool) → kind_of t ≤ 1
-      kind true = omega arith
-      kind false = omega arith
-
       most : (t : Bool) (v : ℕ) → is_point_kind (kind_of t) ≡ false → saved_word t order v ≤ length order
       most true v e = absurd (true≢false e)
       most false v e = number-most order v

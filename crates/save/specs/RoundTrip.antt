@@ -1,10 +1,11 @@
 -- What is proved of save and load together: a loaded save is the saved graph, its cells numbered in the order of the visits.
-use Rattle.std.specs.Prelude.{ℕ, suc, ◌*◌, ◌<◌, ◌≤◌, ◌^◌, ◌≡◌, List, [], ◌∷◌, true, length, get_or, take, drop, replicate, leb}
+use Rattle.std.specs.Prelude.{ℕ, suc, ◌*◌, ◌<◌, ◌≤◌, ◌^◌, ◌≡◌, List, [], ◌∷◌, true, length, get_or, take, drop, replicate, leb, Result, Ok}
 use Rattle.pool.specs.Words.{tabulate}
 use Rattle.pool.specs.Layout.{register_count, cell_count_of_length, cell_count, register, state, left, right, value, is_point_at}
 use Rattle.questions.specs.Validity.{well_formed}
 use Rattle.pool.specs.Retain.{free_list, free_cells}
 use Rattle.answers.specs.Outcome.{answered}
+use Rattle.answers.specs.declared.Refusal.{Refusal}
 use Rattle.reversal.specs.Reached.{reached_cells, reached_count}
 use Rattle.leb128.specs.Leb128.{Bytes}
 use Rattle.image.specs.Image.{number_in, saved_word, Image, parsed, read_image}
@@ -33,8 +34,8 @@ pub record Renumbered (n : ℕ) (w : List ℕ) (m : ℕ) (v : List ℕ) : Type 0
 
 -- A save of the pool w of n cells to the bytes `out` answered `size` and left `bytes` there. Load of these gives the verdict, hands back `rest`, and
 -- leaves the words v, of m cells.
-pub record Restored (n : ℕ) (w out : List ℕ) (size : ℕ) (bytes : List ℕ) (m verdict : ℕ) (rest v : List ℕ) : Type 0 where
-  pub accepted : verdict ≡ 0
+pub record Restored (n : ℕ) (w out : List ℕ) (size : ℕ) (bytes : List ℕ) (m : ℕ) (verdict : Result (Unit {0}) Refusal) (rest v : List ℕ) : Type 0 where
+  pub accepted : verdict ≡ Ok tt
   -- The part behind the image is what stood behind it before: "output past the image stays".
   pub part : rest ≡ drop size out
   pub cells : cell_count register_count v ≡ m

@@ -1,21 +1,20 @@
 -- Save (01, "Images" and "Questions, in order"): what it answers and leaves, for every pool, scratch and output.
-use Rattle.std.specs.Prelude.{ℕ, ◌*◌, List, [], ◌∷◌, ◌++◌, cond, length, drop, replicate, leb}
+use Rattle.std.specs.Prelude.{ℕ, ◌*◌, List, [], ◌∷◌, ◌++◌, cond, length, drop, replicate, leb, Result, Ok, Err}
 use Rattle.pool.specs.Layout.{register_count}
 use Rattle.questions.specs.Validity.{well_formed}
 use Rattle.questions.specs.Questions.{sized_of, admitted_to}
 use Rattle.answers.specs.Outcome.{Outcome, answered, refused, refusal_number, Determined}
 use Rattle.image.specs.Image.{image_of}
-use Rattle.save.specs.declared.Saved.{Saved}
-use Rattle.save.specs.declared.Saved.TheVariants as saved
+use Rattle.answers.specs.declared.Refusal.{Refusal}
 
 -- What `save` says: the byte count.
-abbrev pub saved_outcome : Saved → Outcome
-saved_outcome (saved.Bytes size) = answered (size ∷ [])
-saved_outcome (saved.Refused why) = refused (refusal_number why)
+abbrev pub saved_outcome : Result ℕ Refusal → Outcome
+saved_outcome (Ok size) = answered (size ∷ [])
+saved_outcome (Err why) = refused (refusal_number why)
 
 -- What is said determines the answer, its case too.
 abbrev pub SavedDetermined : Type 0
-SavedDetermined = Determined Saved saved_outcome
+SavedDetermined = Determined (Result ℕ Refusal) saved_outcome
 
 -- The answer, the scratch and the output afterwards, for a well-formed pool: "does the output hold the image? No: 10."; "once save has found
 -- the pool whole all its scratch is 0, refused or not"; "output past the image stays".

@@ -8,53 +8,49 @@ ghost use Rattle.save.specs.Save.{saved_outcome, save_image, save_in, save_of};
 ghost use Rattle.numbering.specs.Steps.{Savable};
 
 use answers::Refusal;
-use questions::Admitted;
+use image_writer::NumberedPool;
 
-// What `save` answers.
-#[derive(Clone, Copy)]
-pub enum Saved {
-    // So many bytes were written.
-    Bytes(usize),
-    Refused(Refusal),
-}
-
-// Saves a well-formed pool of n cells.
-fn save_pool(words: &[u32], scratch: &mut [u32], out: &mut [u8], n: u32) -> Saved
+// Saves a well-formed pool of n cells. Gives the number of bytes that were written.
+fn save_pool(words: &[u32], scratch: &mut [u32], out: &mut [u8], n: u32) -> Result<usize, Refusal>
     requires { Savable register_count n words.now (length scratch.old) }
     ensures { (saved_outcome result, scratch.new, out.new) ≡ save_image (image_of register_count n words.now) scratch.old out.old }
 {
-    let k = numbering::order_cells(words, scratch, n);
-    let size = image_writer::image_size(words, scratch, n, k);
+    let count = numbering::order_cells(words, scratch, n);
+    let pool = NumberedPool {
+        words,
+        scratch,
+        cells: n,
+        count,
+    };
+    let size = pool.image_size();
     if out.len() < size {
         pool::clear(scratch);
-        return Saved::Refused(Refusal::NoRoom);
+        return Err(Refusal::NoRoom);
     }
-    image_writer::write_image(words, scratch, n, k, out);
+    pool.write_image(out);
     pool::clear(scratch);
-    Saved::Bytes(size)
+    Ok(size)
 }
 
 // Save of a pool of n cells.
-fn save_in(words: &[u32], scratch: &mut [u32], out: &mut [u8], n: u32) -> Saved
+fn save_in(words: &[u32], scratch: &mut [u32], out: &mut [u8], n: u32) -> Result<usize, Refusal>
     requires { (pool_length register_count n ≤ length words.now) × (n ≤ cell_limit) }
     ensures { (saved_outcome result, scratch.new, out.new) ≡ save_in n words.now scratch.old out.old }
 {
     if scratch.len() < 2 * n as usize {
-        return Saved::Refused(Refusal::NoRoom);
+        return Err(Refusal::NoRoom);
     }
     if questions::well_formed(words, n) {
         save_pool(words, scratch, out, n)
     } else {
-        Saved::Refused(Refusal::Malformed)
+        Err(Refusal::Malformed)
     }
 }
 
 // Writes the image of the pool to the start of the output, if it has room for the whole of it. Gives the number of bytes.
-pub fn save(words: &[u32], scratch: &mut [u32], out: &mut [u8]) -> Saved
+pub fn save(words: &[u32], scratch: &mut [u32], out: &mut [u8]) -> Result<usize, Refusal>
     ensures { (saved_outcome result, scratch.new, out.new) ≡ save_of words.now scratch.old out.old }
 {
-    match questions::sized(words) {
-        Admitted::Cells(n) => save_in(words, scratch, out, n),
-        Admitted::Refused(k) => Saved::Refused(k),
-    }
+    let n = questions::sized(words)?;
+    save_in(words, scratch, out, n)
 }

@@ -1,14 +1,15 @@
 -- Reading on in a part of a script, a byte at a time; and the lines of a whole script.
-use Prim.Native.Nat.{ℕ, suc, ◌+◌, ◌-◌, ◌<◌, ◌≤◌}
+use Prim.Native.Nat.{ℕ, suc, ◌+◌, ◌-◌, ◌<◌}
 use Prim.Native.Char.{code}
 use mathlib.Core.Path.{◌≡◌, refl, ap, sym, ◌∙◌}
 use mathlib.Core.List.{List, [], ◌∷◌, ◌++◌, map, foldl, foldl-append, append-nil, append_assoc}
 use mathlib.Core.Bool.{Bool, true, false, cond, not}
 use native.Mathlib.Numerals.{add-one}
 use native.Mathlib.Omega.{arith}
-use lib.ListN.{length, get_or, drop, drop_of_length-le}
+use lib.ListN.{length, get_or, drop}
 use lib.Seq.{drop-cons, drop-drop}
-use borrow.Author.Tests.{eq-eqb, ne_eqb}
+use borrow.Author.Tests.{ne_eqb}
+use Rattle.std.specs.Prelude.{Option}
 use Rattle.lines.specs.declared.Line.{Line}
 use Rattle.script.specs.declared.LineReader.{LineReader}
 use Rattle.script.specs.declared.Found.TheVariants as found
@@ -17,22 +18,11 @@ use Rattle.lines.specs.Lines.{parse_line}
 use Rattle.script.specs.Scripts.{is_line_feed, next_line, start_line, lines_of, read_script, ReadsScripts, PartsRead}
 use Rattle.script.proofs.Reading.{reads_lines, knows_begun}
 
-module _ (s : LineReader) (bytes : List ℕ) (i : ℕ) where
-  -- The part ends.
-  pub part-ends : length bytes ≤ i → next_line s (drop i bytes) i ≡ found.More s
-  unfolding next_line
-  part-ends past = rw (drop_of_length-le bytes past)
-
-  -- A line feed ends the line.
-  pub line-ends : i < length bytes → get_or bytes i 0 ≡ code "\n" → next_line s (drop i bytes) i ≡ found.Line (end_of s) (i + 1)
-  unfolding next_line
-  line-ends inside e = rw (drop-cons bytes i 0 inside, next_line, eq-eqb (get_or bytes i 0) (code "\n") e)
-
-  -- Another byte is fed.
-  pub line_goes_on : i < length bytes → (get_or bytes i 0 ≡ code "\n" → ⊥)
-      → next_line s (drop i bytes) i ≡ next_line (feed_of s (get_or bytes i 0)) (drop (i + 1) bytes) (i + 1)
-  unfolding next_line
-  line_goes_on inside other = rw (drop-cons bytes i 0 inside, next_line, ne_eqb (get_or bytes i 0) (code "\n") other, add-one)
+-- A byte that is no line feed is fed.
+pub line_goes_on : (s : LineReader) (bytes : List ℕ) (i : ℕ) → i < length bytes → (get_or bytes i 0 ≡ code "\n" → ⊥)
+    → next_line s (drop i bytes) i ≡ next_line (feed_of s (get_or bytes i 0)) (drop (i + 1) bytes) (i + 1)
+unfolding next_line
+line_goes_on s bytes i inside other = rw (drop-cons bytes i 0 inside, next_line, ne_eqb (get_or bytes i 0) (code "\n") other, add-one)
 
 -- The lines of a script whose first line starts with bytes that are read already.
 abbrev start_with : List ℕ → List (List ℕ) → List (List ℕ)
@@ -106,18 +96,18 @@ module _ (s : LineReader) (b : ℕ) (bytes : List ℕ) (at : ℕ) where
   next-longer e = rw (next_line, e)
 
 -- A line that is found ends behind the place where the part begins, and is the first of the script from there on.
-record Finds (s : LineReader) (bytes rest : List ℕ) (at : ℕ) (l : Line) (next : ℕ) : Type 0 where
+record Finds (s : LineReader) (bytes rest : List ℕ) (at : ℕ) (l : Option Line) (next : ℕ) : Type 0 where
   past : at < next
   says : read_script s (bytes ++ rest) ≡ l ∷ read_script new_reader (drop (next - at) bytes ++ rest)
 
-finds : (bytes rest : List ℕ) (s : LineReader) (at : ℕ) (l : Line) (next : ℕ)
+finds : (bytes rest : List ℕ) (s : LineReader) (at : ℕ) (l : Option Line) (next : ℕ)
     → next_line s bytes at ≡ found.Line l next → Finds s bytes rest at l next
 unfolding next_line
 finds [] rest s at l next h = let z : ◌≡◌ {A = ℕ} 0 1 = cc in absurd (omega arith)
 finds (b ∷ bytes) rest s at l next h = go (is_line_feed b) refl (finds bytes rest)
   where
     go : (t : Bool) → is_line_feed b ≡ t
-        → ((s : LineReader) (at : ℕ) (l : Line) (next : ℕ) → next_line s bytes at ≡ found.Line l next → Finds s bytes rest at l next)
+        → ((s : LineReader) (at : ℕ) (l : Option Line) (next : ℕ) → next_line s bytes at ≡ found.Line l next → Finds s bytes rest at l next)
         → Finds s (b ∷ bytes) rest at l next
     go true e more =
         let same = sym (next_end s b bytes at e) ∙ h in

@@ -2,16 +2,13 @@
 use Prim.Native.Nat.{ℕ, ◌^◌, ◌<◌, ◌≤◌}
 use mathlib.Core.Path.{◌≡◌, refl, sym, ◌∙◌}
 use mathlib.Core.List.{List, [], ◌∷◌, ◌++◌, map, foldl, append_assoc}
-use mathlib.Core.Bool.{Bool, true, false, cond, ◌&&◌, ◌||◌}
+use mathlib.Core.Bool.{Bool, true, false, cond, ◌&&◌}
 use native.Mathlib.Omega.{arith}
 use lib.Dec.{ltb}
 use borrow.Author.Tests.{lt-ltb, le-ltb, ltb-true, ltb-false}
 use Rattle.lines.specs.declared.Line.{Line}
-use Rattle.lines.specs.declared.Line.TheVariants as line
+use Rattle.std.specs.Prelude.{Option, None}
 use Rattle.lines.specs.Lines.{is_space, first_word, later_words, is_digit, with_digit, decimal_value, all, is_number, command, line_of, parse_line}
-
-pub neither : {x y : Bool} (z : Bool) → x ≡ false → y ≡ false → z ≡ (x || y || z)
-neither z p q = simp (p, q)
 
 -- Tests in another order: of the second before the others, it is known what it says.
 when_true : (d t r a f : Bool) → t ≡ true → r ≡ (a && f) → (d && t && r) ≡ (d && a && f)
@@ -80,15 +77,15 @@ number-rest [] = refl
 number-rest (b ∷ word) = sym (rest_all 0 (b ∷ word) (omega arith))
 
 -- What a line says whose letter and first numbers are read, whose next number has the value v so far, and of which these bytes are left.
-unfoldable pub rest_of : ℕ → List ℕ → Bool → ℕ → List ℕ → Line
+unfoldable pub rest_of : ℕ → List ℕ → Bool → ℕ → List ℕ → Option Line
 rest_of letter numbers complete v bytes =
     cond (is_rest complete v (first_word bytes) && all is_number (later_words bytes))
     (command letter (numbers ++ foldl with_digit v (first_word bytes) ∷ map decimal_value (later_words bytes)))
-    line.Bad
+    None
 
 module _ (letter : ℕ) (numbers : List ℕ) where
   -- The line ends.
-  pub rest_end : (complete : Bool) (v : ℕ) → rest_of letter numbers complete v [] ≡ cond complete (command letter (numbers ++ v ∷ [])) line.Bad
+  pub rest_end : (complete : Bool) (v : ℕ) → rest_of letter numbers complete v [] ≡ cond complete (command letter (numbers ++ v ∷ [])) None
   unfolding rest_of first_word later_words is_rest all
   rest_end true v = refl
   rest_end false v = refl
@@ -101,34 +98,34 @@ module _ (letter : ℕ) (numbers : List ℕ) where
       rw (first_ends b bytes e, later_more b bytes e, number-rest (first_word bytes), append_assoc numbers (v ∷ []) _)
 
   -- A space where a number has no digit.
-  pub rest-none : (v b : ℕ) (bytes : List ℕ) → is_space b ≡ true → rest_of letter numbers false v (b ∷ bytes) ≡ line.Bad
+  pub rest-none : (v b : ℕ) (bytes : List ℕ) → is_space b ≡ true → rest_of letter numbers false v (b ∷ bytes) ≡ None
   unfolding rest_of is_rest
   rest-none v b bytes e = rw (first_ends b bytes e)
 
   -- Another byte comes.
   pub rest_byte : (complete : Bool) (v b : ℕ) (bytes : List ℕ) → is_space b ≡ false
-      → rest_of letter numbers complete v (b ∷ bytes) ≡ cond (is_next v b) (rest_of letter numbers true (with_digit v b) bytes) line.Bad
+      → rest_of letter numbers complete v (b ∷ bytes) ≡ cond (is_next v b) (rest_of letter numbers true (with_digit v b) bytes) None
   unfolding rest_of is_rest
   rest_byte complete v b bytes e = rw (first_longer b bytes e, later_same b bytes e) (go (is_next v b))
     where
       go : (t : Bool)
           → cond (t && is_rest true (with_digit v b) (first_word bytes) && all is_number (later_words bytes))
           (command letter (numbers ++ foldl with_digit (with_digit v b) (first_word bytes) ∷ map decimal_value (later_words bytes)))
-          line.Bad
-          ≡ cond t (rest_of letter numbers true (with_digit v b) bytes) line.Bad
+          None
+          ≡ cond t (rest_of letter numbers true (with_digit v b) bytes) None
       go true = refl
       go false = refl
 
 -- A fifth number spoils the line.
 pub rest_fifth : (letter x y z v b : ℕ) (bytes : List ℕ) → is_space b ≡ true
-    → rest_of letter (x ∷ y ∷ z ∷ []) true v (b ∷ bytes) ≡ line.Bad
+    → rest_of letter (x ∷ y ∷ z ∷ []) true v (b ∷ bytes) ≡ None
 unfolding rest_of command
 rest_fifth letter x y z v b bytes e =
-    rest_space letter (x ∷ y ∷ z ∷ []) v b bytes e ∙ same_either (is_rest false 0 (first_word bytes) && all is_number (later_words bytes)) line.Bad
+    rest_space letter (x ∷ y ∷ z ∷ []) v b bytes e ∙ same_either (is_rest false 0 (first_word bytes) && all is_number (later_words bytes)) None
 
 -- The first two bytes of a line: the letter and the space behind it. Anything else spoils the line.
 module _ (b : ℕ) (bytes : List ℕ) where
-  pub parse_space : is_space b ≡ true → parse_line (b ∷ bytes) ≡ line.Bad
+  pub parse_space : is_space b ≡ true → parse_line (b ∷ bytes) ≡ None
   unfolding parse_line line_of
   parse_space e = rw (first_ends b bytes e)
 
@@ -141,6 +138,6 @@ module _ (b : ℕ) (bytes : List ℕ) where
   unfolding line_of rest_of all
   line_space letter e = rw (first_ends b bytes e, later_more b bytes e, number-rest (first_word bytes))
 
-  pub line-longer : (letter : ℕ) → is_space b ≡ false → line_of (letter ∷ first_word (b ∷ bytes)) (later_words (b ∷ bytes)) ≡ line.Bad
+  pub line-longer : (letter : ℕ) → is_space b ≡ false → line_of (letter ∷ first_word (b ∷ bytes)) (later_words (b ∷ bytes)) ≡ None
   unfolding line_of
   line-longer letter e = rw (first_longer b bytes e)

@@ -1,84 +1,85 @@
 -- The line reader: how it goes on at each byte, and that in the end it says what `parse_line` says of the whole line.
-use Rattle.std.specs.Prelude.{ℕ, ◌+◌, ◌-◌, ◌^◌, ◌≡◌, Bool, true, false, cond, not, ◌&&◌, ◌||◌, drop, eqb, ltb}
-use mathlib.Core.List.{List, [], ◌∷◌, foldl}
+use Rattle.std.specs.Prelude.{ℕ, ◌+◌, ◌-◌, ◌^◌, ◌≡◌, List, [], ◌∷◌, ◌++◌, Bool, true, false, cond, not, ◌&&◌, drop, slice_index, ltb, Option, Some, None, unwrap_or}
+use mathlib.Core.List.{foldl}
 use Rattle.lines.specs.Lines.{is_space, is_digit, with_digit, command, parse_line}
 use Rattle.lines.specs.declared.Line.{Line}
-use Rattle.lines.specs.declared.Line.TheVariants as line
 use Rattle.script.specs.declared.LineReader.{LineReader}
-
--- No number has begun.
-abbrev pub without_numbers : Bool → Bool → ℕ → LineReader
-without_numbers is_bad is_complete c =
-    record { bad = is_bad; complete = is_complete; letter = c; count = 0; first = 0; second = 0; third = 0; fourth = 0 }
+use Rattle.script.specs.declared.LineReader.TheVariants as reader
+use Rattle.script.specs.declared.Numbers.{Numbers}
 
 -- Nothing is read.
 abbrev pub new_reader : LineReader
-new_reader = without_numbers false false 0
+new_reader = reader.Start
 
--- Whatever follows, the line is bad.
-abbrev pub bad_reader : LineReader
-bad_reader = without_numbers true false 0
+-- Behind a letter the first number begins, with no digit yet.
+abbrev pub first_number : ℕ → Numbers
+first_number c = record { letter = c; count = 0; before = 0 ∷ 0 ∷ 0 ∷ []; last = None }
 
--- The next number begins, with no digit yet.
-abbrev pub next_number : LineReader → LineReader
-next_number s =
+-- Behind a last number of that value the next begins, with no digit yet.
+abbrev pub next_number : Numbers → ℕ → Numbers
+next_number n v =
     record {
-      bad = false;
-      complete = false;
-      letter = s.letter;
-      count = s.count + 1;
-      first = s.second;
-      second = s.third;
-      third = s.fourth;
-      fourth = 0;
+      letter = n.letter;
+      count = n.count + 1;
+      before = slice_index n.before 1 ∷ slice_index n.before 2 ∷ v ∷ [];
+      last = None;
     }
 
 -- The last number has that value.
-abbrev pub with_last : LineReader → ℕ → LineReader
-with_last s v =
-    record {
-      bad = false;
-      complete = true;
-      letter = s.letter;
-      count = s.count;
-      first = s.first;
-      second = s.second;
-      third = s.third;
-      fourth = v;
-    }
+abbrev pub with_last : Numbers → ℕ → Numbers
+with_last n v = record { letter = n.letter; count = n.count; before = n.before; last = Some v }
 
--- After a space: a complete word ends, and the next number begins; the fifth spoils the line.
-unfoldable pub space_of : LineReader → LineReader
-space_of s = cond (s.complete && ltb s.count 4) (next_number s) bad_reader
+-- After a space: a number with a digit ends, and the next begins; the fifth spoils the line.
+unfoldable pub space_of : Numbers → LineReader
+space_of n =
+    elim n.last [
+      | None ↦ reader.Bad
+      | Some v ↦ cond (ltb n.count 3) (reader.Numbers (next_number n v)) reader.Bad
+    ]
 
--- After a byte of the first word: the letter, if it is the word's first byte.
-unfoldable pub letter_of : LineReader → ℕ → LineReader
-letter_of s b =
-    cond s.complete bad_reader
-    (without_numbers false true b)
+-- The value of the last number so far.
+abbrev pub value_of : Numbers → ℕ
+value_of n = unwrap_or n.last 0
 
--- After a byte of a number: a digit that keeps it below 2^32.
-unfoldable pub digit_of : LineReader → ℕ → LineReader
-digit_of s b =
-    cond (is_digit b && ltb (with_digit s.fourth b) (2 ^ 32))
-    (with_last s (with_digit s.fourth b))
-    bad_reader
+-- The last number with one more digit that keeps it below 2^32.
+unfoldable pub longer_of : Numbers → ℕ → Option ℕ
+longer_of n b =
+    cond (is_digit b && ltb (with_digit (value_of n) b) (2 ^ 32))
+    (Some (with_digit (value_of n) b))
+    None
 
--- After a byte.
+-- After a byte of a number: such a digit, or the line is spoilt.
+unfoldable pub digit_of : Numbers → ℕ → LineReader
+digit_of n b = elim (longer_of n b) [ None ↦ reader.Bad | Some v ↦ reader.Numbers (with_last n v) ]
+
+-- After a byte: the first is the letter, and the second a space.
 unfoldable pub feed_of : LineReader → ℕ → LineReader
-feed_of s b = cond s.bad s (cond (is_space b) (space_of s) (cond (eqb s.count 0) (letter_of s b) (digit_of s b)))
+feed_of reader.Start b = cond (is_space b) reader.Bad (reader.Letter b)
+feed_of (reader.Letter c) b = cond (is_space b) (reader.Numbers (first_number c)) reader.Bad
+feed_of (reader.Numbers n) b = cond (is_space b) (space_of n) (digit_of n b)
+feed_of reader.Bad b = reader.Bad
 
--- The numbers read: the last of the four, as many as have begun.
-abbrev pub numbers_of : LineReader → List ℕ
-numbers_of s = drop (4 - s.count) (s.first ∷ s.second ∷ s.third ∷ s.fourth ∷ [])
+-- The numbers before the last: of the latest three, as many as there are.
+abbrev pub numbers_before : Numbers → List ℕ
+numbers_before n = drop (3 - n.count) n.before
+
+-- What the line says if it ends in a number: nothing where that has no digit.
+unfoldable pub last_of : Numbers → Option Line
+last_of n = elim n.last [ None ↦ None | Some v ↦ command n.letter (numbers_before n ++ v ∷ []) ]
 
 -- What the line says if it ends here.
-unfoldable pub end_of : LineReader → Line
-end_of s = cond s.complete (command s.letter (numbers_of s)) line.Bad
+unfoldable pub end_of : LineReader → Option Line
+end_of reader.Start = None
+end_of (reader.Letter c) = command c []
+end_of (reader.Numbers n) = last_of n
+end_of reader.Bad = None
 
 -- Has the line a byte?
 unfoldable pub begun_of : LineReader → Bool
-begun_of s = s.bad || s.complete || not (eqb s.count 0)
+begun_of reader.Start = false
+begun_of (reader.Letter c) = true
+begun_of (reader.Numbers n) = true
+begun_of reader.Bad = true
 
 -- The reader that is fed the bytes of a line, one after the other, says in the end what the whole line says.
 abbrev pub ReadsLines : Type 0

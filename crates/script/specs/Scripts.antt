@@ -1,5 +1,5 @@
 -- The lines of a script, read in parts that end anywhere.
-use Rattle.std.specs.Prelude.{ℕ, ◌+◌, ◌≡◌, List, [], ◌∷◌, ◌++◌, map, Bool, true, false, cond, drop, eqb}
+use Rattle.std.specs.Prelude.{ℕ, ◌+◌, ◌≡◌, List, [], ◌∷◌, ◌++◌, map, Bool, true, false, cond, drop, eqb, Option}
 use Prim.Native.Char.{code}
 use Rattle.lines.specs.Lines.{parse_line}
 use Rattle.script.specs.Reader.{new_reader, feed_of, end_of, begun_of}
@@ -32,7 +32,7 @@ lines_of [] = []
 lines_of (b ∷ bytes) = elim (is_line_feed b) [ true ↦ [] ∷ lines_of bytes | false ↦ start_line b (lines_of bytes) ]
 
 -- What a reader says of the rest of a script: at each line feed its line ends, and a new one begins; at the end the last, if it has a byte.
-unfoldable pub read_script : LineReader → List ℕ → List Line
+unfoldable pub read_script : LineReader → List ℕ → List (Option Line)
 read_script s [] = cond (begun_of s) (end_of s ∷ []) []
 read_script s (b ∷ bytes) =
     elim (is_line_feed b) [
@@ -48,7 +48,7 @@ ReadsScripts = (bytes : List ℕ) → read_script new_reader bytes ≡ map parse
 -- where no line ends, the reader that is handed back goes on in the next part.
 pub record ReadsInParts (s : LineReader) (bytes rest : List ℕ) (at : ℕ) : Type 0 where
   pub line :
-      (line : Line) (next : ℕ) → next_line s (drop at bytes) at ≡ found.Line line next
+      (line : Option Line) (next : ℕ) → next_line s (drop at bytes) at ≡ found.Line line next
       → read_script s (drop at bytes ++ rest) ≡ line ∷ read_script new_reader (drop next bytes ++ rest)
   pub more : (t : LineReader) → next_line s (drop at bytes) at ≡ found.More t → read_script s (drop at bytes ++ rest) ≡ read_script t rest
 

@@ -1,43 +1,126 @@
 // The text of scripts, read a byte at a time.
 #![tactic(auto)]
 
-ghost use Rattle.std.specs.Prelude.{◌+◌, ◌<◌, ◌≤◌, ◌≡◌, drop};
-ghost use Rattle.lines.specs.Lines.{is_digit};
-ghost use Rattle.script.specs.Reader.{without_numbers, new_reader, bad_reader, space_of, letter_of, digit_of, feed_of, end_of, begun_of};
+ghost use Rattle.std.specs.Prelude.{◌≡◌, ◌≤◌, drop, length};
+ghost use Rattle.script.specs.Reader.{new_reader, first_number, space_of, longer_of, digit_of, last_of, feed_of, end_of, begun_of};
 ghost use Rattle.script.specs.Scripts.{next_line};
 
 use lines::Line;
 
 // How far a line is read.
 #[derive(Clone, Copy)]
-pub struct LineReader {
+pub enum LineReader {
+    // Nothing is read.
+    Start,
+    // The letter is read.
+    Letter(u8),
+    // The letter is read, a space behind it, and maybe more.
+    Numbers(Numbers),
     // No line that starts so is good.
-    pub bad: bool,
-    // The line may end here: its letter is there, and its last number has a digit.
-    pub complete: bool,
-    pub letter: u8,
-    // How many numbers have begun, and the last four of them, the latest last.
-    pub count: u32,
-    pub first: u32,
-    pub second: u32,
-    pub third: u32,
-    pub fourth: u32,
+    Bad,
 }
 
-// What a part of a script gives next.
+// The letter of a line and its numbers, of which one has begun last.
+#[derive(Clone, Copy)]
+pub struct Numbers {
+    pub letter: u8,
+    // How many numbers stand before the last, and the latest three of them, in their order. (An array beside its count: readers are copied, and there is no heap.)
+    pub count: usize,
+    pub before: [u32; 3],
+    // The last number, once it has a digit.
+    pub last: Option<u32>,
+}
+
+// What a part of a script gives next. (No Result: that the line goes on is no failure, and the reader is handed on.)
 #[derive(Clone, Copy)]
 pub enum Found {
-    // A line ends: what it says, and the place behind its line feed.
-    Line { line: Line, next: usize },
+    // A line ends: what it says, if it has the form of one, and the place behind its line feed.
+    Line { line: Option<Line>, next: usize },
     // The part ends, and the line goes on behind it.
     More(LineReader),
 }
 
-// How far a reader has come.
-#[derive(Clone, Copy)]
-struct Reached {
-    reader: LineReader,
-    next: usize,
+impl Numbers {
+    // The letter is read, and a space.
+    fn first(letter: u8) -> Numbers
+        ensures { result ≡ first_number letter }
+    {
+        Numbers {
+            letter,
+            count: 0,
+            before: [0; 3],
+            last: None,
+        }
+    }
+
+    // After a space.
+    #[tactic(auto, unfolding(crate::specs::Reader::space_of))]
+    fn space(self) -> LineReader
+        ensures { result ≡ space_of self }
+    {
+        let [_, second, third] = self.before;
+        match self.last {
+            Some(last) if self.count < 3 => LineReader::Numbers(Numbers {
+                letter: self.letter,
+                count: self.count + 1,
+                before: [second, third, last],
+                last: None,
+            }),
+            _ => LineReader::Bad,
+        }
+    }
+
+    // The last number with one more digit; none where the byte is no digit, or the number not below 2^32.
+    #[tactic(auto, unfolding(crate::specs::Reader::longer_of))]
+    fn longer(self, b: u8) -> Option<u32>
+        ensures { result ≡ longer_of self b }
+    {
+        if !b.is_ascii_digit() {
+            return None;
+        }
+        let v = 10 * u64::from(self.last.unwrap_or(0)) + u64::from(b - b'0');
+        u32::try_from(v).ok()
+    }
+
+    // After a byte of a number.
+    #[tactic(auto, unfolding(crate::specs::Reader::digit_of))]
+    fn digit(self, b: u8) -> LineReader
+        ensures { result ≡ digit_of self b }
+    {
+        match self.longer(b) {
+            Some(value) => LineReader::Numbers(Numbers {
+                last: Some(value),
+                ..self
+            }),
+            None => LineReader::Bad,
+        }
+    }
+
+    // Reads the digits that stand at a place: the same as to feed them one by one, and quicker.
+    fn digits(self, bytes: &[u8], at: usize) -> (LineReader, usize)
+        requires { at ≤ length bytes.now }
+        ensures { (at ≤ result.1) × (next_line result.0 (drop result.1 bytes.now) result.1 ≡ next_line (LineReader.Numbers self) (drop at bytes.now) at) }
+    {
+        let mut numbers = self;
+        for i in at..bytes.len() {
+            let Some(value) = numbers.longer(bytes[i]) else {
+                return (LineReader::Numbers(numbers), i);
+            };
+            numbers.last = Some(value);
+        }
+        (LineReader::Numbers(numbers), bytes.len())
+    }
+
+    // The line ends here: what it says.
+    #[tactic(auto, unfolding(crate::specs::Reader::last_of))]
+    fn end(self) -> Option<Line>
+        ensures { result ≡ last_of self }
+    {
+        let last = self.last?;
+        let [first, second, third] = self.before;
+        let numbers = [first, second, third, last];
+        lines::command(self.letter, &numbers[3usize.saturating_sub(self.count)..])
+    }
 }
 
 impl LineReader {
@@ -45,193 +128,64 @@ impl LineReader {
     pub fn new() -> LineReader
         ensures { result ≡ new_reader }
     {
-        LineReader::without_numbers(false, false, 0)
-    }
-
-    // No number has begun.
-    fn without_numbers(bad: bool, complete: bool, letter: u8) -> LineReader
-        ensures { result ≡ without_numbers bad complete letter }
-    {
-        LineReader {
-            bad,
-            complete,
-            letter,
-            count: 0,
-            first: 0,
-            second: 0,
-            third: 0,
-            fourth: 0,
-        }
-    }
-
-    // Whatever follows, the line is bad.
-    fn spoilt() -> LineReader
-        ensures { result ≡ bad_reader }
-    {
-        LineReader::without_numbers(true, false, 0)
-    }
-
-    // After a space.
-    fn space(self) -> LineReader
-        ensures { result ≡ space_of self }
-    {
-        if !self.complete {
-            return LineReader::spoilt();
-        }
-        if 4 <= self.count {
-            return LineReader::spoilt();
-        }
-        LineReader {
-            bad: false,
-            complete: false,
-            letter: self.letter,
-            count: self.count + 1,
-            first: self.second,
-            second: self.third,
-            third: self.fourth,
-            fourth: 0,
-        }
-    }
-
-    // After a byte of the line's first word.
-    fn named(self, b: u8) -> LineReader
-        ensures { result ≡ letter_of self b }
-    {
-        if self.complete {
-            return LineReader::spoilt();
-        }
-        LineReader::without_numbers(false, true, b)
-    }
-
-    // After a byte of a number.
-    fn digit(self, b: u8) -> LineReader
-        ensures { result ≡ digit_of self b }
-    {
-        if !is_digit(b) {
-            return LineReader::spoilt();
-        }
-        let v = 10 * (self.fourth as u64) + ((b - b'0') as u64);
-        if v < 4294967296 {
-            LineReader {
-                bad: false,
-                complete: true,
-                letter: self.letter,
-                count: self.count,
-                first: self.first,
-                second: self.second,
-                third: self.third,
-                fourth: v as u32,
-            }
-        } else {
-            LineReader::spoilt()
-        }
+        LineReader::Start
     }
 
     // One more byte of the line, no line feed.
+    #[tactic(auto, unfolding(crate::specs::Reader::feed_of))]
     fn feed(self, b: u8) -> LineReader
         ensures { result ≡ feed_of self b }
     {
-        if self.bad {
-            return self;
+        match self {
+            LineReader::Numbers(numbers) if b == b' ' => numbers.space(),
+            LineReader::Numbers(numbers) => numbers.digit(b),
+            LineReader::Letter(letter) if b == b' ' => LineReader::Numbers(Numbers::first(letter)),
+            LineReader::Start if b != b' ' => LineReader::Letter(b),
+            _ => LineReader::Bad,
         }
-        if b == b' ' {
-            return self.space();
-        }
-        if self.count == 0 {
-            return self.named(b);
-        }
-        self.digit(b)
     }
 
     // Has the line a byte?
+    #[tactic(auto, unfolding(crate::specs::Reader::begun_of))]
     pub fn begun(self) -> bool
         ensures { result ≡ begun_of self }
     {
-        if self.bad {
-            return true;
-        }
-        if self.complete {
-            return true;
-        }
-        self.count != 0
+        !matches!(self, LineReader::Start)
     }
 
-    // The line ends here: what it says.
-    pub fn end(self) -> Line
+    // The line ends here: what it says, if it has the form of one.
+    #[tactic(auto, unfolding(crate::specs::Reader::end_of))]
+    pub fn end(self) -> Option<Line>
         ensures { result ≡ end_of self }
     {
-        if !self.complete {
-            return Line::Bad;
+        match self {
+            LineReader::Letter(letter) => lines::command(letter, &[]),
+            LineReader::Numbers(numbers) => numbers.end(),
+            LineReader::Start | LineReader::Bad => None,
         }
-        let count = self.count;
-        match count {
-            0 => lines::none(self.letter),
-            1 => lines::one(self.letter, self.fourth),
-            2 => lines::two(self.letter, self.third, self.fourth),
-            3 => Line::Bad,
-            _ => lines::four(
-                self.letter,
-                self.first,
-                self.second,
-                self.third,
-                self.fourth,
-            ),
-        }
-    }
-
-    // Reads the digits that stand at a place, if a number has begun: the same as to feed them one by one, and quicker.
-    fn digits(self, bytes: &[u8], at: usize) -> Reached
-        ensures { (at ≤ result.next) × (next_line result.reader (drop result.next bytes.now) result.next ≡ next_line self (drop at bytes.now) at) }
-    {
-        let mut reader = self;
-        let mut i = at;
-        if reader.bad {
-            return Reached { reader, next: i };
-        }
-        if reader.count == 0 {
-            return Reached { reader, next: i };
-        }
-        while i < bytes.len() {
-            let b = bytes[i];
-            if !is_digit(b) {
-                return Reached { reader, next: i };
-            }
-            reader = reader.digit(b);
-            i += 1;
-            if reader.bad {
-                return Reached { reader, next: i };
-            }
-        }
-        Reached { reader, next: i }
     }
 
     // Reads on in a part of the script, from a place on, up to the next line feed.
+    #[tactic(auto, unfolding(crate::specs::Scripts::next_line))]
     pub fn next_line(self, bytes: &[u8], at: usize) -> Found
         ensures { result ≡ next_line self (drop at bytes.now) at }
     {
         let mut reader = self;
         let mut i = at;
+        // (No `for`: a step reads on behind all digits that stand there, which is faster.)
         while i < bytes.len() {
             let b = bytes[i];
             if b == b'\n' {
-                let line = reader.end();
-                let next = i + 1;
-                return Found::Line { line, next };
+                return Found::Line {
+                    line: reader.end(),
+                    next: i + 1,
+                };
             }
-            let fed = reader.feed(b);
-            let behind = fed.digits(bytes, i + 1);
-            reader = behind.reader;
-            i = behind.next;
+            (reader, i) = match reader.feed(b) {
+                LineReader::Numbers(numbers) => numbers.digits(bytes, i + 1),
+                fed => (fed, i + 1),
+            };
         }
         Found::More(reader)
     }
-}
-
-fn is_digit(b: u8) -> bool
-    ensures { result ≡ is_digit b }
-{
-    if b < b'0' {
-        return false;
-    }
-    b <= b'9'
 }

@@ -107,10 +107,3 @@ module _ (R n : ℕ) (w₀ stack₀ : List ℕ) where
           ap (λ (x : List ℕ × List ℕ). x.0) last ∙ all.marked,
           ap (λ (x : List ℕ × List ℕ). without_nil (entries x.1 (length stack₀))) last ∙ all.left,
         ) refl
-
--- the walks in place, and the gaps closed
-pub check_made : (R n : ℕ) (w₀ stack₀ w₁ stack₁ stack₂ : List ℕ) (kept : ℕ) → length stack₁ ≡ length stack₀ → (h : Checkable R n w₀ stack₀)
-    → ◌≡◌ {A = List ℕ × List ℕ} (w₁, without_nil (entries stack₁ (length stack₀))) (check_in R n w₀ stack₀ h)
-    → entries stack₂ kept ≡ without_nil (entries stack₁ (length stack₁)) → ◌≡◌ {A = List ℕ × List ℕ} (w₁, entries stack₂ kept) (check_in R n w₀ stack₀ h)
-check_made R n w₀ stack₀ w₁ stack₁ stack₂ kept lent h walked closed =
-    ap (λ (l : List ℕ). (w₁, l)) (closed ∙ ap (λ (k : ℕ). without_nil (entries stack₁ k)) lent) ∙ walked

@@ -115,7 +115,7 @@ pub closing_first : (stack₀ : List ℕ) → Closing stack₀ stack₀ 0 0
 unfolding entries without_nil
 closing_first stack₀ = record { lent = refl; fewer = omega arith; most = omega arith; same = refl; above = λ k h. refl }
 
-module _ {stack₀ stack : List ℕ} {kept i : ℕ} (s : Closing stack₀ stack kept i) (below : i < length stack) where
+module _ {stack₀ stack : List ℕ} {kept i : ℕ} (s : Closing stack₀ stack kept i) (below : i < length stack₀) where
   turn_entries : without_nil (entries stack₀ (i + 1)) ≡ entry_of (get_or stack i 0) ++ without_nil (entries stack₀ i)
   unfolding entries without_nil
   turn_entries = rw (add-one i, s.above i (omega arith))
@@ -138,12 +138,7 @@ module _ {stack₀ stack : List ℕ} {kept i : ℕ} (s : Closing stack₀ stack 
         fewer = omega (arith, s.fewer);
         most = omega (arith, s.lent);
         same =
-            entries-push stack kept x (omega (arith, s.fewer))
+            entries-push stack kept x (omega (arith, s.lent, s.fewer))
             ∙ (ap (λ (l : List ℕ). x ∷ l) s.same ∙ sym (turn_entries ∙ rw (ne_eqb x 0 some) refl));
         above = λ k h. get_or-set_other stack kept k x 0 (omega (arith, s.fewer)) ∙ s.above k (omega arith);
       }
-
-pub closing_last : {stack₀ stack : List ℕ} {kept i : ℕ} → Closing stack₀ stack kept i → length stack ≤ i
-    → entries stack kept ≡ without_nil (entries stack₀ (length stack₀))
-closing_last {stack₀} {stack} {kept} {i} s past =
-    let all : i ≡ length stack₀ = omega (arith, s.most, s.lent) in s.same ∙ ap (λ (k : ℕ). without_nil (entries stack₀ k)) all

@@ -32,7 +32,12 @@ use Rattle.stack_algorithm.specs.Stack.{is_unmarked, unmarked_links, onward}
 use Rattle.stack_algorithm.specs.Steps.{Going}
 use Rattle.stack_algorithm.proofs.Fresh.{member-fresh, other_fresh, marked_all, passing}
 use Rattle.stack_algorithm.proofs.Going.{turn}
-use Rattle.stack_check.specs.Steps.{UsedOrMarked, onward_in, Pending}
+use Rattle.stack_check.specs.declared.Onward.{Onward}
+use Rattle.stack_check.specs.Steps.{UsedOrMarked, links_of, onward_in, Pending}
+
+-- the links of an answer, by its case
+pub links_told : {o o' : Onward} {links : List ℕ} → o ≡ o' → links_of o ≡ links → links_of o' ≡ links
+links_told is told = ap links_of (sym is) ∙ told
 
 -- the two tests decide which links the marker goes on to
 pub look_made : (R p : ℕ) (w : List ℕ) (l r : ℕ) {a b : Bool} → l ≡ link_of R w p 1 → r ≡ link_of R w p 2 → a ≡ unmarked R w l → b ≡ unmarked R w r

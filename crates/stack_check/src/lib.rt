@@ -26,10 +26,7 @@ fn is_open(words: &[u32], x: u32) -> bool
     requires { (pool_length register_count x ≤ length words.now) × UsedOrMarked register_count words.now x }
     ensures { result ≡ unmarked register_count words.now x }
 {
-    if x == 0 {
-        return false;
-    }
-    pool::read_cell(words, x, Pool::STATE) & MARKED_BIT == 0
+    x != 0 && pool::read_cell(words, x, Pool::STATE) & MARKED_BIT == 0
 }
 
 // Looks at both links of a marked cell of that state. Two equal unmarked links are one.
@@ -60,6 +57,7 @@ pub fn look(words: &[u32], n: u32, p: u32, state: u32) -> Onward
 }
 
 // From an entry of the stack: while a cell has one unmarked link, marks it and goes there. Gives the cell reached where two are unmarked, and 0 where none is.
+// (The result is the word that goes into the stack in the place of the entry: an Option would be taken apart only to write its 0.)
 // The state of the cell is at hand wherever it was just written, so that it need not be read back.
 fn walk(words: &mut [u32], n: u32, entry: u32) -> u32
     requires walkable { Walkable register_count n words.old entry }
@@ -87,11 +85,8 @@ fn walk_entries(words: &mut [u32], n: u32, stack: &mut [u32])
     requires n_in_bounds { pool_length register_count n ≤ length words.old }
     ensures { (h : Checkable register_count n words.old stack.old) → (words.new, without_nil (entries stack.new (length stack.old))) ≡ check_in register_count n words.old stack.old h }
 {
-    let mut i = stack.len();
-    while 0 < i {
-        i -= 1;
-        let reached = walk(words, n, stack[i]);
-        stack[i] = reached;
+    for i in (0..stack.len()).rev() {
+        stack[i] = walk(words, n, stack[i]);
     }
 }
 
@@ -100,10 +95,8 @@ fn close_gaps(stack: &mut [u32]) -> usize
     ensures { entries stack.new result ≡ without_nil (entries stack.old (length stack.old)) }
 {
     let mut kept = 0;
-    let mut i = 0;
-    while i < stack.len() {
+    for i in 0..stack.len() {
         let entry = stack[i];
-        i += 1;
         if entry != 0 {
             stack[kept] = entry;
             kept += 1;

@@ -1,5 +1,5 @@
 -- A collection that marks with a lent stack (01, "Marking with a lent stack"; 02, S-5, "Fewer stack words").
-use Rattle.std.specs.Prelude.{ℕ, List, [], ◌∷◌, Bool, cond, length, replicate}
+use Rattle.std.specs.Prelude.{ℕ, List, [], ◌∷◌, Bool, cond, length, replicate, Result, Ok, Err}
 use Rattle.pool.specs.Layout.{register_count, graph_of, roots_of}
 use Rattle.questions.specs.Validity.{well_formed}
 use Rattle.questions.specs.Questions.{sized_of, admitted_to}
@@ -8,17 +8,17 @@ use Rattle.reversal.specs.ReversalTheorem.{marked_of}
 use Rattle.reversal.specs.Reached.{reached_count}
 use Rattle.collector.specs.Collect.{collected}
 use Rattle.stack_algorithm.specs.Check.{is_enough, check_count, limited_run}
-use Rattle.stack_marker.specs.declared.StackAnswer.{StackAnswer}
-use Rattle.stack_marker.specs.declared.StackAnswer.TheVariants as answer
+use Rattle.answers.specs.declared.Refusal.{Refusal}
+use Rattle.stack_marker.specs.declared.StackCollection.{StackCollection}
 
 -- "Answers: kept, and whether the stack was enough" (01), 1 for yes and 0 for no; "the answer adds how many ran" (02, S-5).
-abbrev pub stack_outcome : StackAnswer → Outcome
-stack_outcome (answer.Collected kept enough checks) = answered (kept ∷ cond enough 1 0 ∷ checks ∷ [])
-stack_outcome (answer.Refused k) = refused (refusal_number k)
+abbrev pub stack_outcome : Result StackCollection Refusal → Outcome
+stack_outcome (Ok made) = answered (made.kept ∷ cond made.enough 1 0 ∷ made.checks ∷ [])
+stack_outcome (Err k) = refused (refusal_number k)
 
 -- What is said determines the answer, its case too.
 abbrev pub StackAnswerDetermined : Type 0
-StackAnswerDetermined = Determined StackAnswer stack_outcome
+StackAnswerDetermined = Determined (Result StackCollection Refusal) stack_outcome
 
 -- The marker with as many words as are lent, from the registers of a pool of n cells: the cells that it marks, and how many entries each check dropped.
 abbrev pub lent_run : ℕ → List ℕ → List ℕ → List ℕ × List ℕ

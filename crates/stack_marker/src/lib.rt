@@ -8,18 +8,13 @@ ghost use Rattle.stack_marker.specs.StackCollect.{stack_outcome, marked_by, stac
 
 use answers::Refusal;
 use bounded_stack::Marking;
-use questions::Admitted;
 
-// What a collection with a lent stack answers.
+// What a collection with a lent stack answers: how many cells it kept, whether the stack was enough, and how many checks of its entries ran.
 #[derive(Clone, Copy)]
-pub enum StackAnswer {
-    // How many cells it kept, whether the stack was enough, and how many checks of its entries ran.
-    Collected {
-        kept: u32,
-        enough: bool,
-        checks: u32,
-    },
-    Refused(Refusal),
+pub struct StackCollection {
+    pub kept: u32,
+    pub enough: bool,
+    pub checks: u32,
 }
 
 // Marks every cell that the registers reach, with the lent stack where it is enough, and otherwise by reversal, which starts anew. Was it enough, and
@@ -37,7 +32,8 @@ fn mark(words: &mut [u32], n: u32, stack: &mut [u32]) -> Marking
 }
 
 // Marks and sweeps a pool of n cells, and sets the lent words to 0.
-fn collect_in(words: &mut [u32], n: u32, stack: &mut [u32]) -> StackAnswer
+// (Not by `collector::mark_and_sweep`: where it refuses, nothing is proved of the lent words, which its marker, not called then, has borrowed.)
+fn collect_in(words: &mut [u32], n: u32, stack: &mut [u32]) -> Result<StackCollection, Refusal>
     requires { (pool_length register_count n ≤ length words.old) × (n ≤ cell_limit) }
     ensures { (stack_outcome result, words.new, stack.new) ≡ stack_in n words.old stack.old }
 {
@@ -45,22 +41,20 @@ fn collect_in(words: &mut [u32], n: u32, stack: &mut [u32]) -> StackAnswer
         let marking = mark(words, n, stack);
         let kept = marks::sweep(words, n);
         pool::clear(stack);
-        StackAnswer::Collected {
+        Ok(StackCollection {
             kept,
             enough: marking.enough,
             checks: marking.checks,
-        }
+        })
     } else {
-        StackAnswer::Refused(Refusal::Malformed)
+        Err(Refusal::Malformed)
     }
 }
 
 // Collects with a lent stack: the pool ends as after `collect`, and the lent words end 0.
-pub fn collect_stack(words: &mut [u32], stack: &mut [u32]) -> StackAnswer
+pub fn collect_stack(words: &mut [u32], stack: &mut [u32]) -> Result<StackCollection, Refusal>
     ensures { (stack_outcome result, words.new, stack.new) ≡ stack_of words.old stack.old }
 {
-    match questions::sized(words) {
-        Admitted::Cells(n) => collect_in(words, n, stack),
-        Admitted::Refused(k) => StackAnswer::Refused(k),
-    }
+    let n = questions::sized(words)?;
+    collect_in(words, n, stack)
 }

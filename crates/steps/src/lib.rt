@@ -5,18 +5,18 @@ ghost use Rattle.std.specs.Prelude.{◌≡◌};
 ghost use Rattle.answers.specs.Outcome.{answer_outcome};
 ghost use Rattle.calls.specs.Calls.{call_of};
 
-use answers::Answer;
+use answers::{Answer, Refusal};
 use calls::Call;
 
 // A call with its answer.
 #[derive(Clone, Copy)]
 pub struct Step {
     pub call: Call,
-    pub answer: Answer,
+    pub answer: Result<Answer, Refusal>,
 }
 
 // Runs the call.
-fn answer(call: Call, words: &mut [u32]) -> Answer
+fn answer(call: Call, words: &mut [u32]) -> Result<Answer, Refusal>
     ensures { (answer_outcome result, words.new) ≡ call_of call words.old }
 {
     match call {

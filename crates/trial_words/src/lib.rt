@@ -1,7 +1,25 @@
-// Reads and writes of slices of words, and what a collection has to leave of a pool's words by the marks of its cells.
+// What a collection has to leave of a pool's words by the marks of its cells, and how many of them are points.
 #![tactic(auto)]
 
-ghost use Rattle.std.specs.Prelude.{◌≡◌, ℕ, ◌<◌, true, length, slice_index, slice_set};
+ghost use Rattle.std.specs.List.{range_with_len};
+ghost use Rattle.std.specs.Prelude.{◌≡◌, ◌+◌, ◌*◌, ◌<◌, not, ◌==◌, length, take, drop, slice_index, slice_set, count_by};
+
+// The words of a pool: their number of cells, the head of the free cells, the registers, and the cells.
+pub const HEAD: usize = 1;
+
+pub const FIRST_REGISTER: usize = 2;
+
+pub const FIRST_CELL: usize = 18;
+
+// The words of a cell: its state, its left, its right and its value.
+pub const CELL_WORDS: usize = 4;
+
+// The states of a cell between calls: a pair, a free cell, or a point.
+pub const PAIR: u32 = 0;
+
+pub const FREE: u32 = 4;
+
+pub const POINT: u32 = 5;
 
 // Stores a word, where there is that place.
 pub fn put(words: &mut [u32], k: usize, v: u32)
@@ -12,91 +30,37 @@ pub fn put(words: &mut [u32], k: usize, v: u32)
     }
 }
 
-// Stores a word of a cell. Cell i's words begin at word 14 + 4 × i.
-fn put_cell(words: &mut [u32], i: u32, field: u32, v: u32) {
-    put(words, 14 + 4 * (i as usize) + field as usize, v);
-}
-
-// Are the words the same?
-pub fn same(a: &[u32], b: &[u32]) -> bool
-    ensures { result ≡ true → a.now ≡ b.now }
-{
-    if a.len() != b.len() {
-        return false;
-    }
-    let mut k = 0;
-    while k < a.len() {
-        if a[k] != b[k] {
-            return false;
-        }
-        k += 1;
-    }
-    true
-}
-
-// Makes every word v.
-pub fn set_all(words: &mut [u32], v: u32) {
-    let mut k = 0;
-    while k < words.len() {
-        words[k] = v;
-        k += 1;
+// Makes a cell, at a place from 0 on, free, with the next free cell as its left.
+fn free_cell(words: &mut [u32], place: u32, next: u32) {
+    let first = FIRST_CELL + CELL_WORDS * place as usize;
+    for (field, v) in [FREE, next, 0, 0].iter().enumerate() {
+        put(words, first + field, *v);
     }
 }
 
-// Is every word v?
-pub fn all_are(words: &[u32], v: u32) -> bool
-    ensures { result ≡ true → (k : ℕ) → k < length words.now → slice_index words.now k ≡ v }
-{
-    let mut k = 0;
-    while k < words.len() {
-        if words[k] != v {
-            return false;
-        }
-        k += 1;
-    }
-    true
-}
-
-// Makes a cell free, with the next free cell as its left. (State 4 is free.)
-fn free_cell(words: &mut [u32], i: u32, next: u32) {
-    put_cell(words, i, 0, 4);
-    put_cell(words, i, 1, next);
-    put_cell(words, i, 2, 0);
-    put_cell(words, i, 3, 0);
-}
-
-// Makes the words of a well-formed pool what a collection has to leave of them, by the marks alone: a marked cell stays as it is. Gives the number of marked cells.
-// (Word 1 is the head.)
+// Makes the words of a well-formed pool what a collection has to leave of them, by the marks of its cells alone, from 1 on: a marked cell stays as it is.
+// Gives the number of marked cells.
 pub fn keep_marked(words: &mut [u32], n: u32, marks: &[u32]) -> u32
     requires { n < length marks.now }
+    ensures { result ≡ count_by (λ mark. not (mark == 0)) (take n (drop 1 marks.now)) }
 {
-    let mut kept = 0;
+    let marks = &marks[1..n as usize + 1];
     let mut next = 0;
-    let mut i = n;
-    while 0 < i {
-        if marks[i as usize] == 0 {
-            free_cell(words, i, next);
-            next = i;
-            i -= 1;
-        } else {
-            kept += 1;
-            i -= 1;
+    for place in (0..n).rev() {
+        if marks[place as usize] == 0 {
+            free_cell(words, place, next);
+            next = place + 1;
         }
     }
-    put(words, 1, next);
-    kept
+    put(words, HEAD, next);
+    marks.iter().filter(|mark| **mark != 0).count() as u32
 }
 
-// How many of the cells are points. (State 5 is a point.)
-pub fn points(words: &[u32], n: u32) -> u32 {
-    let mut count = 0;
-    let mut i = n;
-    while 0 < i {
-        let k = 14 + 4 * (i as usize);
-        if k < words.len() && words[k] == 5 {
-            count = std::num::wrapping_add_u32(count, 1);
-        }
-        i -= 1;
-    }
-    count
+// How many of the cells are points.
+pub fn points(words: &[u32], n: u32) -> u32
+    ensures { result ≡ count_by (λ place. slice_index words.now (18 + 4 * place) == 5) (range_with_len 0 n) }
+{
+    (0..n)
+        .filter(|place| words.get(FIRST_CELL + CELL_WORDS * *place as usize) == Some(&POINT))
+        .count() as u32
 }

@@ -1,80 +1,113 @@
 // The totals of the trials, and how they are printed.
-// The number of well-formed pools, of their cells and of the kept cells, of malformed pools; then for each marker on how many pools it agreed, on how
-// many it differed, and the sum of its visits, or of the pools for which its stack was enough; then for each marker with a stack its checks; then the words
-// behind the cells, and the kept points.
-pub type Totals = [u32; 24];
+use crate::{Marker, Outcome, Trial};
+use std::{fmt, io};
 
-fn get(t: &Totals, place: usize) -> u32 {
-    if place < t.len() { t[place] } else { 0 }
+// Of a marker: on how many pools it agreed, on how many it differed, its visits, for how many pools its stack was enough, and the checks of its stack.
+#[derive(Clone, Copy, Default)]
+pub struct MarkerTotals {
+    pub agreed: u32,
+    pub differed: u32,
+    pub visits: u32,
+    pub enough: u32,
+    pub checks: u32,
 }
 
-fn count(t: &mut Totals, place: usize, x: u32) {
-    if place < t.len() {
-        t[place] = std::num::wrapping_add_u32(t[place], x);
-    }
+// The number of well-formed pools, of their cells, of the kept cells and of the kept points, of malformed pools, and of the words behind the cells of all;
+// and the totals of each marker.
+#[derive(Clone, Copy, Default)]
+pub struct Totals {
+    pub well_formed: u32,
+    pub cells: u32,
+    pub kept: u32,
+    pub points: u32,
+    pub malformed: u32,
+    pub leftover: u32,
+    pub reversal: MarkerTotals,
+    pub recursive: MarkerTotals,
+    pub no_words: MarkerTotals,
+    pub one_word: MarkerTotals,
+    pub n_words: MarkerTotals,
 }
 
-// A pool of n cells of which some are kept, some of these points, and some words behind them; once for all markers.
-pub fn count_pool(
-    t: &mut Totals,
-    marker: u32,
-    malformed: bool,
-    n: u32,
-    leftover: u32,
-    kept: u32,
-    points: u32,
-) {
-    if marker != 0 {
-        return;
-    }
-    count(t, LEFTOVER, leftover);
-    if malformed {
-        count(t, 3, 1);
-    } else {
-        count(t, 0, 1);
-        count(t, 1, n);
-        count(t, 2, kept);
-        count(t, POINTS, points);
-    }
-}
-
-// The number of the first marker with a stack, and the place of its checks.
-const FIRST_STACK: u32 = 2;
-
-const FIRST_CHECKS: usize = 19;
-
-// The place of the words behind the cells, of all pools.
-const LEFTOVER: usize = 22;
-
-// The place of the kept points.
-const POINTS: usize = 23;
-
-// A trial of a marker.
-pub fn count_trial(t: &mut Totals, marker: u32, agreed: bool, more: u32, checks: u32) {
-    let place = 4 + 3 * (marker as usize);
-    if agreed {
-        count(t, place, 1);
-    } else {
-        count(t, place + 1, 1);
-    }
-    count(t, place + 2, more);
-    if FIRST_STACK <= marker {
-        count(t, FIRST_CHECKS + ((marker - FIRST_STACK) as usize), checks);
+impl fmt::Display for MarkerTotals {
+    fn fmt<W: fmt::Write>(&self, f: &mut fmt::Formatter<W>) -> fmt::Result {
+        let agreed = self.agreed;
+        let differed = self.differed;
+        write!(f, "agreed {agreed}, differed {differed}")
     }
 }
 
-// Prints a text, with the totals in order at its number signs. A write that fails is passed over.
-pub fn print(rt: &impl Print, t: &Totals, text: &[u8]) {
-    let mut place = 0;
-    let mut k = 0;
-    while k < text.len() {
-        if text[k] == b'#' {
-            let _ = rt.print(get(t, place));
-            place = std::num::wrapping_add_usize(place, 1);
-            k += 1;
+impl MarkerTotals {
+    fn count(&mut self, outcome: Outcome) {
+        if outcome.agreed {
+            self.agreed = self.agreed.wrapping_add(1);
         } else {
-            let _ = rt.write_all(&text[k..k + 1]);
-            k += 1;
+            self.differed = self.differed.wrapping_add(1);
         }
+        if let Some(said) = outcome.said {
+            self.visits = self.visits.wrapping_add(said.visits);
+            self.enough = self.enough.wrapping_add(u32::from(said.enough));
+            self.checks = self.checks.wrapping_add(said.checks);
+        }
+    }
+}
+
+impl Totals {
+    // A trial, and once for all markers its pool.
+    pub fn count(&mut self, trial: Trial, outcome: Outcome) {
+        match trial.marker {
+            Marker::Reversal => {
+                self.count_pool(trial, outcome);
+                self.reversal.count(outcome);
+            }
+            Marker::Recursive => self.recursive.count(outcome),
+            Marker::NoWords => self.no_words.count(outcome),
+            Marker::OneWord => self.one_word.count(outcome),
+            Marker::NWords => self.n_words.count(outcome),
+        }
+    }
+
+    fn count_pool(&mut self, trial: Trial, outcome: Outcome) {
+        self.leftover = self.leftover.wrapping_add(trial.leftover);
+        if trial.malformed {
+            self.malformed = self.malformed.wrapping_add(1);
+        } else {
+            self.well_formed = self.well_formed.wrapping_add(1);
+            self.cells = self.cells.wrapping_add(trial.pool.cells);
+            self.kept = self.kept.wrapping_add(outcome.kept);
+            self.points = self.points.wrapping_add(outcome.points);
+        }
+    }
+
+    pub fn print(&self, rt: &impl Print) -> io::Result<()> {
+        println!(rt; "well-formed pools: {}", self.well_formed)?;
+        println!(rt; "cells: {}", self.cells)?;
+        println!(rt; "kept cells: {}", self.kept)?;
+        println!(rt; "malformed pools: {}", self.malformed)?;
+        println!(rt;
+            "reversal: {}, visits {}",
+            self.reversal, self.reversal.visits
+        )?;
+        println!(rt;
+            "recursive marker: {}, visits {}",
+            self.recursive, self.recursive.visits
+        )?;
+        println!(rt;
+            "stack of no words: {}, enough {}",
+            self.no_words, self.no_words.enough
+        )?;
+        println!(rt;
+            "stack of one word: {}, enough {}",
+            self.one_word, self.one_word.enough
+        )?;
+        println!(rt;
+            "stack of N words: {}, enough {}",
+            self.n_words, self.n_words.enough
+        )?;
+        println!(rt; "checks with no words: {}", self.no_words.checks)?;
+        println!(rt; "checks with one word: {}", self.one_word.checks)?;
+        println!(rt; "checks with N words: {}", self.n_words.checks)?;
+        println!(rt; "words behind the cells: {}", self.leftover)?;
+        println!(rt; "kept points: {}", self.points)
     }
 }

@@ -17,10 +17,6 @@ use Rattle.visit.specs.Visit.{visit_of, Visitable, marker}
 use Rattle.visit.specs.Cases.{case_of, act_of, added}
 use Rattle.visit.proofs.Cases.{next-link, visit_is_by_case}
 
--- the mark is small
-pub mark_bound : {R n : ℕ} {m : Marker} {w : List ℕ} → Visitable R n (m, w) → state R w m.cell < 6
-mark_bound v = ⊎_elim (λ e. omega arith) (λ low. omega arith) v.early
-
 -- the addition to the mark
 pub record Added (R n : ℕ) (m : Marker) (w w₁ : List ℕ) : Type 0 where
   pub visitable : Visitable R n (m, w)

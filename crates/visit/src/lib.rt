@@ -22,10 +22,7 @@ pub fn is_unmarked(words: &[u32], x: u32) -> bool
     requires { pool_length register_count x ≤ length words.now }
     ensures { result ≡ unmarked register_count words.now x }
 {
-    if x == 0 {
-        return false;
-    }
-    pool::is_used(pool::read_cell(words, x, Pool::STATE))
+    x != 0 && pool::is_used(pool::read_cell(words, x, Pool::STATE))
 }
 
 // What a visit does: of a pair the five cases of Gries 2006, in their order there, and the one of a point. m[p] is the mark of the cell p in hand, to which 1
@@ -55,22 +52,14 @@ fn choose(words: &[u32], p: u32) -> VisitCase
 {
     let mark = pool::read_cell(words, p, Pool::STATE);
     let next = pool::read_cell(words, p, Pool::LEFT);
-    if mark == Pool::MARKED_PAIR {
-        return VisitCase::Retreat;
+    match mark {
+        Pool::MARKED_PAIR => VisitCase::Retreat,
+        Pool::MARKED_POINT => VisitCase::Point,
+        1 if is_unmarked(words, next) => VisitCase::FollowLeft,
+        1 => VisitCase::PassLeft,
+        _ if is_unmarked(words, next) => VisitCase::FollowRight,
+        _ => VisitCase::PassRight,
     }
-    if mark == Pool::MARKED_POINT {
-        return VisitCase::Point;
-    }
-    if mark == 1 {
-        if is_unmarked(words, next) {
-            return VisitCase::FollowLeft;
-        }
-        return VisitCase::PassLeft;
-    }
-    if is_unmarked(words, next) {
-        return VisitCase::FollowRight;
-    }
-    VisitCase::PassRight
 }
 
 // Writes both links of a cell.

@@ -4,7 +4,7 @@ use Rattle.std.specs.Prelude.{ℕ, ◌≡◌, List, [], ◌∷◌, ◌++◌, rep
 use Rattle.leb128.specs.Leb128.{encode}
 use Rattle.pool.specs.Layout.{register_count, pool_length}
 use Rattle.pool.specs.Fresh.{fresh_of}
-use Rattle.answers.specs.Outcome.{answered, refused}
+use Rattle.answers.specs.Outcome.{answered, refused, verdict}
 use Rattle.occupancy.specs.Occupancy.{occupancy_of}
 use Rattle.collector.specs.Collect.{collect_of}
 use Rattle.stack_algorithm.specs.CheckExample.{tree_links, equal_links, vain_links, order_links, eleven_links}
@@ -32,7 +32,7 @@ pub data Case : Type 0 where
 -- What a case claims, by the definitions that the contracts cite.
 abbrev pub Holds : Case → Type 0
 Holds (number v bytes) = encode v ≡ bytes
-Holds (checked bytes k) = check_of bytes 1 ≡ k
+Holds (checked bytes k) = verdict (check_of bytes 1) ≡ k
 Holds (collection w kept visits) = (collect_of w).0 ≡ answered (kept ∷ visits ∷ [])
 Holds (stack w size kept enough checks) = (stack_of w (replicate size 0)).0 ≡ answered (kept ∷ enough ∷ checks ∷ [])
 Holds (entries n most) = (worst_case_of (replicate (pool_length register_count n) 9)).0 ≡ answered (most ∷ [])

@@ -2,48 +2,41 @@
 // the table of theorems, specs/Table.antt; those of the stack are tried by the program stack_examples.)
 #![tactic(auto)]
 
+use answers::Refusal;
 use pool::Pool;
-
-// Fresh of so many of the words.
-fn fresh_of(rt: &impl Print, label: &[u8], words: &mut [u32], len: usize) {
-    if len <= words.len() {
-        print::answer(rt, label, Pool::fresh(&mut words[..len]));
-    }
-}
 
 // N, and how many words are left over, come from the length alone.
 fn lengths(rt: &impl Print) {
     let mut words = [9u32; 16022];
-    fresh_of(rt, b"fresh of 18 words:", &mut words, 18);
-    fresh_of(rt, b"fresh of 21 words:", &mut words, 21);
-    fresh_of(rt, b"fresh of 22 words:", &mut words, 22);
-    fresh_of(rt, b"fresh of 25 words:", &mut words, 25);
-    fresh_of(rt, b"fresh of 16018 words:", &mut words, 16018);
-    fresh_of(rt, b"fresh of 16021 words:", &mut words, 16021);
-    fresh_of(rt, b"fresh of 16022 words:", &mut words, 16022);
+    for len in [18, 21, 22, 25, 16018, 16021, 16022] {
+        if let Some(part) = words.get_mut(..len) {
+            print::answer(rt, format_args!("fresh of {len} words:"), Pool::fresh(part));
+        }
+    }
 }
 
 // "Clearing r before "new" collects: r may be a or b, and its old cell is live to the ledger."
-fn old_content_is_a_root(rt: &impl Print) {
+fn old_content_is_a_root(rt: &impl Print) -> Result<(), Refusal> {
     let mut words = [0u32; 26];
-    Pool::fresh(&mut words);
-    calls::new(&mut words, 0, 0, 0, 1);
-    calls::new(&mut words, 0, 0, 0, 2);
+    Pool::fresh(&mut words)?;
+    calls::new(&mut words, 0, 0, 0, 1)?;
+    calls::new(&mut words, 0, 0, 0, 2)?;
     print::answer(
         rt,
-        b"new where r's old content holds every cell:",
+        "new where r's old content holds every cell:",
         calls::new(&mut words, 0, 1, 1, 3),
     );
-    print::answer(rt, b"the value of r's cell:", calls::value(&words, 0));
-    calls::clear(&mut words, 0);
+    print::answer(rt, "the value of r's cell:", calls::value(&words, 0));
+    calls::clear(&mut words, 0)?;
     print::answer(
         rt,
-        b"new with nothing reached:",
+        "new with nothing reached:",
         calls::new(&mut words, 0, 1, 1, 3),
     );
+    Ok(())
 }
 
-fn main(rt: HostRuntime) {
+fn main(rt: HostRuntime) -> Result<(), Refusal> {
     lengths(&rt);
-    old_content_is_a_root(&rt);
+    old_content_is_a_root(&rt)
 }

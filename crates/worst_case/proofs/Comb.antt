@@ -1,5 +1,5 @@
 -- The cells of the comb as they are written: one turn, and what stands where afterwards.
-use Prim.Native.Nat.{ℕ, zero, suc, ◌-◌, ◌<◌, ◌≤◌}
+use Prim.Native.Nat.{ℕ, zero, suc, ◌+◌, ◌-◌, ◌<◌, ◌≤◌}
 use native.Mathlib.Omega.{arith}
 use native.Mathlib.Decide.{ℕ_discrete}
 use mathlib.Core.Path.{◌≡◌, refl, ◌∙◌}
@@ -50,30 +50,17 @@ module _ (R n : ℕ) where
       go rest (yes e) = rw e (comb_above k put (suc k) f (omega arith) hf ∙ cell-put_cell R w (suc k) (omega arith) _ _ _ _ f hf room)
       go rest (no other) = rest (omega (arith, other))
 
--- Between two turns: the cells i to 1 are left to write, and then the words are the same.
-pub record Putting (R n : ℕ) (w₀ w : List ℕ) (i : ℕ) : Type 0 where
-  pub few : i ≤ n
-  pub len : length w ≡ length w₀
-  pub same : put_comb R n i w ≡ put_comb R n n w₀
-
-pub putting_turn : (R n : ℕ) {w₀ w w' : List ℕ} {i l r : ℕ} → Putting R n w₀ w i → 0 < i → l ≡ comb_link n i 2 → r ≡ comb_link n i 1
-    → w' ≡ put_cell R w i pair_state l r 0 → Putting R n w₀ w' (i - 1)
+-- A turn of the loop that writes the cells from n down, i of which are left to write, and its end.
+pub putting_turn : (R n : ℕ) (w w' : List ℕ) (i : ℕ) (links : ℕ × ℕ) → 0 < i → ◌≡◌ {A = ℕ × ℕ} links (comb_link n (i - 1 + 1) 2, comb_link n (i - 1 + 1) 1)
+    → w' ≡ put_cell R w (i - 1 + 1) pair_state links.0 links.1 0 → put_comb R n (i - 1) w' ≡ put_comb R n i w
 unfolding put_comb
-putting_turn R n {w₀} {w} {w'} {i} {l} {r} p some left right put =
-    record {
-      few = omega (arith, p.few);
-      len = rw put (length-put_cell R w i some pair_state l r 0 ∙ p.len);
-      same = step i some left right put ∙ p.same;
-    }
-  where
-    step : (i : ℕ) → 0 < i → l ≡ comb_link n i 2 → r ≡ comb_link n i 1 → w' ≡ put_cell R w i pair_state l r 0 → put_comb R n (i - 1) w' ≡ put_comb R n i w
-    step zero h el er e = absurd (omega arith)
-    step (suc k) h el er e = let less : suc k - 1 ≡ k = omega arith in rw (less, e, el, er)
+putting_turn R n w w' zero links some is put = absurd (omega arith)
+putting_turn R n w w' (suc k) links some is put =
+    let less : suc k - 1 ≡ k = omega arith in
+    let this : suc k - 1 + 1 ≡ suc k = omega arith in
+    rw (less, put, is, this)
 
-pub putting_last : (R n : ℕ) {w₀ w : List ℕ} {i : ℕ} → Putting R n w₀ w i → i ≤ 0 → w ≡ put_comb R n n w₀
+pub putting_last : (R n : ℕ) (w : List ℕ) (i : ℕ) → i ≤ 0 → w ≡ put_comb R n i w
 unfolding put_comb
-putting_last R n {w₀} {w} {i} p none = step i none ∙ p.same
-  where
-    step : (i : ℕ) → i ≤ 0 → w ≡ put_comb R n i w
-    step zero h = refl
-    step (suc i) h = absurd (omega arith)
+putting_last R n w zero none = refl
+putting_last R n w (suc i) none = absurd (omega arith)

@@ -8,7 +8,7 @@ ghost use Rattle.stack_algorithm.specs.Comb.{or_nil};
 ghost use Rattle.worst_case.specs.WorstCase.{put_comb, worst_case_of};
 
 use answers::{Answer, Refusal};
-use pool::Pool;
+use pool::{Cell, Pool};
 
 // A link to cell x of n cells, nil where x is past n.
 fn or_nil(n: u32, x: u32) -> u32
@@ -23,31 +23,39 @@ fn put_comb(words: &mut [u32], n: u32)
     requires { (pool_length register_count n ≤ length words.old) × (n ≤ cell_limit) }
     ensures { words.new ≡ put_comb register_count n n words.old }
 {
-    let mut i = n;
-    while 0 < i {
-        if i % 2 == 0 {
-            pool::put_cell(words, i, Pool::PAIR, 0, 0, 0);
-            i -= 1;
+    for i in (0..n).rev() {
+        let cell = i + 1;
+        if cell % 2 == 0 {
+            let leaf = Cell {
+                state: Pool::PAIR,
+                left: 0,
+                right: 0,
+                value: 0,
+            };
+            pool::put_cell(words, cell, leaf);
         } else {
-            let left = or_nil(n, i + 2);
-            let right = or_nil(n, i + 1);
-            pool::put_cell(words, i, Pool::PAIR, left, right, 0);
-            i -= 1;
+            let pair = Cell {
+                state: Pool::PAIR,
+                left: or_nil(n, cell + 2),
+                right: or_nil(n, cell + 1),
+                value: 0,
+            };
+            pool::put_cell(words, cell, pair);
         }
     }
 }
 
 // Makes the words a pool of as many cells as they hold, all of them used and reached from register 0, for which the stack marker holds the most entries.
 // Answers how many these are: (n - 1) / 2.
-pub fn worst_case(words: &mut [u32]) -> Answer
+pub fn worst_case(words: &mut [u32]) -> Result<Answer, Refusal>
     ensures { (answer_outcome result, words.new) ≡ worst_case_of words.old }
 {
     let n = pool::cell_count_of_length(words.len());
     if n == 0 {
-        return Answer::Refused(Refusal::Size);
+        return Err(Refusal::Size);
     }
     pool::blank(words, n);
     pool::write_register(words, 0, 1);
     put_comb(words, n);
-    Answer::Number((n - 1) / 2)
+    Ok(Answer::Number((n - 1) / 2))
 }

@@ -10,9 +10,6 @@ use Rattle.bounded_stack.proofs.mark_registers.Goals.{then-is_unmarked+else-not-
 pub loop-k-init : goal.loop-k-init
 loop-k-init c = registers_first _ _ _ _
 
-pub read_register-p-requires : goal.read_register-p-requires
-read_register-p-requires c = (c.loop-k-test.true, omega (arith, c.requires.1, registers-length _ _ _ _ _ _ _ _ c.loop-k.invariant))
-
 pub is_unmarked-requires : goal.is_unmarked-requires
 is_unmarked-requires c = omega (arith, c.requires.1, registers-length _ _ _ _ _ _ _ _ c.loop-k.invariant, registers_bound _ _ _ c.requires.0 c.requires.1 _ _ _ _ _ c.loop-k.invariant _ c.loop-k-test.true c.read_register-p.ensures)
 
@@ -21,21 +18,12 @@ mark_cell-requires c =
     let unmarked = sym c.is_unmarked.ensures ∙ c.if-is_unmarked.true in
     (registers-cell _ _ _ c.requires.0 c.requires.1 _ _ _ _ _ c.loop-k.invariant _ c.loop-k-test.true c.read_register-p.ensures unmarked, omega (arith, c.requires.1, registers-length _ _ _ _ _ _ _ _ c.loop-k.invariant, registers_bound _ _ _ c.requires.0 c.requires.1 _ _ _ _ _ c.loop-k.invariant _ c.loop-k-test.true c.read_register-p.ensures), unmarked-state _ _ _ unmarked)
 
-pub mark_from-run-requires : goal.mark_from-run-requires
-mark_from-run-requires c =
-    record {
-      pending = registers_start _ _ _ c.requires.0 c.requires.1 _ _ _ _ _ c.loop-k.invariant _ c.loop-k-test.true c.read_register-p.ensures (sym c.is_unmarked.ensures ∙ c.if-is_unmarked.true) _ c.mark_cell.ensures;
-      n_in_bounds = omega (arith, c.requires.1, registers-length _ _ _ _ _ _ _ _ c.loop-k.invariant, c.mark_cell.auto.words);
-    }
+pub mark_from-run-requires-clause-pending : goal.mark_from-run-requires-clause-pending
+mark_from-run-requires-clause-pending c =
+    registers_start _ _ _ c.requires.0 c.requires.1 _ _ _ _ _ c.loop-k.invariant _ c.loop-k-test.true c.read_register-p.ensures (sym c.is_unmarked.ensures ∙ c.if-is_unmarked.true) _ c.mark_cell.ensures
 
 pub overflow_add-checks : goal.overflow_add-checks
 overflow_add-checks c = omega (arith, c.ranges.n, registers-fit _ _ _ c.requires.0 c.requires.1 _ _ _ _ _ c.loop-k.invariant _ c.loop-k-test.true c.read_register-p.ensures (sym c.is_unmarked.ensures ∙ c.if-is_unmarked.true) _ c.mark_cell.ensures _ _ _ c.mark_from-run.ensures)
-
-pub shape_of-words-then-not-run : goal.shape_of-words-then-not-run
-shape_of-words-then-not-run c = c.mark_from-run.auto.words ∙ (c.mark_cell.auto.words ∙ registers-length _ _ _ _ _ _ _ _ c.loop-k.invariant)
-
-pub shape_of-stack-then-not-run : goal.shape_of-stack-then-not-run
-shape_of-stack-then-not-run c = c.mark_from-run.auto.stack ∙ c.loop-k.invariant.lent
 
 pub returns-then-not-run : goal.returns-then-not-run
 returns-then-not-run c = registers-full _ _ _ c.requires.0 c.requires.1 _ _ _ _ _ c.loop-k.invariant _ c.loop-k-test.true c.read_register-p.ensures (sym c.is_unmarked.ensures ∙ c.if-is_unmarked.true) _ c.mark_cell.ensures _ _ _ c.mark_from-run.ensures c.if-not-run.true
@@ -46,12 +34,6 @@ loop-k-preserved c =
       | then-is_unmarked+else-not-run w ↦ registers-next _ _ _ c.requires.0 c.requires.1 _ _ _ _ _ c.loop-k.invariant _ c.loop-k-test.true c.read_register-p.ensures (sym c.is_unmarked.ensures ∙ w.if-is_unmarked.true) _ w.mark_cell.ensures _ _ _ w.mark_from-run.ensures w.if-not-run.false (ap length w.stack-is ∙ w.mark_from-run.auto.stack) w.words-is w.checks-is
       | else-is_unmarked w ↦ registers-skip _ _ _ c.requires.0 c.requires.1 _ _ _ _ _ c.loop-k.invariant _ c.loop-k-test.true c.read_register-p.ensures (sym c.is_unmarked.ensures ∙ w.if-is_unmarked.false) w.words-is w.stack-is w.checks-is
     ]
-
-pub shape_of-words : goal.shape_of-words
-shape_of-words c = registers-length _ _ _ _ _ _ _ _ c.loop-k.invariant
-
-pub shape_of-stack : goal.shape_of-stack
-shape_of-stack c = c.loop-k.invariant.lent
 
 pub returns : goal.returns
 returns c = registers-last _ _ _ c.requires.0 c.requires.1 _ _ _ _ _ c.loop-k.invariant c.loop-k-test.false

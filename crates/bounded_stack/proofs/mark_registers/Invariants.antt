@@ -1,10 +1,6 @@
-use Prim.Native.Nat.{◌-◌}
 use Rattle.pool.specs.Layout.{register_count}
 use Rattle.bounded_stack.proofs.RootLoop.{Registers}
 use Rattle.bounded_stack.proofs.mark_registers.Given as goal
 
 abbrev pub invariant-loop-k : goal.invariant-loop-k
 invariant-loop-k l = Registers register_count l.n l.initial.words l.initial.stack l.words l.stack l.checks l.k
-
-abbrev pub decreases-loop-k : goal.decreases-loop-k
-decreases-loop-k l = register_count - l.k

@@ -1,14 +1,17 @@
 -- `calls::left` meets its contract: the first two questions, then the call.
+use Rattle.std.proofs.lemmas.Result.{err_from_is_err_and}
 use native.Mathlib.Omega.{arith}
 use Rattle.calls.specs.declared.Call.TheVariants as call
 use Rattle.calls.proofs.Asked.{runs, ran, refusing}
 use Rattle.calls.proofs.left.Goals as goal
 
 pub follow_in-requires : goal.follow_in-requires
-follow_in-requires c = omega (arith, runs c.args.words.now (call.Left c.args.r c.args.a) c.names.ensures c.admit.ensures c.in-Cells.is)
+follow_in-requires c = omega (arith, runs c.args.words.now (call.Left c.args.r c.args.a) c.admit.ensures c.in_ok-n.was)
 
-pub returns-in-Cells : goal.returns-in-Cells
-returns-in-Cells c = ran c.args.words.now (call.Left c.args.r c.args.a) c.names.ensures c.admit.ensures c.in-Cells.is c.follow_in.ensures
+pub returns : goal.returns
+returns c = ran c.args.words.now (call.Left c.args.r c.args.a) c.admit.ensures c.in_ok-n.was c.follow_in.ensures
 
-pub returns-in-Refused : goal.returns-in-Refused
-returns-in-Refused c = refusing c.args.words.now (call.Left c.args.r c.args.a) c.names.ensures c.admit.ensures c.in-Refused.is
+pub returns-in_err-n : goal.returns-in_err-n
+returns-in_err-n c =
+    let p = err_from_is_err_and c.from_residual.result c.from_residual.ensures.1 in
+    rw (p.1, p.2) (refusing c.args.words.now (call.Left c.args.r c.args.a) c.admit.ensures c.in_err-n.was)

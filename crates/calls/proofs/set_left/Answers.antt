@@ -1,14 +1,17 @@
 -- `calls::set_left` meets its contract: the first two questions, then the call.
+use Rattle.std.proofs.lemmas.Result.{err_from_is_err_and}
 use native.Mathlib.Omega.{arith}
 use Rattle.calls.specs.declared.Call.TheVariants as call
 use Rattle.calls.proofs.Asked.{runs, ran, refusing}
 use Rattle.calls.proofs.set_left.Goals as goal
 
 pub link_in-requires : goal.link_in-requires
-link_in-requires c = omega (arith, runs c.args.words.now (call.SetLeft c.args.a c.args.b) c.names.ensures c.admit.ensures c.in-Cells.is)
+link_in-requires c = omega (arith, runs c.args.words.now (call.SetLeft c.args.a c.args.b) c.admit.ensures c.in_ok-n.was)
 
-pub returns-in-Cells : goal.returns-in-Cells
-returns-in-Cells c = ran c.args.words.now (call.SetLeft c.args.a c.args.b) c.names.ensures c.admit.ensures c.in-Cells.is c.link_in.ensures
+pub returns : goal.returns
+returns c = ran c.args.words.now (call.SetLeft c.args.a c.args.b) c.admit.ensures c.in_ok-n.was c.link_in.ensures
 
-pub returns-in-Refused : goal.returns-in-Refused
-returns-in-Refused c = refusing c.args.words.now (call.SetLeft c.args.a c.args.b) c.names.ensures c.admit.ensures c.in-Refused.is
+pub returns-in_err-n : goal.returns-in_err-n
+returns-in_err-n c =
+    let p = err_from_is_err_and c.from_residual.result c.from_residual.ensures.1 in
+    rw (p.1, p.2) (refusing c.args.words.now (call.SetLeft c.args.a c.args.b) c.admit.ensures c.in_err-n.was)

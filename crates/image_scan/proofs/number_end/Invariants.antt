@@ -1,4 +1,4 @@
-use Prim.Native.Nat.{◌+◌, ◌-◌, ◌≤◌}
+use Prim.Native.Nat.{◌+◌, ◌-◌}
 use mathlib.Core.Path.{◌≡◌}
 use Rattle.image.specs.Image.{read_number}
 use Rattle.image_scan.specs.Steps.{end_of}
@@ -6,7 +6,4 @@ use Rattle.image_scan.proofs.Ends.{further_end}
 use Rattle.image_scan.proofs.number_end.Given as goal
 
 abbrev pub invariant-loop-i : goal.invariant-loop-i
-invariant-loop-i l = (further_end l.bytes (l.at + 4 - l.i) l.i ≡ end_of (read_number l.bytes l.at)) × (l.i ≤ l.at + 4)
-
-abbrev pub decreases-loop-i : goal.decreases-loop-i
-decreases-loop-i l = l.at + 4 - l.i
+invariant-loop-i l = further_end l.bytes (l.at + 4 - l.i) l.i ≡ end_of (read_number l.bytes l.at)

@@ -1,11 +1,10 @@
 -- `image_writer::cell_size` meets its contract: the sizes of its numbers are summed.
 use native.Mathlib.Omega.{arith}
 use Rattle.leb128.proofs.Encoding.{encode-size}
-use Rattle.image_writer.proofs.ImageBytes.{cell-length}
 use Rattle.image_writer.proofs.cell_size.Goals as goal
 
 pub overflow_add-result : goal.overflow_add-result
-overflow_add-result c = omega (arith, c.number_size-2.ensures, c.number_size.ensures, encode-size c.args.cell.kind, encode-size c.args.cell.left)
+overflow_add-result c = omega (arith, c.number_size-2.ensures, c.number_size.ensures, encode-size c.kind_number.result, encode-size c.args.cell.left)
 
 pub overflow_add-result-2 : goal.overflow_add-result-2
 overflow_add-result-2 c =
@@ -14,7 +13,7 @@ overflow_add-result-2 c =
       c.number_size-3.ensures,
       c.number_size-2.ensures,
       c.number_size.ensures,
-      encode-size c.args.cell.kind,
+      encode-size c.kind_number.result,
       encode-size c.args.cell.left,
       encode-size c.args.cell.right,
     )
@@ -27,19 +26,8 @@ overflow_add-result-3 c =
       c.number_size-3.ensures,
       c.number_size-2.ensures,
       c.number_size.ensures,
-      encode-size c.args.cell.kind,
+      encode-size c.kind_number.result,
       encode-size c.args.cell.left,
       encode-size c.args.cell.right,
       encode-size c.args.cell.value,
-    )
-
-pub returns : goal.returns
-returns c =
-    omega (
-      arith,
-      c.number_size-4.ensures,
-      c.number_size-3.ensures,
-      c.number_size-2.ensures,
-      c.number_size.ensures,
-      cell-length c.args.cell,
     )

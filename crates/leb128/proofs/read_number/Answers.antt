@@ -1,53 +1,72 @@
--- `leb128::read_number` meets its contract. The loop's invariant: what is left to read gives the answer (`Reading`). The measure is what
--- the weight lacks to that of the fifth group.
+-- `leb128::read_number` meets its contract. The loop's invariant: what is left to read gives the answer (`Reading`). The measure is what the weight lacks to
+-- that of the fifth group.
 use native.Mathlib.Omega.{arith}
-use Rattle.leb128.proofs.Reading.{none, first, missing, turn, fifth}
+use Rattle.std.proofs.lemmas.Result.{err_from_is_err_and}
+use Rattle.leb128.proofs.Reading.{none, first, missing, some_left, none_left, turn, fifth}
 use Rattle.leb128.proofs.read_number.Goals as goal
 
-pub returns-then-bytes-at : goal.returns-then-bytes-at
-returns-then-bytes-at c = none _ _ c.if-bytes-at.true
+pub returns-in_err-first : goal.returns-in_err-first
+returns-in_err-first c =
+    let p = err_from_is_err_and c.from_residual.result c.from_residual.ensures.1 in
+    rw (p.1, p.2, c.in_err-first.ensures.1) (none _ _ c.in_err-first.ensures.0)
 
 pub returns-then-first-lt128 : goal.returns-then-first-lt128
-returns-then-first-lt128 c = (first _ _ c.if-bytes-at.false (c.type_inv.bytes _).fits).ends c.if-first-lt128.true
+returns-then-first-lt128 c = rw c.in_ok-first.ensures.2 ((first _ _ c.in_ok-first.ensures.0 (omega arith)).ends (omega arith))
 
 pub loop-weight-init : goal.loop-weight-init
-loop-weight-init c = (3, (first _ _ c.if-bytes-at.false (c.type_inv.bytes _).fits).again c.if-first-lt128.false)
+loop-weight-init c = (3, rw c.in_ok-first.ensures.2 ((first _ _ c.in_ok-first.ensures.0 (omega arith)).again (omega arith)))
 
-pub returns-then-bytes-i : goal.returns-then-bytes-i
-returns-then-bytes-i c = missing c.loop-weight.invariant.1 c.if-bytes-i.true
+pub returns-in_err-group : goal.returns-in_err-group
+returns-in_err-group c =
+    let p = err_from_is_err_and c.from_residual-in_err-group.result c.from_residual-in_err-group.ensures.1 in
+    rw (p.1, p.2, c.in_err-group.ensures.1) (missing c.loop-weight.invariant.1 c.in_err-group.ensures.0)
 
 pub overflow_mul-value : goal.overflow_mul-value
-overflow_mul-value c = omega (arith, (turn _ c.loop-weight.invariant.1 (omega arith) (omega arith) (c.type_inv.bytes c.loop-weight.i).fits).fits)
+overflow_mul-value c =
+    let some = some_left c.loop-weight.invariant.1 (omega arith) in
+    omega (arith, (turn c.loop-weight.invariant.1 some c.in_ok-group.ensures.0 c.in_ok-group.ensures.1 c.in_ok-group.ensures.2).fits)
 
 pub overflow_add-value : goal.overflow_add-value
-overflow_add-value c = omega (arith, (turn _ c.loop-weight.invariant.1 (omega arith) (omega arith) (c.type_inv.bytes c.loop-weight.i).fits).fits)
+overflow_add-value c =
+    let some = some_left c.loop-weight.invariant.1 (omega arith) in
+    omega (arith, (turn c.loop-weight.invariant.1 some c.in_ok-group.ensures.0 c.in_ok-group.ensures.1 c.in_ok-group.ensures.2).fits)
 
 pub returns-then-group-eq0 : goal.returns-then-group-eq0
-returns-then-group-eq0 c = (turn _ c.loop-weight.invariant.1 (omega arith) (omega arith) (c.type_inv.bytes c.loop-weight.i).fits).padded c.if-group-eq0.true
+returns-then-group-eq0 c =
+    let some = some_left c.loop-weight.invariant.1 (omega arith) in
+    (turn c.loop-weight.invariant.1 some c.in_ok-group.ensures.0 c.in_ok-group.ensures.1 c.in_ok-group.ensures.2).padded c.if-group-eq0.true
 
 pub returns-then-group-lt128 : goal.returns-then-group-lt128
-returns-then-group-lt128 c = (turn _ c.loop-weight.invariant.1 (omega arith) (omega arith) (c.type_inv.bytes c.loop-weight.i).fits).ends (omega arith) c.if-group-lt128.true
+returns-then-group-lt128 c =
+    let some = some_left c.loop-weight.invariant.1 (omega arith) in
+    (turn c.loop-weight.invariant.1 some c.in_ok-group.ensures.0 c.in_ok-group.ensures.1 c.in_ok-group.ensures.2).ends (omega arith) c.if-group-lt128.true
 
 pub overflow_mul-weight : goal.overflow_mul-weight
-overflow_mul-weight c = omega (arith, (turn _ c.loop-weight.invariant.1 (omega arith) (omega arith) (c.type_inv.bytes c.loop-weight.i).fits).next_weight)
-
-pub loop-weight-smaller : goal.loop-weight-smaller
-loop-weight-smaller c = omega (arith, c.loop-weight.invariant.1.below)
+overflow_mul-weight c =
+    let some = some_left c.loop-weight.invariant.1 (omega arith) in
+    omega (arith, (turn c.loop-weight.invariant.1 some c.in_ok-group.ensures.0 c.in_ok-group.ensures.1 c.in_ok-group.ensures.2).next_weight)
 
 pub loop-weight-preserved : goal.loop-weight-preserved
-loop-weight-preserved c = (turn _ c.loop-weight.invariant.1 (omega arith) (omega arith) (c.type_inv.bytes c.loop-weight.i).fits).again c.if-group-lt128.false
+loop-weight-preserved c =
+    let some = some_left c.loop-weight.invariant.1 (omega arith) in
+    (_, (turn c.loop-weight.invariant.1 some c.in_ok-group.ensures.0 c.in_ok-group.ensures.1 c.in_ok-group.ensures.2).again c.if-group-lt128.false)
 
-pub returns-then-bytes-i-2 : goal.returns-then-bytes-i-2
-returns-then-bytes-i-2 c = missing c.loop-weight.invariant.1 c.if-bytes-i-2.true
+pub returns-in_err-fifth : goal.returns-in_err-fifth
+returns-in_err-fifth c =
+    let p = err_from_is_err_and c.from_residual-in_err-fifth.result c.from_residual-in_err-fifth.ensures.1 in
+    rw (p.1, p.2, c.in_err-fifth.ensures.1) (missing c.loop-weight.invariant.1 c.in_err-fifth.ensures.0)
 
 pub returns-then-fifth-ge16 : goal.returns-then-fifth-ge16
-returns-then-fifth-ge16 c = (fifth _ c.loop-weight.invariant.1 (omega arith) (omega arith)).beyond c.if-fifth-ge16.true
+returns-then-fifth-ge16 c =
+    (fifth c.loop-weight.invariant.1 (none_left c.loop-weight.invariant.1 (omega arith)) c.in_ok-fifth.ensures.0 c.in_ok-fifth.ensures.2).beyond
+    c.if-fifth-ge16.true
 
 pub returns-then-fifth-eq0 : goal.returns-then-fifth-eq0
-returns-then-fifth-eq0 c = (fifth _ c.loop-weight.invariant.1 (omega arith) (omega arith)).padded c.if-fifth-eq0.true
-
-pub overflow_add-result-2 : goal.overflow_add-result-2
-overflow_add-result-2 c = omega (arith, (fifth _ c.loop-weight.invariant.1 (omega arith) (omega arith)).below)
+returns-then-fifth-eq0 c =
+    (fifth c.loop-weight.invariant.1 (none_left c.loop-weight.invariant.1 (omega arith)) c.in_ok-fifth.ensures.0 c.in_ok-fifth.ensures.2).padded
+    c.if-fifth-eq0.true
 
 pub returns : goal.returns
-returns c = (fifth _ c.loop-weight.invariant.1 (omega arith) (omega arith)).ends (omega arith) (omega arith)
+returns c =
+    (fifth c.loop-weight.invariant.1 (none_left c.loop-weight.invariant.1 (omega arith)) c.in_ok-fifth.ensures.0 c.in_ok-fifth.ensures.2).ends
+    (omega arith) (omega arith)

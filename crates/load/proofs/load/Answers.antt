@@ -1,7 +1,7 @@
 -- `load::load` meets its contract: what `load_at` answers, with the end turned into the part of the bytes behind it.
 use native.Mathlib.Omega.{arith}
-use mathlib.Core.Path.{refl, ap}
-use Rattle.load.proofs.Loading.{load_end, load_part}
+use mathlib.Core.Path.{ap}
+use Rattle.load.proofs.Loading.{load_end}
 use Rattle.load.proofs.load.Goals as goal
 
 pub slice_bounds-result-start : goal.slice_bounds-result-start
@@ -19,13 +19,3 @@ slice_bounds-result-count c =
       ap (λ x. x.0.end) c.load_at-loaded.ensures,
       load_end c.args.words.now c.args.bytes.now (λ i. (c.type_inv.bytes i).fits),
     )
-
-pub returns : goal.returns
-returns c =
-    record {
-      verdict = ap (λ x. x.0.verdict) c.load_at-loaded.ensures;
-      words = ap (λ x. x.1) c.load_at-loaded.ensures;
-      part = load_part c.args.bytes.now _ _ (ap (λ x. x.0.end) c.load_at-loaded.ensures);
-      block = refl;
-      place = omega (arith, ap (λ x. x.0.end) c.load_at-loaded.ensures);
-    }

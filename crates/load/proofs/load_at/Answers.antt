@@ -1,14 +1,10 @@
 -- `load::load_at` meets its contract: the length, then the scan, which writes nothing; then the words are filled, and the cells behind those of the image freed.
 use native.Mathlib.Omega.{arith}
-use mathlib.Core.Path.{◌∙◌}
-use lib.ListN.{length, length-set}
+use lib.ListN.{length}
 use Rattle.pool.specs.Layout.{register_count}
 use Rattle.pool.proofs.Sizes.{counted_sized}
-use Rattle.load.proofs.Loading.{load_no_pool, load-refused, load_filled, load-whole}
+use Rattle.load.proofs.Loading.{load-refused, load_filled, load-whole}
 use Rattle.load.proofs.load_at.Goals as goal
-
-pub returns-then-n-eq0 : goal.returns-then-n-eq0
-returns-then-n-eq0 c = load_no_pool _ _ _ c.cell_count_of_length-n.ensures _ c.if-n-eq0.true c.number.ensures
 
 pub fill-requires : goal.fill-requires
 fill-requires c = omega (arith, counted_sized register_count (length c.args.words.now) c.cell_count_of_length-n.ensures c.if-n-eq0.false)
@@ -19,18 +15,13 @@ bounds-words-0 c = omega (arith, counted_sized register_count (length c.args.wor
 pub free_above-requires : goal.free_above-requires
 free_above-requires c =
     load_filled c.args.words.now c.args.bytes.now _ c.cell_count_of_length-n.ensures c.if-n-eq0.false _
-    c.scan_image.ensures _ _ c.in-Whole.is c.fill.new.words c.fill.ensures
+    c.scan_image.ensures _ _ c.in-Ok.is c.fill.new.words c.fill.ensures
 
-pub returns-in-Refused : goal.returns-in-Refused
-returns-in-Refused c =
-    load-refused _ _ _ c.cell_count_of_length-n.ensures c.if-n-eq0.false _ c.scan_image.ensures _ _
-    c.in-Refused.is c.number-in-Refused.ensures
+pub returns-in-Err : goal.returns-in-Err
+returns-in-Err c = load-refused _ _ _ c.cell_count_of_length-n.ensures c.if-n-eq0.false _ c.scan_image.ensures _ c.in-Err.is
 
-pub shape_of-words : goal.shape_of-words
-shape_of-words c = c.free_above.auto.words ∙ simp length-set c.fill.auto.words
-
-pub returns-in-Whole : goal.returns-in-Whole
-returns-in-Whole c =
+pub returns-in-Ok : goal.returns-in-Ok
+returns-in-Ok c =
     load-whole c.args.words.now c.args.bytes.now _ c.cell_count_of_length-n.ensures c.if-n-eq0.false _
-    c.scan_image.ensures _ _ c.in-Whole.is c.fill.new.words c.fill.ensures _
+    c.scan_image.ensures _ _ c.in-Ok.is c.fill.new.words c.fill.ensures _
     c.free_above.ensures

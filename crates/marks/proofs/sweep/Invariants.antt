@@ -4,6 +4,3 @@ use Rattle.marks.proofs.sweep.Given as goal
 
 abbrev pub invariant-loop-i : goal.invariant-loop-i
 invariant-loop-i l = Turn register_count l.n l.initial.words l.words l.i l.next l.freed
-
-abbrev pub decreases-loop-i : goal.decreases-loop-i
-decreases-loop-i l = l.i

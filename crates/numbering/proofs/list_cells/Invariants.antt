@@ -3,6 +3,3 @@ use Rattle.numbering.proofs.list_cells.Given as goal
 
 abbrev pub invariant-loop-i : goal.invariant-loop-i
 invariant-loop-i l = Listing l.n l.initial.scratch l.scratch l.i
-
-abbrev pub decreases-loop-i : goal.decreases-loop-i
-decreases-loop-i l = l.i

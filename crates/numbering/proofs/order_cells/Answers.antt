@@ -2,14 +2,8 @@
 use native.Mathlib.Omega.{arith}
 use mathlib.Core.Path.{◌∙◌}
 use Rattle.pool.specs.Layout.{register_count}
-use Rattle.numbering.proofs.Ordering.{cleared, savable_length, numbers-within, listed_ordered}
+use Rattle.numbering.proofs.Ordering.{savable_length, numbers-within, listed_ordered}
 use Rattle.numbering.proofs.order_cells.Goals as goal
-
-pub number_cells-k-requires : goal.number_cells-k-requires
-number_cells-k-requires c = (
-  savable_length c.clear.auto.words c.requires,
-  cleared c.args.scratch.now _ c.clear.ensures c.clear.auto.words,
-)
 
 pub list_cells-requires : goal.list_cells-requires
 list_cells-requires c = (

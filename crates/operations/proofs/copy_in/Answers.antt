@@ -7,4 +7,4 @@ pub returns-in_default : goal.returns-in_default
 returns-in_default c = simp (holds_none _ _ _ c.read_link.ensures c.in_default.is)
 
 pub returns : goal.returns
-returns c = copied _ _ (holds _ _ _ c.read_link.ensures c.in-Link.is) _ c.write_register.ensures
+returns c = copied _ _ (holds _ _ _ c.read_link.ensures c.in-Ok.is) _ c.write_register.ensures

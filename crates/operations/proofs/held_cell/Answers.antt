@@ -7,7 +7,7 @@ pub returns-in_default : goal.returns-in_default
 returns-in_default c = simp (holds_none _ _ _ c.read_link.ensures c.in_default.is)
 
 pub returns-then-x-eq0 : goal.returns-then-x-eq0
-returns-then-x-eq0 c = held-nil _ _ (holds _ _ _ c.read_link.ensures c.in-Link.is) c.if-x-eq0.true
+returns-then-x-eq0 c = held-nil _ _ (holds _ _ _ c.read_link.ensures c.in-Ok.is) c.if-x-eq0.true
 
 pub returns : goal.returns
-returns c = held-cell _ _ (holds _ _ _ c.read_link.ensures c.in-Link.is) c.if-x-eq0.false
+returns c = held-cell _ _ (holds _ _ _ c.read_link.ensures c.in-Ok.is) c.if-x-eq0.false

@@ -1,13 +1,16 @@
 -- `operations::set_value_in` meets its contract: the value is written to the cell that a holds.
+use Rattle.std.proofs.lemmas.Result.{err_from_is_err_and}
 use native.Mathlib.Omega.{arith}
 use Rattle.operations.proofs.Bodies.{cell_there, with_cell_lem, with_none}
 use Rattle.operations.proofs.set_value_in.Goals as goal
 
 pub write_cell-requires : goal.write_cell-requires
-write_cell-requires c = omega (arith, cell_there _ _ _ c.held_cell.ensures c.in-Cell.is)
+write_cell-requires c = omega (arith, cell_there _ _ _ c.held_cell.ensures c.in_ok-x.was)
 
-pub returns-in-Cell : goal.returns-in-Cell
-returns-in-Cell c = with_cell_lem _ c.held_cell.ensures _ c.in-Cell.is (simp c.write_cell.ensures)
+pub returns : goal.returns
+returns c = with_cell_lem _ c.held_cell.ensures _ c.in_ok-x.was (simp c.write_cell.ensures)
 
-pub returns-in-Refused : goal.returns-in-Refused
-returns-in-Refused c = with_none _ c.held_cell.ensures _ c.in-Refused.is
+pub returns-in_err-x : goal.returns-in_err-x
+returns-in_err-x c =
+    let p = err_from_is_err_and c.from_residual.result c.from_residual.ensures.1 in
+    rw (p.1, p.2) (with_none _ c.held_cell.ensures _ c.in_err-x.was)

@@ -7,9 +7,6 @@ use Rattle.pool.proofs.cell_count_of_length.Goals as goal
 pub returns-then-len : goal.returns-then-len
 returns-then-len c = too_short register_count c.args.len (omega (arith, c.if-len.true))
 
-pub overflow_sub-cells : goal.overflow_sub-cells
-overflow_sub-cells c = omega (arith, c.if-len.false)
-
 pub returns-then-cells : goal.returns-then-cells
 returns-then-cells c = too_long register_count c.args.len (omega (arith, c.if-cells.true))
 

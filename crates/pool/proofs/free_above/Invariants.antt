@@ -4,6 +4,3 @@ use Rattle.pool.proofs.free_above.Given as goal
 
 abbrev pub invariant-loop-i : goal.invariant-loop-i
 invariant-loop-i l = Freeing register_count l.k l.n l.initial.words l.words l.i l.next
-
-abbrev pub decreases-loop-i : goal.decreases-loop-i
-decreases-loop-i l = l.i

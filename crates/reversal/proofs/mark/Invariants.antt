@@ -1,10 +1,6 @@
-use Prim.Native.Nat.{◌-◌}
 use Rattle.pool.specs.Layout.{register_count}
 use Rattle.reversal.proofs.RootLoop.{Marking}
 use Rattle.reversal.proofs.mark.Given as goal
 
 abbrev pub invariant-loop-k : goal.invariant-loop-k
 invariant-loop-k l = Marking register_count l.n l.initial.words l.words l.visits l.k
-
-abbrev pub decreases-loop-k : goal.decreases-loop-k
-decreases-loop-k l = register_count - l.k

@@ -1,9 +1,9 @@
 -- `stack_check::walk` meets its contract: each turn is a step of the definition's walk (`WalkLoop`), and leaves fewer cells unmarked.
 use native.Mathlib.Omega.{arith}
-use mathlib.Core.Path.{refl, sym, ap, ◌∙◌}
+use mathlib.Core.Path.{refl, ap, ◌∙◌}
 use mathlib.Core.List.Memᴰ
 use Rattle.pool.specs.States.{is_marked}
-use Rattle.stack_check.specs.Steps.{links_of}
+use Rattle.stack_check.proofs.Marked.{links_told}
 use Rattle.stack_check.proofs.Walking.{walk_first, walk-cell, walk-links, walk-marked, walk-length, walk_new, walk_kept, walk-dropped, walk_go, walk_less}
 use Rattle.stack_check.proofs.walk.Goals as goal
 
@@ -23,30 +23,24 @@ look-requires c =
       cells = walk-cell _ _ _ _ c.requires.n_in_bounds c.loop-x.invariant.0 c.requires.walkable;
     }
 
-pub shape_of-words-in-Both : goal.shape_of-words-in-Both
-shape_of-words-in-Both c = walk-length _ _ _ _ c.requires.n_in_bounds c.loop-x.invariant.0 c.requires.walkable
-
 pub returns-in-Both : goal.returns-in-Both
-returns-in-Both c = λ h. walk_kept _ _ _ _ c.requires.n_in_bounds c.loop-x.invariant.0 h _ _ (ap links_of (sym c.in-Both.is) ∙ c.look.ensures)
+returns-in-Both c = λ h. walk_kept _ _ _ _ c.requires.n_in_bounds c.loop-x.invariant.0 h _ _ (links_told c.in-Both.is c.look.ensures)
 
 pub mark_cell-requires : goal.mark_cell-requires
 mark_cell-requires c =
-    let (low, high, used) = walk_new _ _ _ _ c.requires.n_in_bounds c.loop-x.invariant.0 c.requires.walkable _ (ap links_of (sym c.in-To.is) ∙ c.look.ensures) _ (Memᴰ.head refl) in
+    let (low, high, used) = walk_new _ _ _ _ c.requires.n_in_bounds c.loop-x.invariant.0 c.requires.walkable _ (links_told c.in-To.is c.look.ensures) _ (Memᴰ.head refl) in
     (low, omega (arith, c.requires.n_in_bounds, walk-length _ _ _ _ c.requires.n_in_bounds c.loop-x.invariant.0 c.requires.walkable), used)
 
 pub read_cell-state-requires-in-To : goal.read_cell-state-requires-in-To
 read_cell-state-requires-in-To c =
-    let (low, high, used) = walk_new _ _ _ _ c.requires.n_in_bounds c.loop-x.invariant.0 c.requires.walkable _ (ap links_of (sym c.in-To.is) ∙ c.look.ensures) _ (Memᴰ.head refl) in
+    let (low, high, used) = walk_new _ _ _ _ c.requires.n_in_bounds c.loop-x.invariant.0 c.requires.walkable _ (links_told c.in-To.is c.look.ensures) _ (Memᴰ.head refl) in
     (low, omega arith, omega (arith, c.requires.n_in_bounds, c.mark_cell.auto.words, walk-length _ _ _ _ c.requires.n_in_bounds c.loop-x.invariant.0 c.requires.walkable))
 
 pub loop-x-smaller : goal.loop-x-smaller
-loop-x-smaller c = walk_less _ _ _ _ c.requires.n_in_bounds c.loop-x.invariant.0 c.requires.walkable _ _ (ap links_of (sym c.in-To.is) ∙ c.look.ensures) c.mark_cell.ensures
+loop-x-smaller c = walk_less _ _ _ _ c.requires.n_in_bounds c.loop-x.invariant.0 c.requires.walkable _ _ (links_told c.in-To.is c.look.ensures) c.mark_cell.ensures
 
 pub loop-x-preserved : goal.loop-x-preserved
-loop-x-preserved c = (walk_go _ _ _ _ c.requires.n_in_bounds c.loop-x.invariant.0 _ _ (ap links_of (sym c.in-To.is) ∙ c.look.ensures) c.mark_cell.ensures, c.read_cell-state-in-To.ensures)
-
-pub shape_of-words-in-Nowhere : goal.shape_of-words-in-Nowhere
-shape_of-words-in-Nowhere c = walk-length _ _ _ _ c.requires.n_in_bounds c.loop-x.invariant.0 c.requires.walkable
+loop-x-preserved c = (walk_go _ _ _ _ c.requires.n_in_bounds c.loop-x.invariant.0 _ _ (links_told c.in-To.is c.look.ensures) c.mark_cell.ensures, c.read_cell-state-in-To.ensures)
 
 pub returns-in-Nowhere : goal.returns-in-Nowhere
-returns-in-Nowhere c = λ h. walk-dropped _ _ _ _ c.requires.n_in_bounds c.loop-x.invariant.0 h (ap links_of (sym c.in-Nowhere.is) ∙ c.look.ensures)
+returns-in-Nowhere c = λ h. walk-dropped _ _ _ _ c.requires.n_in_bounds c.loop-x.invariant.0 h (links_told c.in-Nowhere.is c.look.ensures)

@@ -4,6 +4,3 @@ use Rattle.stack_check.proofs.walk_entries.Given as goal
 
 abbrev pub invariant-loop-i : goal.invariant-loop-i
 invariant-loop-i l = Down register_count l.n l.initial.words l.initial.stack l.words l.stack l.i
-
-abbrev pub decreases-loop-i : goal.decreases-loop-i
-decreases-loop-i l = l.i

@@ -3,11 +3,5 @@ use mathlib.Core.Path.{sym, ◌∙◌}
 use Rattle.stack_marker.proofs.StackSweep.{stack_made}
 use Rattle.stack_marker.proofs.collect_in.Goals as goal
 
-pub mark-marking-requires : goal.mark-marking-requires
-mark-marking-requires c = (sym c.well_formed-2.ensures ∙ c.if-well_formed.true, c.requires.0, c.requires.1)
-
 pub returns-then-well_formed : goal.returns-then-well_formed
 returns-then-well_formed c = stack_made _ _ c.args.stack.now _ c.mark-marking.new.stack _ _ _ _ _ (sym c.well_formed-2.ensures ∙ c.if-well_formed.true) c.requires.0 c.mark-marking.ensures c.mark-marking.auto.stack c.sweep-kept.ensures c.clear.ensures
-
-pub returns-else-well_formed : goal.returns-else-well_formed
-returns-else-well_formed c = simp (sym c.well_formed-2.ensures ∙ c.if-well_formed.false)

@@ -6,9 +6,6 @@ use Rattle.pool.proofs.Sizes.{counted_sized}
 use Rattle.worst_case.proofs.Built.{worst_case_made}
 use Rattle.worst_case.proofs.worst_case.Goals as goal
 
-pub returns-then-n-eq0 : goal.returns-then-n-eq0
-returns-then-n-eq0 c = simp (← c.cell_count_of_length-n.ensures, c.if-n-eq0.true)
-
 pub blank-requires : goal.blank-requires
 blank-requires c = (counted_sized register_count (length c.args.words.now) c.cell_count_of_length-n.ensures c.if-n-eq0.false).room
 

@@ -4,9 +4,6 @@ use Rattle.pool.proofs.Sizes.{counted_sized}
 use Rattle.pool.proofs.FreshPool.{fresh_made}
 use Rattle.pool.proofs.Pool.fresh.Goals as goal
 
-pub returns-then-n-eq0 : goal.returns-then-n-eq0
-returns-then-n-eq0 c = simp (← c.cell_count_of_length-n.ensures, c.if-n-eq0.true)
-
 pub overflow_sub-leftover : goal.overflow_sub-leftover
 overflow_sub-leftover c = omega (arith, (counted_sized _ _ c.cell_count_of_length-n.ensures c.if-n-eq0.false).room)
 

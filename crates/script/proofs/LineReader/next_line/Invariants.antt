@@ -1,3 +1,4 @@
+-- From where it stands, the reader finds what it finds from the start. The measure is what is left of the bytes.
 use Prim.Native.Nat.{◌-◌}
 use mathlib.Core.Path.{◌≡◌}
 use lib.ListN.{length, drop}

@@ -2,4 +2,4 @@
 use Rattle.tally.proofs.Tally.advanced.Goals as goal
 
 pub returns : goal.returns
-returns c = λ i. record { collections = c.count-collections.ensures i; visits = c.count-visits.ensures i }
+returns c = λ i. record { collections = c.saturating_add.ensures i; visits = c.saturating_add-2.ensures i }

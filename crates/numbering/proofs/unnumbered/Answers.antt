@@ -1,9 +1,0 @@
--- `numbering::unnumbered` meets its contract: nil is no cell, and a cell is new where it has no number.
-use borrow.Author.Tests.{eq-eqb, ne_eqb}
-use Rattle.numbering.proofs.unnumbered.Goals as goal
-
-pub returns-then-x-eq0 : goal.returns-then-x-eq0
-returns-then-x-eq0 c = simp (eq-eqb _ _ c.if-x-eq0.true)
-
-pub returns : goal.returns
-returns c = simp (ne_eqb _ _ c.if-x-eq0.false)
