@@ -3,12 +3,14 @@ use Prim.Native.Nat.{ℕ, ◌-◌}
 use mathlib.Core.Path.{◌≡◌, refl, sym, ap, ◌∙◌}
 use mathlib.Core.List.{[], ◌∷◌}
 use lib.ListN.{get_or}
+use lib.Dec.{eqb}
+use mathlib.Core.Bool.{cond}
 use Rattle.std.proofs.Common.{Result, Ok, Err}
 use Rattle.answers.specs.declared.Refusal.{Refusal}
 use Rattle.answers.specs.declared.Refusal.TheVariants as refusal
 use Rattle.answers.specs.declared.Answer.{Answer}
 use Rattle.answers.specs.declared.Answer.TheVariants as answer
-use Rattle.answers.specs.Outcome.{Outcome, answered, allocated, refused, refusal_number, answer_outcome, RefusalDetermined, AnswerDetermined}
+use Rattle.answers.specs.Outcome.{Outcome, answered, allocated, refused, refusal_number, answer_outcome, verdict, RefusalDetermined, AnswerDetermined, VerdictDetermined}
 
 -- whatever can be found again is determined
 pub found_again : {A B : Type 0} (says : A → B) (find : B → A) → ((p : A) → find (says p) ≡ p) → (p q : A) → says p ≡ says q → p ≡ q
@@ -54,3 +56,26 @@ answer-again (Err k) = ap Err (refusal_again k)
 
 pub answer_determined : AnswerDetermined
 answer_determined = found_again answer_outcome answer_found answer-again
+
+abbrev verdict_found : ℕ → Result (Unit {0}) Refusal
+verdict_found n = cond (eqb n 0) (Ok tt) (Err (refusal_of n))
+
+verdict-again : (p : Result (Unit {0}) Refusal) → verdict_found (verdict p) ≡ p
+verdict-again (Ok tt) = refl
+verdict-again (Err refusal.Size) = refl
+verdict-again (Err refusal.Register) = refl
+verdict-again (Err refusal.Malformed) = refl
+verdict-again (Err refusal.Nil) = refl
+verdict-again (Err refusal.Full) = refl
+verdict-again (Err refusal.Truncated) = refl
+verdict-again (Err refusal.OutOfRange) = refl
+verdict-again (Err refusal.LinkRange) = refl
+verdict-again (Err refusal.TooManyCells) = refl
+verdict-again (Err refusal.NoRoom) = refl
+verdict-again (Err refusal.TooLarge) = refl
+verdict-again (Err refusal.Padded) = refl
+verdict-again (Err refusal.Kind) = refl
+verdict-again (Err refusal.KindNumber) = refl
+
+pub verdict_determined : VerdictDetermined
+verdict_determined = found_again verdict verdict_found verdict-again

@@ -66,3 +66,7 @@ RefusalDetermined = (j k : Refusal) → refusal_number j ≡ refusal_number k �
 -- And of an answer.
 abbrev pub AnswerDetermined : Type 0
 AnswerDetermined = Determined (Result Answer Refusal) answer_outcome
+
+-- And of what is refused or not: its number says why, and whether.
+abbrev pub VerdictDetermined : Type 0
+VerdictDetermined = (p q : Result (Unit {0}) Refusal) → verdict p ≡ verdict q → p ≡ q

@@ -46,7 +46,7 @@ fn store_two(answer: Result<Answer, Refusal>, first: &mut u32, second: &mut u32)
     answers::status(answer)
 }
 
-// 0, or the number of the refusal.
+// 0, or the number of the refusal. (Not `answers::status`, which promises the number of what a call says.)
 fn number_of(done: Result<(), Refusal>) -> u32
     ensures { result ≡ verdict done }
 {

@@ -1,4 +1,4 @@
-// The collection: it marks by link reversal, and sweeps.
+// The collection: it marks and sweeps a pool; that of the firmware marks by link reversal.
 #![tactic(auto)]
 
 ghost use Rattle.std.specs.Prelude.{◌≡◌, ℕ, ◌≤◌, List, true, false, length, MatchResult};

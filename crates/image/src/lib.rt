@@ -1,4 +1,4 @@
-// Saved images of a pool: theory, and what their cells are. Functions are in the crates that read and write them.
+// Saved images of a pool: theory, what their cells are, and the number of each kind. What reads and writes them is in other crates.
 #![tactic(auto)]
 
 ghost use Rattle.std.specs.Prelude.{◌≡◌};

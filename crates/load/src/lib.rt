@@ -119,13 +119,12 @@ fn fill(words: &mut [u32], bytes: &[u8], n: u32)
 pub fn load_at(words: &mut [u32], bytes: &[u8]) -> Loaded
     ensures { (result, words.new) ≡ load_of words.old bytes.now }
 {
-    let n = pool::cell_count_of_length(words.len());
-    if n == 0 {
+    let Some(n) = pool::cell_count_of_length(words.len()) else {
         return Loaded {
             verdict: Err(Refusal::Size),
             end: bytes.len(),
         };
-    }
+    };
     match image_scan::scan_image(bytes, n) {
         Err(why) => Loaded {
             verdict: Err(why),

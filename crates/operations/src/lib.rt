@@ -1,5 +1,6 @@
 // The bodies of the calls but `new`, `point` and `collect`: each is a call behind its first two questions. The words hold n cells, and every register number is
-// below the register count.
+// below the register count. The answer of a register read is taken
+// apart by `let .. else`, so that its refusal is seen to come before any write.
 #![tactic(auto)]
 
 ghost use Rattle.std.specs.Prelude.{◌≡◌, ◌<◌, ◌≤◌, length, true};

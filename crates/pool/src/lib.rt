@@ -3,7 +3,7 @@
 // Functions that take a cell's number, or the number of cells, ask that the words hold so many.
 #![tactic(auto)]
 
-ghost use Rattle.std.specs.Prelude.{◌≡◌, ◌<◌, ◌≤◌, length, replicate, leb};
+ghost use Rattle.std.specs.Prelude.{◌≡◌, ◌<◌, ◌≤◌, length, replicate, leb, MatchOption, ◌≢◌};
 ghost use Rattle.pool.specs.Layout.{register_count, pool_length, cell_count_of_length, cell, set_cell, put_cell, is_point_at, link_of, register, set_register, head, set_head};
 ghost use Rattle.pool.specs.States.{is_point, is_used, is_free};
 ghost use Rattle.pool.specs.Retain.{retain, blank_words};
@@ -67,10 +67,9 @@ impl Pool {
     pub fn fresh(words: &mut [u32]) -> Result<Answer, Refusal>
         ensures { (answer_outcome result, words.new) ≡ fresh_of words.old }
     {
-        let n = cell_count_of_length(words.len());
-        if n == 0 {
+        let Some(n) = cell_count_of_length(words.len()) else {
             return Err(Refusal::Size);
-        }
+        };
         let leftover = ((words.len() - Pool::FIRST_CELL) % Pool::CELL_WORDS) as u32;
         blank(words, n);
         free_above(words, n, 0);
@@ -87,19 +86,18 @@ pub struct Cell {
     pub value: u32,
 }
 
-// The number of cells of a pool of that many words, or 0 where no pool has that length. By two returns, which a call that tests the 0 goes to directly:
-// with one expression for the number in their place each call had three to five instructions more.
-pub fn cell_count_of_length(len: usize) -> u32
-    ensures { result ≡ cell_count_of_length register_count len }
+// The number of cells of a pool of that many words; none where no pool has that length.
+pub fn cell_count_of_length(len: usize) -> Option<u32>
+    ensures { MatchOption result (cell_count_of_length register_count len ≡ 0) (λ n. (n ≡ cell_count_of_length register_count len) × (n ≢ 0)) }
 {
     if len < Pool::FIRST_CELL + Pool::CELL_WORDS {
-        return 0;
+        return None;
     }
     let cells = (len - Pool::FIRST_CELL) / Pool::CELL_WORDS;
     if (Pool::CELLS as usize) < cells {
-        return 0;
+        return None;
     }
-    cells as u32
+    Some(cells as u32)
 }
 
 #[tactic(auto, unfolding(crate::specs::Layout::cell))]

@@ -3,14 +3,14 @@
 
 use answers::{Answer, Refusal};
 use replies::Reply;
-use std::fmt::Display;
 
 // Prints a label and what an answer says, as a script's reply does.
-pub fn answer(rt: &impl Print, label: impl Display + Drop, answer: Result<Answer, Refusal>) {
+pub fn answer(rt: &impl Print, label: &[u8], answer: Result<Answer, Refusal>) {
     let mut line = [0u8; Reply::ROOM];
     let end = replies::write_reply(&mut line, 0, Reply::Answered(answer));
     if let Some(text) = end.and_then(|end| line.get(..end)) {
-        let _ = print!(rt; "{label} ");
+        let _ = rt.write_all(label);
+        let _ = rt.write_all(b" ");
         let _ = rt.write_all(text);
     }
 }

@@ -14,8 +14,10 @@ use pool::Pool;
 pub fn sized(words: &[u32]) -> Result<u32, Refusal>
     ensures { result ≡ sized_of words.now }
 {
-    let n = pool::cell_count_of_length(words.len());
-    if n != 0 && words[Pool::COUNT] == n {
+    let Some(n) = pool::cell_count_of_length(words.len()) else {
+        return Err(Refusal::Size);
+    };
+    if words[Pool::COUNT] == n {
         Ok(n)
     } else {
         Err(Refusal::Size)

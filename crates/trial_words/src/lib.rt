@@ -4,7 +4,8 @@
 ghost use Rattle.std.specs.List.{range_with_len};
 ghost use Rattle.std.specs.Prelude.{◌≡◌, ◌+◌, ◌*◌, ◌<◌, not, ◌==◌, length, take, drop, slice_index, slice_set, count_by};
 
-// The words of a pool: their number of cells, the head of the free cells, the registers, and the cells.
+// Where the words of a pool stand: the head of the free cells, the registers, and the cells. (Written out, and not those of `pool`: what the trials compare with is
+// made by itself.)
 pub const HEAD: usize = 1;
 
 pub const FIRST_REGISTER: usize = 2;

@@ -225,5 +225,5 @@ fn main(rt: HostRuntime) {
             }
         }
     }
-    let _ = totals.print(&rt);
+    totals.print(&rt);
 }

@@ -1,6 +1,6 @@
 // The totals of the trials, and how they are printed.
 use crate::{Marker, Outcome, Trial};
-use std::{fmt, io};
+use std::fmt;
 
 // Of a marker: on how many pools it agreed, on how many it differed, its visits, for how many pools its stack was enough, and the checks of its stack.
 #[derive(Clone, Copy, Default)]
@@ -79,35 +79,35 @@ impl Totals {
         }
     }
 
-    pub fn print(&self, rt: &impl Print) -> io::Result<()> {
-        println!(rt; "well-formed pools: {}", self.well_formed)?;
-        println!(rt; "cells: {}", self.cells)?;
-        println!(rt; "kept cells: {}", self.kept)?;
-        println!(rt; "malformed pools: {}", self.malformed)?;
-        println!(rt;
+    pub fn print(&self, rt: &impl Print) {
+        let _ = println!(rt; "well-formed pools: {}", self.well_formed);
+        let _ = println!(rt; "cells: {}", self.cells);
+        let _ = println!(rt; "kept cells: {}", self.kept);
+        let _ = println!(rt; "malformed pools: {}", self.malformed);
+        let _ = println!(rt;
             "reversal: {}, visits {}",
             self.reversal, self.reversal.visits
-        )?;
-        println!(rt;
+        );
+        let _ = println!(rt;
             "recursive marker: {}, visits {}",
             self.recursive, self.recursive.visits
-        )?;
-        println!(rt;
+        );
+        let _ = println!(rt;
             "stack of no words: {}, enough {}",
             self.no_words, self.no_words.enough
-        )?;
-        println!(rt;
+        );
+        let _ = println!(rt;
             "stack of one word: {}, enough {}",
             self.one_word, self.one_word.enough
-        )?;
-        println!(rt;
+        );
+        let _ = println!(rt;
             "stack of N words: {}, enough {}",
             self.n_words, self.n_words.enough
-        )?;
-        println!(rt; "checks with no words: {}", self.no_words.checks)?;
-        println!(rt; "checks with one word: {}", self.one_word.checks)?;
-        println!(rt; "checks with N words: {}", self.n_words.checks)?;
-        println!(rt; "words behind the cells: {}", self.leftover)?;
-        println!(rt; "kept points: {}", self.points)
+        );
+        let _ = println!(rt; "checks with no words: {}", self.no_words.checks);
+        let _ = println!(rt; "checks with one word: {}", self.one_word.checks);
+        let _ = println!(rt; "checks with N words: {}", self.n_words.checks);
+        let _ = println!(rt; "words behind the cells: {}", self.leftover);
+        let _ = println!(rt; "kept points: {}", self.points);
     }
 }

@@ -6,7 +6,6 @@
 use answers::{Answer, Refusal};
 use load::Behind;
 use pool::Pool;
-use std::io;
 
 // Saves a pool of one point, at x = 8, y = 9, with value 7, and then a pool with a pair too, both of whose links are to the point, with value 300; both in a
 // pool of two.
@@ -24,38 +23,38 @@ fn save_two(bytes: &mut [u8]) -> Result<(), Refusal> {
 }
 
 // Prints 0 or the number of the refusal, and how many bytes are behind the image.
-fn show(rt: &impl Print, loaded: Behind) -> io::Result<()> {
+fn show(rt: &impl Print, loaded: Behind) {
     let verdict = match loaded.verdict {
         Ok(()) => 0,
         Err(why) => why.number(),
     };
     let rest = loaded.rest.len();
-    println!(rt; "load, its verdict and the bytes behind the image: {verdict} {rest}")
+    let _ = println!(rt; "load, its verdict and the bytes behind the image: {verdict} {rest}");
 }
 
-fn show_value(rt: &impl Print, words: &[u32], a: u32) -> io::Result<()> {
-    match calls::value(words, a) {
+fn show_value(rt: &impl Print, words: &[u32], a: u32) {
+    let _ = match calls::value(words, a) {
         Ok(Answer::Number(x)) => println!(rt; "the value there: {x}"),
         _ => println!(rt; "the value there:"),
-    }
+    };
 }
 
 // Loads the first image, the second from the part behind the first, and what is behind that, which is no image.
-fn load_each(rt: &impl Print, words: &mut [u32], bytes: &[u8]) -> io::Result<()> {
+fn load_each(rt: &impl Print, words: &mut [u32], bytes: &[u8]) {
     let first = load::load(words, bytes);
-    show(rt, first)?;
-    show_value(rt, words, 0)?;
+    show(rt, first);
+    show_value(rt, words, 0);
     let second = load::load(words, first.rest);
-    show(rt, second)?;
-    show_value(rt, words, 1)?;
+    show(rt, second);
+    show_value(rt, words, 1);
     let none = load::load(words, second.rest);
-    show(rt, none)?;
-    show_value(rt, words, 1)
+    show(rt, none);
+    show_value(rt, words, 1);
 }
 
-pub fn load_in_turn(rt: &impl Print) -> io::Result<()> {
+pub fn load_in_turn(rt: &impl Print) {
     let mut bytes = [0u8; 50];
     let mut words = [0u32; 26];
     let _ = save_two(&mut bytes);
-    load_each(rt, &mut words, &bytes)
+    load_each(rt, &mut words, &bytes);
 }

@@ -8,16 +8,10 @@ mod lists;
 mod numbers;
 mod tallies;
 
-use std::io;
-
-// Runs every example. A write that fails ends it.
-fn run(rt: &impl Print) -> io::Result<()> {
-    images::load_in_turn(rt)?;
-    tallies::collect_in_turn(rt)?;
-    lists::run_example(rt)?;
-    numbers::read_in_turn(rt)
-}
-
+// A write that fails is passed over.
 fn main(rt: HostRuntime) {
-    let _ = run(&rt);
+    images::load_in_turn(&rt);
+    tallies::collect_in_turn(&rt);
+    lists::run_example(&rt);
+    numbers::read_in_turn(&rt);
 }

@@ -4,7 +4,6 @@ ghost use Rattle.usage.specs.Numbers.{two_numbers};
 
 use leb128::{Number, NumberError};
 use reader::Reader;
-use std::io;
 
 // Two numbers that a reader read, and the place where it stands behind them.
 #[derive(Clone, Copy)]
@@ -28,32 +27,32 @@ fn read_two(bytes: &[u8], at: usize) -> Two
     }
 }
 
-fn show(rt: &impl Print, number: Result<Number, NumberError>) -> io::Result<()> {
-    match number {
+fn show(rt: &impl Print, number: Result<Number, NumberError>) {
+    let _ = match number {
         Ok(Number { value, next }) => println!(rt;
             "number, and the place behind it: {value} {next}"
         ),
         Err(NumberError::Missing) => println!(rt; "no number: the bytes end"),
         Err(NumberError::OutOfRange) => println!(rt; "no number: 2^32 or more"),
         Err(NumberError::Padded) => println!(rt; "no number: more groups than it needs"),
-    }
+    };
 }
 
-fn show_two(rt: &impl Print, two: Two) -> io::Result<()> {
-    show(rt, two.first)?;
-    show(rt, two.second)?;
-    println!(rt; "the reader stands at {}", two.at)
+fn show_two(rt: &impl Print, two: Two) {
+    show(rt, two.first);
+    show(rt, two.second);
+    let _ = println!(rt; "the reader stands at {}", two.at);
 }
 
 // The numbers of the customer's examples, 127, 128, 300 and 4294967295, then one whose last byte is missing, and 5 written as 85 00, which is refused.
-pub fn read_in_turn(rt: &impl Print) -> io::Result<()> {
+pub fn read_in_turn(rt: &impl Print) {
     let bytes = b"\x7f\x80\x01\xac\x02\xff\xff\xff\xff\x0f\xff";
     let two = read_two(bytes, 0);
-    show_two(rt, two)?;
+    show_two(rt, two);
     let four = read_two(bytes, two.at);
-    show_two(rt, four)?;
+    show_two(rt, four);
     let end = read_two(bytes, four.at);
-    show_two(rt, end)?;
+    show_two(rt, end);
     let padded = read_two(b"\x85\x00", 0);
-    show_two(rt, padded)
+    show_two(rt, padded);
 }

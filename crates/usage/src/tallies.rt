@@ -6,7 +6,6 @@ ghost use Rattle.usage.specs.Tallies.{both_tallied};
 
 use answers::Refusal;
 use pool::Pool;
-use std::io;
 use tally::Tally;
 
 // Collects two pools, and lends the same tally to both collections.
@@ -28,12 +27,12 @@ fn chain(words: &mut [u32], values: &[u32]) -> Result<(), Refusal> {
     Ok(())
 }
 
-fn show(rt: &impl Print, label: &str, tally: Tally) -> io::Result<()> {
-    println!(rt; "{label} {} {}", tally.collections, tally.visits)
+fn show(rt: &impl Print, label: &str, tally: Tally) {
+    let _ = println!(rt; "{label} {} {}", tally.collections, tally.visits);
 }
 
 // Two cells in the first pool and one in the second; what is no pool is refused.
-pub fn collect_in_turn(rt: &impl Print) -> io::Result<()> {
+pub fn collect_in_turn(rt: &impl Print) {
     let mut two = [0u32; 26];
     let mut one = [0u32; 22];
     let mut none = [0u32; 21];
@@ -48,17 +47,17 @@ pub fn collect_in_turn(rt: &impl Print) -> io::Result<()> {
         rt,
         "collections and visits of pools of 2 and 1 cells:",
         first,
-    )?;
+    );
     let second = collect_both(&mut none, &mut two, first);
     show(
         rt,
         "and then of what is no pool, and of the first pool again:",
         second,
-    )?;
+    );
     let full = Tally {
         collections: 4294967294,
         visits: 4294967290,
     };
     let last = collect_both(&mut two, &mut one, full);
-    show(rt, "where the counts stop:", last)
+    show(rt, "where the counts stop:", last);
 }

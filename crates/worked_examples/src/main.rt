@@ -10,7 +10,8 @@ fn lengths(rt: &impl Print) {
     let mut words = [9u32; 16022];
     for len in [18, 21, 22, 25, 16018, 16021, 16022] {
         if let Some(part) = words.get_mut(..len) {
-            print::answer(rt, format_args!("fresh of {len} words:"), Pool::fresh(part));
+            let _ = print!(rt; "fresh of {len} words:");
+            print::answer(rt, b"", Pool::fresh(part));
         }
     }
 }
@@ -23,20 +24,20 @@ fn old_content_is_a_root(rt: &impl Print) -> Result<(), Refusal> {
     calls::new(&mut words, 0, 0, 0, 2)?;
     print::answer(
         rt,
-        "new where r's old content holds every cell:",
+        b"new where r's old content holds every cell:",
         calls::new(&mut words, 0, 1, 1, 3),
     );
-    print::answer(rt, "the value of r's cell:", calls::value(&words, 0));
+    print::answer(rt, b"the value of r's cell:", calls::value(&words, 0));
     calls::clear(&mut words, 0)?;
     print::answer(
         rt,
-        "new with nothing reached:",
+        b"new with nothing reached:",
         calls::new(&mut words, 0, 1, 1, 3),
     );
     Ok(())
 }
 
-fn main(rt: HostRuntime) -> Result<(), Refusal> {
+fn main(rt: HostRuntime) {
     lengths(&rt);
-    old_content_is_a_root(&rt)
+    let _ = old_content_is_a_root(&rt);
 }

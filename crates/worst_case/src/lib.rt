@@ -50,10 +50,9 @@ fn put_comb(words: &mut [u32], n: u32)
 pub fn worst_case(words: &mut [u32]) -> Result<Answer, Refusal>
     ensures { (answer_outcome result, words.new) ≡ worst_case_of words.old }
 {
-    let n = pool::cell_count_of_length(words.len());
-    if n == 0 {
+    let Some(n) = pool::cell_count_of_length(words.len()) else {
         return Err(Refusal::Size);
-    }
+    };
     pool::blank(words, n);
     pool::write_register(words, 0, 1);
     put_comb(words, n);

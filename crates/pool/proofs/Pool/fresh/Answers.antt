@@ -5,15 +5,15 @@ use Rattle.pool.proofs.FreshPool.{fresh_made}
 use Rattle.pool.proofs.Pool.fresh.Goals as goal
 
 pub overflow_sub-leftover : goal.overflow_sub-leftover
-overflow_sub-leftover c = omega (arith, (counted_sized _ _ c.cell_count_of_length-n.ensures c.if-n-eq0.false).room)
+overflow_sub-leftover c = omega (arith, (counted_sized _ _ c.in-Some.ensures.0 c.in-Some.ensures.1).room)
 
 pub blank-requires : goal.blank-requires
-blank-requires c = (counted_sized _ _ c.cell_count_of_length-n.ensures c.if-n-eq0.false).room
+blank-requires c = (counted_sized _ _ c.in-Some.ensures.0 c.in-Some.ensures.1).room
 
 pub free_above-requires : goal.free_above-requires
 free_above-requires c =
-    let sized = counted_sized _ _ c.cell_count_of_length-n.ensures c.if-n-eq0.false in
+    let sized = counted_sized _ _ c.in-Some.ensures.0 c.in-Some.ensures.1 in
     (omega arith, omega (arith, sized.room, c.blank.auto.words), λ i low few. absurd (omega arith))
 
 pub returns : goal.returns
-returns c = fresh_made _ _ c.cell_count_of_length-n.ensures c.if-n-eq0.false _ _ c.blank.ensures c.free_above.ensures
+returns c = fresh_made _ _ c.in-Some.ensures.0 c.in-Some.ensures.1 _ _ c.blank.ensures c.free_above.ensures
