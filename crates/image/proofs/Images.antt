@@ -17,6 +17,7 @@ use Rattle.pool.specs.States.{is_point_kind}
 use Rattle.image.specs.declared.ImageCell.{ImageCell}
 use Rattle.pool.specs.declared.Kind.{Kind}
 use Rattle.pool.specs.declared.Kind.TheVariants as kind
+use Rattle.leb128.specs.declared.NumberError.TheVariants as number
 use Rattle.image.specs.Kinds.{kind_number, kind_numbered}
 use Rattle.image.specs.Image.{Image, cell_bytes, image_bytes, Parsed, parsed, fault, any_number, read_number, at_most, read_count, read_link, read_kind, read_word, read_cell, read_each, read_image}
 use Rattle.image.specs.OneForm.{ReadsImageBytes, OneImage}
@@ -25,7 +26,9 @@ use Rattle.image.proofs.Reading.{between_both, between_taken, then-parsed, both-
 -- A number that is not refused is there, and one with a bound is within it.
 pub number_there : (num : Found) (v next : ℕ) → any_number num ≡ parsed v next → num ≡ found v next
 number_there (Ok n) v next e = let value : n.value ≡ v = cc in let behind : n.next ≡ next = cc in rw (← value, ← behind) refl
-number_there (Err why) v next e = cc
+number_there (Err number.Missing) v next e = cc
+number_there (Err number.OutOfRange) v next e = cc
+number_there (Err number.Padded) v next e = cc
 
 pub record Bounded (most : ℕ) (read : Parsed ℕ) (v next : ℕ) : Type 0 where
   pub there : read ≡ parsed v next

@@ -2,7 +2,7 @@
 #![tactic(auto)]
 
 ghost use Rattle.std.specs.Prelude.{◌≡◌};
-ghost use Rattle.image.specs.Kinds.{kind_number};
+ghost use Rattle.image.specs.Kinds.{kind_number, kind_numbered};
 
 use pool::Kind;
 
@@ -14,6 +14,13 @@ pub fn kind_number(kind: Kind) -> u32
         Kind::Pair => 0,
         Kind::Point => 1,
     }
+}
+
+// The kind of that number in an image, 0 or 1.
+pub fn kind_numbered(number: u32) -> Kind
+    ensures { result ≡ kind_numbered number }
+{
+    if number == 1 { Kind::Point } else { Kind::Pair }
 }
 
 // A cell of an image: its kind; the numbers of a pair's links, or a point's coordinates; and its value.

@@ -2,6 +2,7 @@
 #![tactic(auto)]
 
 ghost use Rattle.std.specs.Prelude.{◌≡◌};
+ghost use Rattle.image.specs.Kinds.{kind_numbered};
 ghost use Rattle.image.specs.Image.{refusal_of, parsed, at_most, read_number, read_count, read_link, read_kind, read_word};
 ghost use Rattle.image_reader.specs.Steps.{field_parsed, kind_parsed, highest_word};
 
@@ -92,13 +93,13 @@ fn highest_word(k: u32, kind: Kind) -> u32
     }
 }
 
-// The left or right number of a cell of that kind, of an image of k cells: a link of a pair, any number of a point.
-pub fn read_word(bytes: &[u8], at: usize, k: u32, kind: Kind) -> Result<Number, Refusal>
-    ensures { field_parsed result ≡ read_word k kind bytes.now at }
+// The left or right number of a cell of the kind of that number, of an image of k cells: a link of a pair, any number of a point.
+pub fn read_word(bytes: &[u8], at: usize, k: u32, kind: u32) -> Result<Number, Refusal>
+    ensures { field_parsed result ≡ read_word k (kind_numbered kind) bytes.now at }
 {
     at_most(
         read_number(bytes, at)?,
-        highest_word(k, kind),
+        highest_word(k, image::kind_numbered(kind)),
         Refusal::LinkRange,
     )
 }

@@ -25,8 +25,9 @@ fn scan_cell(bytes: &[u8], at: usize, k: u32) -> Result<usize, Refusal>
     ensures { result ≡ place_of (read_cell k bytes.now at) }
 {
     let KindRead { kind, next } = image_reader::read_kind(bytes, at)?;
-    let left = image_reader::read_word(bytes, next, k, kind)?;
-    let right = image_reader::read_word(bytes, left.next, k, kind)?;
+    let number = image::kind_number(kind);
+    let left = image_reader::read_word(bytes, next, k, number)?;
+    let right = image_reader::read_word(bytes, left.next, k, number)?;
     let value = image_reader::read_number(bytes, right.next)?;
     Ok(value.next)
 }

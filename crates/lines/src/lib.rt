@@ -14,7 +14,8 @@ pub enum Line {
     Run(Call),
 }
 
-// What a letter with its numbers says; none where the line is of another form.
+// What a letter with its numbers says; none where the line is of another form. Inlined, so that the line need not be put together and taken apart again.
+#[inline(always)]
 #[tactic(auto, unfolding(crate::specs::Lines::command))]
 pub fn command(letter: u8, numbers: &[u32]) -> Option<Line>
     ensures { result ≡ command letter numbers.now }

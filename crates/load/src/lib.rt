@@ -8,7 +8,6 @@ ghost use Rattle.load.specs.Load.{state_of_kind, put_fields, put_each, put_image
 ghost use Rattle.load.specs.Steps.{WhereRead};
 
 use answers::Refusal;
-use image_reader::KindRead;
 use pool::{Cell, Kind, Pool};
 
 // What load answers: why it is refused, if it is, and where the bytes behind the image start; refused, the length of the bytes.
@@ -56,10 +55,10 @@ fn fill_cell(words: &mut [u32], i: u32, bytes: &[u8], at: usize) -> usize
     requires { (0 < i) × (pool_length register_count i ≤ length words.old) }
     ensures { (k : ℕ) → WhereRead (read_cell k bytes.now at) (λ c end. (words.new ≡ put_fields register_count words.old i c) × (result ≡ end)) }
 {
-    let Ok(KindRead { kind, next }) = image_reader::read_kind(bytes, at) else {
+    let Ok(kind) = image_reader::read_number(bytes, at) else {
         return at;
     };
-    let Ok(left) = image_reader::read_number(bytes, next) else {
+    let Ok(left) = image_reader::read_number(bytes, kind.next) else {
         return at;
     };
     let Ok(right) = image_reader::read_number(bytes, left.next) else {
@@ -69,7 +68,7 @@ fn fill_cell(words: &mut [u32], i: u32, bytes: &[u8], at: usize) -> usize
         return at;
     };
     let cell = Cell {
-        state: state_of_kind(kind),
+        state: state_of_kind(image::kind_numbered(kind.value)),
         left: left.value,
         right: right.value,
         value: value.value,

@@ -63,6 +63,20 @@ range-from (suc n) a p =
 pub every_range : (n : ℕ) (p : ℕ → Bool) → list_all p (range_with_len 0 n) ≡ every n p
 every_range n p = range-from n 0 p ∙ every_cong n (λ k. p (0 + k)) p λ k below. ap p (omega arith)
 
+-- from the highest number down
+pub every_down : (n : ℕ) (p : ℕ → Bool) → every n (λ k. p (n - 1 - k)) ≡ every n p
+every_down n p = go (every n λ k. p (n - 1 - k)) (every n p) refl refl
+  where
+    go : (a b : Bool) → every n (λ k. p (n - 1 - k)) ≡ a → every n p ≡ b → a ≡ b
+    go true true e f = refl
+    go false false e f = refl
+    go true false e f =
+        sym
+        (each_every p n λ k below.
+        let this : n - 1 - (n - 1 - k) ≡ k = omega arith in rw this at (every_each (λ k. p (n - 1 - k)) n e (n - 1 - k) (omega arith)))
+        ∙ f
+    go false true e f = sym e ∙ each_every (λ k. p (n - 1 - k)) n λ k below. every_each p n f (n - 1 - k) (omega arith)
+
 pub length-tabulate : (n : ℕ) (f : ℕ → ℕ) → length (tabulate n f) ≡ n
 unfolding tabulate
 length-tabulate zero f = refl

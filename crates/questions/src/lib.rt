@@ -89,18 +89,23 @@ fn plausible_cell(words: &[u32], n: u32, i: u32) -> bool
     }
 }
 
+// The last register is asked first, and so is the last cell: where only that is at fault, nothing else is asked.
 fn registers_valid(words: &[u32], n: u32) -> bool
     requires { pool_length register_count n ≤ length words.now }
     ensures { result ≡ registers_valid register_count n words.now }
 {
-    (0..Pool::REGISTERS).all(|k| valid_link(words, n, pool::read_register(words, k)))
+    (0..Pool::REGISTERS).all(|k| valid_link(
+        words,
+        n,
+        pool::read_register(words, Pool::REGISTERS - 1 - k),
+    ))
 }
 
 fn cells_valid(words: &[u32], n: u32) -> bool
     requires { pool_length register_count n ≤ length words.now }
     ensures { result ≡ cells_valid register_count n words.now }
 {
-    (0..n).all(|i| plausible_cell(words, n, i + 1))
+    (0..n).all(|i| plausible_cell(words, n, n - i))
 }
 
 // Is every state used or free, and every register and every link of a used cell valid?

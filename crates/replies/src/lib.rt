@@ -24,7 +24,10 @@ impl Reply {
 pub fn write_reply(out: &mut [u8], at: usize, reply: Reply) -> Option<usize>
     ensures { (result, out.new) ≡ reply_at out.old at (reply_text reply) }
 {
-    if out.len().saturating_sub(at) < Reply::ROOM {
+    if out.len() < at {
+        return None;
+    }
+    if out.len() - at < Reply::ROOM {
         return None;
     }
     Some(put_reply(out, at, reply))

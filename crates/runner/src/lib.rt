@@ -63,7 +63,7 @@ pub fn work(words: &mut [u32], bytes: &[u8], out: &mut [u8], progress: Progress)
 fn goes_on(len: usize, room: usize, p: Progress) -> bool
     ensures { result ≡ (ltb p.at len && leb (p.put + reply_room) room) }
 {
-    p.at < len && Reply::ROOM <= room.saturating_sub(p.put)
+    p.at < len && p.put <= room && Reply::ROOM <= room - p.put
 }
 
 // Reads on to the end of the line, and runs it, or to the end of the part.

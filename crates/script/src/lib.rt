@@ -118,8 +118,13 @@ impl Numbers {
     {
         let last = self.last?;
         let [first, second, third] = self.before;
-        let numbers = [first, second, third, last];
-        lines::command(self.letter, &numbers[3usize.saturating_sub(self.count)..])
+        // (An arm for each count, so that the compiler knows how many numbers there are.)
+        match self.count {
+            0 => lines::command(self.letter, &[last]),
+            1 => lines::command(self.letter, &[third, last]),
+            2 => lines::command(self.letter, &[second, third, last]),
+            _ => lines::command(self.letter, &[first, second, third, last]),
+        }
     }
 }
 

@@ -1,4 +1,4 @@
-// How the library is used: `load::load`, which hands back a part of the caller's bytes; `tally::collect_tally` and `reader::next_number`, to which a struct
+// How the library is used: `load::load`, which hands back a part of the caller's bytes; `tally::collect_tally` and `Reader::next_number`, to which a struct
 // is lent by `&mut`; `batch::run`, which runs a list of calls. Each module shows one of them, and says how what it prints, in the file `stdout`, follows from
 // the customer's scope.
 #![tactic(auto)]

@@ -5,15 +5,25 @@
 use answers::Refusal;
 use pool::Pool;
 
+// Fresh of so many of the words. Inlined, so that the compiler knows the length, and with it the answer, and keeps no words on the stack.
+#[inline(always)]
+fn fresh_of(rt: &impl Print, words: &mut [u32], len: usize) {
+    if let Some(part) = words.get_mut(..len) {
+        let _ = print!(rt; "fresh of {len} words:");
+        print::answer(rt, b"", Pool::fresh(part));
+    }
+}
+
 // N, and how many words are left over, come from the length alone.
 fn lengths(rt: &impl Print) {
     let mut words = [9u32; 16022];
-    for len in [18, 21, 22, 25, 16018, 16021, 16022] {
-        if let Some(part) = words.get_mut(..len) {
-            let _ = print!(rt; "fresh of {len} words:");
-            print::answer(rt, b"", Pool::fresh(part));
-        }
-    }
+    fresh_of(rt, &mut words, 18);
+    fresh_of(rt, &mut words, 21);
+    fresh_of(rt, &mut words, 22);
+    fresh_of(rt, &mut words, 25);
+    fresh_of(rt, &mut words, 16018);
+    fresh_of(rt, &mut words, 16021);
+    fresh_of(rt, &mut words, 16022);
 }
 
 // "Clearing r before "new" collects: r may be a or b, and its old cell is live to the ledger."

@@ -9,7 +9,7 @@ pub returns-then-first-eq0 : goal.returns-then-first-eq0
 returns-then-first-eq0 c = sym (pair_byte c.args.bytes.now c.args.at c.if-at-bytes.true c.if-first-eq0.true)
 
 pub returns-then-first-eq1 : goal.returns-then-first-eq1
-returns-then-first-eq1 c = sym (point_byte c.args.bytes.now c.args.at c.if-at-bytes.true c.if-first-eq1.true)
+returns-then-first-eq1 c = sym (point_byte c.args.bytes.now c.args.at c.if-at-bytes.true (omega (arith, c.if-first-eq1.true)))
 
 pub returns : goal.returns
 returns c =
